@@ -1,0 +1,6 @@
+pub mod Bytes
+pub mod Causes
+pub mod Ledgers
+pub mod MemoryStreams
+pub mod Plans
+pub mod formers

@@ -1,0 +1,39 @@
+// Which calls of an object in memory fail.
+
+ghost use Rattle.std.specs.Prelude.{◌≡◌, ◌↔◌, IsTrue, IfOk};
+ghost use Rattle.fed_ports.specs.Plans.{Plan, plan_of, after_call, IsDue};
+
+use crate::faults::Memory;
+use std::alloc::Global;
+
+/// The numbers of the calls that are to fail, and the number of calls for which there is room.
+#[derive(Drop)]
+pub struct CallPlan {
+    failing: Vec<u64>,
+    room: u64,
+    made: u64,
+}
+
+impl CallPlan {
+    /// A plan before its first call, whose number is 0.
+    pub fn new(alloc: Global, failing: &[u64], room: u64) -> Result<CallPlan, Memory>
+        ensures { IfOk result (λ plan. plan_of plan ≡ record { failing = failing.now; room = room; made = 0 }) }
+    {
+        let failing = Vec::from_slice(alloc, failing)?;
+        Ok(CallPlan {
+            failing,
+            room,
+            made: 0,
+        })
+    }
+
+    /// Counts a call, and says whether it is to fail: its number is listed, or there is no room for it.
+    pub fn next_fails(&mut self) -> bool
+        ensures due { IsTrue result ↔ IsDue (plan_of self.old) }
+        ensures counted { plan_of self.new ≡ after_call (plan_of self.old) }
+    {
+        let call = self.made;
+        self.made = call.saturating_add(1);
+        self.room <= call || self.failing.contains(&call)
+    }
+}
