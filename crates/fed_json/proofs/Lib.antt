@@ -1,0 +1,11 @@
+pub mod Booleans
+pub mod Layers
+pub mod Texts
+pub mod Names
+pub mod Readings
+pub mod Compacts
+pub mod Written
+pub mod Sames
+pub mod Onces
+pub mod Accessors
+pub mod Maps

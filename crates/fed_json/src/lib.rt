@@ -1,0 +1,29 @@
+//! JSON values (RFC 8259) as the texts of OpenID Federation 1.0 carry them: read, written in compact form,
+//! compared, and lists of them taken as sets.
+//!
+//! The crates above read headers, claims, key sets, metadata and policies as trees, look members up by name,
+//! and build the texts that they sign and answer from trees.
+#![tactic(auto)]
+
+mod copies;
+mod equal;
+mod fault;
+mod forms;
+mod lookup;
+mod members;
+mod read;
+mod sets;
+#[cfg(test)]
+mod tests;
+mod tree;
+mod write;
+
+pub use equal::json_equal;
+pub use fault::TreeFault;
+pub use forms::is_whole;
+pub use lookup::find;
+pub use members::text_member;
+pub use read::read_tree;
+pub use sets::{includes, intersect, union};
+pub use tree::{Json, Member};
+pub use write::write_tree;
