@@ -1,0 +1,4 @@
+pub mod Header
+pub mod Compact
+pub mod Splitting
+pub mod Faults

@@ -1,0 +1,68 @@
+ghost use Rattle.std.specs.Prelude.{◌≡◌, IfOk, IfSome, IsTrue};
+ghost use Rattle.std.specs.Option.{option_copied};
+ghost use Rattle.std.specs.Str.{IsUtf8};
+ghost use Rattle.fed_json.specs.Forms.{members_well_formed};
+ghost use Rattle.fed_json.specs.Trees.{find as found};
+ghost use Rattle.jws_form.specs.Splitting.{Gives, GivesBy, text_of, names_of, names_in};
+
+use crate::FormFault;
+use crate::compact::copied;
+use fed_json::{Json, Member, TreeFault, find, read_tree};
+use fed_ports::Text;
+use std::alloc::Global;
+
+/// The `alg` of every text (RFC 7515 section 4.1.1).
+const ALGORITHM: &[u8] = b"SLH-DSA-SHA2-128s";
+
+/// The `typ` and `kid` of a header (RFC 7515 sections 4.1.9 and 4.1.4).
+#[tactic(auto, unfolding(crate::specs::Splitting::names_in))]
+pub(crate) fn read_header(
+    alloc: Global,
+    bytes: &[u8],
+) -> Result<(Option<Text>, Option<Text>), FormFault>
+    ensures exact { Gives result (names_in bytes.now) }
+    ensures typ { IfOk result (λ names. IfSome names.0 IsUtf8) }
+    ensures kid { IfOk result (λ names. IfSome names.1 IsUtf8) }
+{
+    match read_tree(alloc, bytes) {
+        Ok(Json::Object(members)) => read_members(alloc, members.as_slice()),
+        Ok(_) | Err(TreeFault::Syntax) => Err(FormFault::Header),
+        Err(TreeFault::Memory) => Err(FormFault::Memory),
+    }
+}
+
+/// The same of the header's members.
+#[tactic(auto, unfolding(crate::specs::Splitting::names_of))]
+fn read_members(
+    alloc: Global,
+    members: &[Member],
+) -> Result<(Option<Text>, Option<Text>), FormFault>
+    requires { IsTrue (members_well_formed members.now) }
+    ensures exact { Gives result (names_of members.now) }
+    ensures typ { IfOk result (λ names. IfSome names.0 IsUtf8) }
+    ensures kid { IfOk result (λ names. IfSome names.1 IsUtf8) }
+{
+    let typ = text_at(members, b"typ")?;
+    let kid = text_at(members, b"kid")?;
+    let alg = text_at(members, b"alg")?;
+    if find(members, b"crit").is_some() {
+        return Err(FormFault::Crit);
+    }
+    match alg {
+        Some(alg) if alg.as_slice() == ALGORITHM => Ok((copied(alloc, typ)?, copied(alloc, kid)?)),
+        _ => Err(FormFault::Algorithm),
+    }
+}
+
+/// The text under a name, where the name is there.
+fn text_at<'a>(members: &'a [Member], name: &[u8]) -> Result<Option<&'a Text>, FormFault>
+    requires { IsTrue (members_well_formed members.now) }
+    ensures exact { GivesBy option_copied result (text_of (found name.now members.now)) }
+    ensures utf8 { IfOk result (λ found. IfSome found (λ text. IsUtf8 text.now)) }
+{
+    match find(members, name) {
+        None => Ok(None),
+        Some(Json::Text(text)) => Ok(Some(text)),
+        Some(_) => Err(FormFault::Header),
+    }
+}
