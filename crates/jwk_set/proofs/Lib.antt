@@ -1,0 +1,5 @@
+pub mod Members
+pub mod Names
+pub mod Sets
+pub mod WrittenKeys
+pub mod WrittenSets

@@ -1,0 +1,6 @@
+use Rattle.jwk_set.proofs.Members.{own_formed}
+use Rattle.jwk_set.proofs.jwk.read_own.Goals as goal
+
+pub returns-clause-formed : goal.returns-clause-formed
+returns-clause-formed c =
+    own_formed c.args.members.now c.in-Some-Some.kid.now c.in_ok-kid.kid c.is_empty.result c.requires c.in-Some-Some.ensures c.if-is_empty.false c.is_empty.ensures.1 c.in_ok-kid.ensures

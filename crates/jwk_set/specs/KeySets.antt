@@ -1,0 +1,88 @@
+-- A set of keys (RFC 7517 section 5), and the keys that a tree gives.
+use Rattle.std.specs.Prelude.{◌≡◌, ℕ, List, [], ◌∷◌, ◌++◌, length, map, codes, bytes_eq, Bool, true, false, ◌&&◌, not, nat_le, IsTrue, Option, Some, None, Result, Ok, Err, if◌then◌else◌}
+use Rattle.std.specs.Option.{option_and_then}
+use Rattle.std.specs.List.{list_any}
+use Rattle.fed_json.specs.declared.tree.Json.{Json}
+use Rattle.fed_json.specs.Trees.{as_object, as_list, find}
+use Rattle.jwk_set.specs.declared.jwk.Jwk.{Jwk}
+use Rattle.jwk_set.specs.declared.jwk.Jwk.TheVariants.{Own, Foreign}
+use Rattle.jwk_set.specs.declared.fault.SetFault.{SetFault}
+use Rattle.jwk_set.specs.declared.fault.SetFault.TheVariants.{NotSet, Shape, DoubleKid, Memory}
+use Rattle.jwk_set.specs.Keys.{text_at, key_in}
+
+-- the name of a key, where it is a text (RFC 7517 section 4.5)
+abbrev pub kid_of : Jwk → Option (List ℕ)
+kid_of (Own kid public) = Some kid
+kid_of (Foreign tree) = option_and_then (text_at (codes "kid")) (as_object tree)
+
+-- both are there, and they are one text
+abbrev pub is_one_text : Option (List ℕ) → Option (List ℕ) → Bool
+is_one_text (Some a) (Some b) = bytes_eq a b
+is_one_text (Some a) None = false
+is_one_text None b = false
+
+-- one of the keys has the kid of this one
+unfoldable pub repeats_kid : List Jwk → Jwk → Bool
+repeats_kid keys key = list_any (λ k. is_one_text (kid_of k) (kid_of key)) keys
+
+-- no key has the kid of an earlier one, after the earlier keys
+abbrev pub distinct_after : List Jwk → List Jwk → Bool
+distinct_after earlier [] = true
+distinct_after earlier (key ∷ keys) = not (repeats_kid earlier key) && distinct_after (earlier ++ key ∷ []) keys
+
+-- no two keys have one kid
+unfoldable pub are_distinct : List Jwk → Bool
+are_distinct keys = distinct_after [] keys
+
+-- the public key of the own key of that kid
+unfoldable pub key_named : List ℕ → List Jwk → Option (List ℕ)
+key_named kid [] = None
+key_named kid (Own k public ∷ keys) = if bytes_eq k kid then Some public else key_named kid keys
+key_named kid (Foreign tree ∷ keys) = key_named kid keys
+
+-- how many keys a set has at most
+abbrev pub max_keys : ℕ
+max_keys = 64
+
+abbrev pub unless_many : List Json → Option (List Json)
+unless_many list = if nat_le (length list) max_keys then Some list else None
+
+-- the list `keys` of an object
+unfoldable pub listed_in : Json → Option (List Json)
+listed_in tree =
+    option_and_then unless_many (option_and_then as_list (option_and_then (find (codes "keys")) (as_object tree)))
+
+-- the tree is a set of these keys: each member has the form of its key, and no two have one kid
+pub record IsKeySet (tree : Json) (keys : List Jwk) : Type 0 where
+  pub members : List Json
+  pub listed : listed_in tree ≡ Some members
+  pub each : map key_in members ≡ map Some keys
+  pub distinct : IsTrue (are_distinct keys)
+
+-- the answer is the one that is expected, unless memory was wanting
+abbrev pub GivesBy : {X Y : Type 0} → (X → Y) → Result X SetFault → Result Y SetFault → Type 0
+GivesBy view (Ok x) expected = expected ≡ Ok (view x)
+GivesBy view (Err Memory) expected = Unit {0}
+GivesBy view (Err fault) expected = expected ≡ Err fault
+
+infixl 10 ◌>>=◌
+abbrev pub ◌>>=◌ : {X Y : Type 0} → Result X SetFault → (X → Result Y SetFault) → Result Y SetFault
+(Ok x) >>= f = f x
+(Err fault) >>= f = Err fault
+
+-- the value, or a fault where there is none
+abbrev pub or_fault : {X : Type 0} → SetFault → Option X → Result X SetFault
+or_fault fault None = Err fault
+or_fault fault (Some x) = Ok x
+
+-- the keys that the members are, after the earlier keys, or the fault of the first member that has one: its
+-- form is looked at first, then its kid
+unfoldable pub keys_after : List Jwk → List Json → Result (List Jwk) SetFault
+keys_after earlier [] = Ok earlier
+keys_after earlier (member ∷ members) = do
+  key ← or_fault (Shape (length earlier)) (key_in member)
+  if repeats_kid earlier key then Err (DoubleKid (length earlier)) else keys_after (earlier ++ key ∷ []) members
+
+-- the keys that the tree is a set of, or its first fault
+unfoldable pub reading : Json → Result (List Jwk) SetFault
+reading tree = or_fault NotSet (listed_in tree) >>= keys_after []

@@ -1,0 +1,4 @@
+pub mod Keys
+pub mod KeySets
+pub mod Trees
+pub mod Thumbprints

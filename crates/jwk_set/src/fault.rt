@@ -1,0 +1,26 @@
+/// Why a tree is no key set. A tree with several faults is refused for the first in this order: `NotSet`, then member
+/// by member, `Shape` before `DoubleKid`. Members are counted from 0.
+#[derive(Clone, Copy, Debug, PartialEq, Eq, Drop)]
+pub enum SetFault {
+    /// The tree isn't an object whose `keys` is a list of at most 64 members.
+    NotSet,
+    /// The member at this place isn't an object, has no text `kty`, or holds a number that isn't kept; or it is of the
+    /// type AKP and the algorithm SLH-DSA-SHA2-128s, and has no text `kid` or an empty one, no `pub` of 32 bytes in
+    /// base64url, or a member `priv`.
+    Shape(u64),
+    /// The member at this place has the text `kid` of an earlier one.
+    DoubleKid(u64),
+    /// Memory was wanting.
+    Memory,
+}
+
+impl From<fed_ports::Memory> for SetFault {
+    ghost use Rattle.std.specs.Prelude.{◌≡◌};
+    ghost use Rattle.jwk_set.specs.declared.fault.SetFault.TheVariants.{Memory};
+
+    ghost from_gives = { λ _ fault. fault ≡ Memory };
+
+    fn from(_: fed_ports::Memory) -> Self {
+        SetFault::Memory
+    }
+}
