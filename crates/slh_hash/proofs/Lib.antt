@@ -1,0 +1,7 @@
+pub mod Lengths
+pub mod ChainLaws
+pub mod Flattened
+pub mod Joined
+pub mod TreeLaws
+pub mod Rows
+pub mod DigitLaws

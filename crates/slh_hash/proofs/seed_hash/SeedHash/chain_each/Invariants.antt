@@ -1,0 +1,10 @@
+use Rattle.std.proofs.Common.{◌≡◌, ℕ, [], ◌<◌, ◌≤◌, slice_index, slice_index_or}
+use Rattle.slh_hash.specs.declared.address.Address.{Address}
+use Rattle.slh_hash.specs.Chains.{chain}
+use Rattle.slh_hash.proofs.seed_hash.SeedHash.chain_each.Given as goal
+
+abbrev pub invariant-values : goal.invariant-values
+invariant-values l = record {
+  chained : (i : ℕ) (d : Address) → i < l.i → slice_index_or l.values i [] ≡ chain l.self (slice_index_or l.addresses i d) (slice_index_or l.initial.values i []) (slice_index l.starts i) (slice_index l.steps i);
+  rest : (i : ℕ) → l.i ≤ i → slice_index_or l.values i [] ≡ slice_index_or l.initial.values i [];
+}
