@@ -1,0 +1,4 @@
+pub mod WotsDigits
+pub mod WotsLaws
+pub mod XmssLaws
+pub mod HypertreeLaws

@@ -1,0 +1,4 @@
+pub mod Wots
+pub mod Xmss
+pub mod Hypertree
+pub mod Lengths
