@@ -1,0 +1,2 @@
+pub mod Fors
+pub mod Lengths
