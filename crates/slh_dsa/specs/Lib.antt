@@ -1,0 +1,4 @@
+pub mod Digests
+pub mod Keys
+pub mod Signing
+pub mod Verifying
