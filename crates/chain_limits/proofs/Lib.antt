@@ -1,0 +1,4 @@
+pub mod Readings
+pub mod Utf8
+pub mod Verdicts
+pub mod Kept

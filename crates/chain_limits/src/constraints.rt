@@ -1,0 +1,69 @@
+ghost use Rattle.std.specs.Prelude.{◌≡◌, IfOk};
+
+use crate::reading::{count, naming, object, texts};
+use crate::shape::LimitShape;
+use fed_json::Json;
+use fed_ports::{Duplicate, Memory, Seq, Text};
+use std::alloc::Global;
+
+/// The constraints of a statement (OpenID Federation 1.0 section 6.2). Members of other names are left unread.
+#[derive(Drop)]
+pub struct Constraints {
+    /// How many entities may stand between the superior and the leaf, below 2^32 (section 6.2.1).
+    pub max_path: Option<u64>,
+    /// Where it is there, the names of which each host below matches one (section 6.2.2).
+    pub permitted: Option<Seq<Text>>,
+    /// The names of which no host below matches one (section 6.2.2).
+    pub excluded: Seq<Text>,
+    /// Where it is there, the types of entities that are allowed, besides `federation_entity` (section 6.2.3).
+    pub types: Option<Seq<Text>>,
+}
+
+impl Constraints {
+    ghost use Rattle.fed_json.specs.Forms.{IsWellFormed};
+    ghost use Rattle.chain_limits.specs.Reading.{Gives, reading, HoldsUtf8};
+
+    /// Reads the claim `constraints` (OpenID Federation 1.0 section 6.2). `max_path_length` is a whole number below 2^32,
+    /// `naming_constraints` an object whose `permitted` and `excluded` are lists of texts, and `allowed_entity_types` a
+    /// list of texts. Each of them may be missing; `Shape` where one is there in another form.
+    pub fn read(alloc: Global, tree: &Json) -> Result<Constraints, LimitShape>
+        ensures constraints { Gives result (reading tree.now) }
+        ensures utf8 { IsWellFormed tree.now → IfOk result HoldsUtf8 }
+    {
+        let members = object(tree)?;
+        let naming = naming(members)?;
+        let max_path = count(members, b"max_path_length")?;
+        let permitted = texts(alloc, naming, b"permitted")?;
+        let excluded = texts(alloc, naming, b"excluded")?;
+        let types = texts(alloc, members, b"allowed_entity_types")?;
+        Ok(Constraints {
+            max_path,
+            permitted,
+            excluded: excluded.unwrap_or(Seq::new(alloc)),
+            types,
+        })
+    }
+}
+
+impl Duplicate for Constraints {
+    fn copy(&self, alloc: Global) -> Result<Self, Memory> {
+        let permitted = copied(alloc, &self.permitted)?;
+        let excluded = self.excluded.copy(alloc)?;
+        let types = copied(alloc, &self.types)?;
+        Ok(Constraints {
+            max_path: self.max_path,
+            permitted,
+            excluded,
+            types,
+        })
+    }
+}
+
+fn copied(alloc: Global, texts: &Option<Seq<Text>>) -> Result<Option<Seq<Text>>, Memory>
+    ensures { IfOk result (λ copy. copy ≡ texts.now) }
+{
+    match texts {
+        Some(texts) => Ok(Some(texts.copy(alloc)?)),
+        None => Ok(None),
+    }
+}

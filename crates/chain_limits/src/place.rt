@@ -1,0 +1,18 @@
+use crate::constraints::Constraints;
+use fed_ports::{Duplicate, Memory, Text};
+use std::alloc::Global;
+
+/// What a statement of a chain says that limits are about: the host of its subject, and its constraints.
+#[derive(Drop)]
+pub struct Place {
+    pub host: Text,
+    pub limits: Constraints,
+}
+
+impl Duplicate for Place {
+    fn copy(&self, alloc: Global) -> Result<Self, Memory> {
+        let host = self.host.copy(alloc)?;
+        let limits = self.limits.copy(alloc)?;
+        Ok(Place { host, limits })
+    }
+}

@@ -1,0 +1,19 @@
+/// Why a tree tells no constraints.
+#[derive(Clone, Copy, Debug, PartialEq, Eq, Drop)]
+pub enum LimitShape {
+    /// The tree isn't an object, or one of the members that are read has another form than section 6.2 gives it.
+    Shape,
+    /// Memory was wanting.
+    Memory,
+}
+
+impl From<fed_ports::Memory> for LimitShape {
+    ghost use Rattle.chain_limits.specs.declared.shape.LimitShape.TheVariants.{Memory};
+    ghost use Rattle.std.specs.Prelude.{◌≡◌};
+
+    ghost from_gives = { λ _ e. e ≡ Memory };
+
+    fn from(_: fed_ports::Memory) -> Self {
+        LimitShape::Memory
+    }
+}
