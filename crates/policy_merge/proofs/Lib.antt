@@ -1,0 +1,16 @@
+pub mod Order
+pub mod SideBySide
+pub mod Among
+pub mod Shaped
+pub mod Firsts
+pub mod Clashes
+pub mod Trees
+pub mod Words
+pub mod ShapeLaws
+pub mod MergeLaws
+pub mod MergedTables
+pub mod Walks
+pub mod MergeWalk
+pub mod Neutral
+pub mod Lookups
+pub mod Least

@@ -1,0 +1,60 @@
+-- What a policy holds: entity types, their parameters and the operators of each (OpenID Federation 1.0 section 6.1).
+use Rattle.std.specs.Prelude.{ℕ, List, [], ◌∷◌, Option, Some, None, map, Bool, true, false, ◌&&◌, not}
+use Rattle.std.specs.Option.{option_map_or}
+use Rattle.std.specs.List.{list_all}
+use Rattle.std.specs.Str.{is_utf8}
+use Rattle.fed_json.specs.Forms.{rising, whole}
+use Rattle.fed_json.specs.declared.tree.Json.{Json, out-Json}
+use Rattle.fed_json.specs.declared.tree.Json.TheOpen.{Json-F}
+use Rattle.fed_json.specs.declared.tree.Member.{Member}
+use Rattle.policy_merge.specs.declared.named.Named.{Named}
+use Rattle.policy_merge.specs.declared.operators.Operators.{Operators}
+use Rattle.policy_merge.specs.Tables.{Name, item_of}
+
+-- the parameters of an entity type, and the entity types of a policy
+abbrev pub Parameters : Type 0
+Parameters = List (Named Operators)
+
+abbrev pub Types : Type 0
+Types = List (Named Parameters)
+
+abbrev pub named : {T : Type 0} → Name → T → Named T
+named name value = record { name = name; value = value }
+
+-- no operator
+abbrev pub no_operators : Operators
+no_operators = record { value = None; add = None; default = None; one_of = None; subset_of = None; superset_of = None; essential = None }
+
+abbrev is_null_layer : Json-F Json Member → Bool
+is_null_layer Json-F.Null = true
+is_null_layer _ = false
+
+abbrev pub is_null : Json → Bool
+is_null tree = is_null_layer (out-Json tree)
+
+-- the value is absent, or passes
+abbrev pub if_there : {X : Type 0} → (X → Bool) → Option X → Bool
+if_there test o = option_map_or test o true
+
+-- every value of the operators can be written, and the default isn't null
+abbrev pub operators_formed : Operators → Bool
+operators_formed o =
+    if_there whole o.value && if_there (list_all whole) o.add && if_there (λ tree. whole tree && not (is_null tree)) o.default && if_there (list_all whole) o.one_of
+    && if_there (list_all whole) o.subset_of && if_there (list_all whole) o.superset_of
+
+-- the names rise and are UTF-8, and each value passes
+abbrev pub table_formed : {T : Type 0} → (T → Bool) → List (Named T) → Bool
+table_formed formed table = rising (map (λ e. e.name) table) && list_all (λ e. is_utf8 e.name && formed e.value) table
+
+abbrev pub parameters_formed : Parameters → Bool
+parameters_formed = table_formed operators_formed
+
+abbrev pub types_formed : Types → Bool
+types_formed = table_formed parameters_formed
+
+-- the parameters of an entity type, and the operators of its parameter; none where the policy doesn't speak of it
+abbrev pub parameters_at : Types → Name → Parameters
+parameters_at types entity_type = option_map_or (λ t. t.value) (item_of (λ t. t.name) entity_type types) []
+
+abbrev pub operators_at : Types → Name → Name → Operators
+operators_at types entity_type parameter = option_map_or (λ p. p.value) (item_of (λ p. p.name) parameter (parameters_at types entity_type)) no_operators

@@ -1,0 +1,71 @@
+-- The shape of a policy as a tree (OpenID Federation 1.0 section 6.1.2).
+use Rattle.std.specs.Prelude.{◌≡◌, ℕ, List, [], ◌∷◌, Option, Some, None, option_map, Bool, true, false, codes, Result, Ok, Err, if◌then◌else◌}
+use Rattle.std.specs.Option.{option_and_then}
+use Rattle.fed_json.specs.Trees.{as_list, as_object, find}
+use Rattle.fed_json.specs.Forms.{has_odd}
+use Rattle.fed_json.specs.declared.tree.Json.{Json, out-Json}
+use Rattle.fed_json.specs.declared.tree.Json.TheOpen.{Json-F}
+use Rattle.fed_json.specs.declared.tree.Member.{Member}
+use Rattle.policy_merge.specs.declared.fault.PolicyShape.{PolicyShape}
+use Rattle.policy_merge.specs.declared.fault.PolicyShape.TheVariants.{Shape, Memory}
+use Rattle.policy_merge.specs.declared.operator.Operator.{Operator}
+use Rattle.policy_merge.specs.declared.operator.Operator.TheVariants.{Value, Add, Default, OneOf, SubsetOf, SupersetOf, Essential}
+use Rattle.policy_merge.specs.declared.operators.Operators.{Operators}
+use Rattle.policy_merge.specs.declared.named.Named.{Named}
+use Rattle.policy_merge.specs.Names.{operator_name}
+use Rattle.policy_merge.specs.Policies.{Parameters, Types, named, is_null}
+
+abbrev truth_in : Json-F Json Member → Option Bool
+truth_in (Json-F.Bool b) = Some b
+truth_in _ = None
+
+-- true or false
+abbrev pub as_truth : Json → Option Bool
+as_truth tree = truth_in (out-Json tree)
+
+-- any tree but null
+abbrev pub as_default : Json → Option Json
+as_default tree = if is_null tree then None else Some tree
+
+-- what stands under the operator's name: nothing, or something of the operator's shape
+abbrev pub shaped : {X : Type 0} → (Json → Option X) → Option Json → Option (Option X)
+shaped shape None = Some None
+shaped shape (Some tree) = option_map Some (shape tree)
+
+abbrev pub at : {X : Type 0} → (Json → Option X) → Operator → List Member → Option (Option X)
+at shape operator members = shaped shape (find (operator_name operator) members)
+
+-- the operators of a parameter; other members of the object are left unread
+abbrev pub operators_of : List Member → Option Operators
+operators_of ms =
+    option_and_then (λ value. option_and_then (λ add. option_and_then (λ default. option_and_then (λ one_of.
+    option_and_then (λ subset_of. option_and_then (λ superset_of. option_map (λ essential. record {
+      value = value;
+      add = add;
+      default = default;
+      one_of = one_of;
+      subset_of = subset_of;
+      superset_of = superset_of;
+      essential = essential;
+    }) (at as_truth Essential ms)) (at as_list SupersetOf ms)) (at as_list SubsetOf ms)) (at as_list OneOf ms)) (at as_default Default ms)) (at as_list Add ms)) (at Some Value ms)
+
+unfoldable pub operators_shape : Json → Option Operators
+operators_shape tree = option_and_then operators_of (as_object tree)
+
+-- an object as a table, where each of its values has the shape
+abbrev pub table_of : {T : Type 0} → (Json → Option T) → List Member → Option (List (Named T))
+table_of shape [] = Some []
+table_of shape (m ∷ ms) = option_and_then (λ value. option_map (λ rest. named m.name value ∷ rest) (table_of shape ms)) (shape m.value)
+
+unfoldable pub table_shape : {T : Type 0} → (Json → Option T) → Json → Option (List (Named T))
+table_shape shape tree = option_and_then (table_of shape) (as_object tree)
+
+-- a policy: an object from entity type to an object from parameter to an object of operators, with no Odd anywhere
+unfoldable pub policy_shape : Json → Option Types
+policy_shape tree = if has_odd tree then None else table_shape (table_shape operators_shape) tree
+
+-- the answer is what the tree reads as, and Shape where it has no reading; of want of memory nothing is said
+abbrev pub Reads : {T : Type 0} → Result T PolicyShape → Option T → Type 0
+Reads (Ok value) expected = expected ≡ Some value
+Reads (Err Shape) expected = expected ≡ None
+Reads (Err Memory) expected = Unit {0}

@@ -1,0 +1,45 @@
+ghost use Rattle.std.specs.Prelude.{◌≡◌, List, ℕ};
+
+use fed_json::Member;
+use fed_ports::{Duplicate, Memory, Text};
+use std::alloc::Global;
+
+/// An item of a list that is in rising byte order of its items' names.
+pub trait HasName {
+    ghost name_of: { Self → List ℕ };
+
+    /// The name's bytes.
+    fn name(&self) -> &Text
+        ensures { result.now ≡ name_of self.now };
+}
+
+/// A value and its name, as an entity type with its parameters or a parameter with its operators.
+#[derive(Drop)]
+pub struct Named<T> {
+    pub name: Text,
+    pub value: T,
+}
+
+impl<T> HasName for Named<T> {
+    ghost name_of = { λ named. named.name };
+
+    fn name(&self) -> &Text {
+        &self.name
+    }
+}
+
+impl HasName for Member {
+    ghost name_of = { λ member. member.name };
+
+    fn name(&self) -> &Text {
+        &self.name
+    }
+}
+
+impl<T: Duplicate + Drop> Duplicate for Named<T> {
+    fn copy(&self, alloc: Global) -> Result<Self, Memory> {
+        let name = self.name.copy(alloc)?;
+        let value = self.value.copy(alloc)?;
+        Ok(Named { name, value })
+    }
+}
