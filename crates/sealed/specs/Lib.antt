@@ -1,0 +1,3 @@
+pub mod Seals
+pub mod Answers
+pub mod Sealing

@@ -1,0 +1,33 @@
+-- The text that a key pair seals claims as (RFC 7515 section 5.1).
+use Rattle.std.specs.Prelude.{ℕ, List, [], ◌∷◌, codes, IsSome}
+use Rattle.fed_json.specs.declared.tree.Json.{Json, Object}
+use Rattle.fed_json.specs.Compact.{compact}
+use Rattle.jws_form.specs.Compact.{signing_input_of, joined}
+use Rattle.jws_form.specs.Header.{algorithm}
+use Rattle.fed_json.specs.Members.{text_member}
+use Rattle.fed_json.specs.Trees.{as_object}
+use Rattle.jwk_set.specs.Thumbprints.{thumbprint_of}
+use Rattle.slh_hash.specs.declared.params.TheConstants.{P128S}
+use Rattle.slh_dsa.specs.Keys.{public_key}
+use Rattle.slh_dsa.specs.Signing.{signature_of}
+
+-- the claims are an object
+abbrev pub IsObject : Json → Type 0
+IsObject claims = IsSome (as_object claims)
+
+-- the name of a signer: its thumbprint
+unfoldable pub signer_name : List ℕ → List ℕ
+signer_name keys = thumbprint_of (public_key P128S keys)
+
+-- the header, with its members in byte order (RFC 7515 section 4.1)
+abbrev pub header_of : List ℕ → List ℕ → Json
+header_of kid typ = Object
+    (text_member (codes "alg") algorithm ∷ text_member (codes "kid") kid ∷ text_member (codes "typ") typ ∷ [])
+
+-- what is signed: the header and the claims, as compact JSON
+unfoldable pub signed_of : List ℕ → List ℕ → Json → List ℕ
+signed_of keys typ claims = signing_input_of (compact (header_of (signer_name keys) typ)) (compact claims)
+
+-- the header, the claims and their signature
+unfoldable pub sealed_text : List ℕ → List ℕ → Json → List ℕ
+sealed_text keys typ claims = joined (signed_of keys typ claims) (signature_of P128S keys (signed_of keys typ claims))

@@ -1,0 +1,55 @@
+ghost use Rattle.std.specs.Prelude.{◌≡◌, ◌≤◌, List, Some, IfOk, length};
+ghost use Rattle.std.specs.Str.{IsUtf8};
+ghost use Rattle.fed_json.specs.Forms.{IsWhole, nesting};
+ghost use Rattle.jws_form.specs.Compact.{max_bytes};
+ghost use Rattle.jws_form.specs.Header.{IsHeader};
+ghost use Rattle.jwk_set.specs.declared.jwk.Jwk.{Jwk};
+ghost use Rattle.jwk_set.specs.KeySets.{key_named};
+ghost use Rattle.slh_hash.specs.declared.params.TheConstants.{P128S};
+ghost use Rattle.slh_dsa.specs.Keys.{public_key};
+ghost use Rattle.sealed.specs.Seals.{IsSealedBy};
+ghost use Rattle.sealed.specs.Sealing.{IsObject, header_of, sealed_text, signer_name};
+
+use fed_json::{Json, text_member, write_tree};
+use fed_ports::{Memory, Seq, Text};
+use jwk_set::{ALGORITHM, thumbprint};
+use jws_form::{join, signing_input};
+use slh_dsa::{KeyPair, sign};
+use std::alloc::Global;
+
+/// Signs claims as a text of that type (RFC 7515 section 5.1). The header has `alg`, the signer's thumbprint as `kid`,
+/// and `typ`; header and claims are compact JSON. A text of at most 262,144 bytes is sealed by each set in which the
+/// signer's key has its thumbprint.
+pub fn seal(alloc: Global, keys: &KeyPair, typ: &Text, claims: &Json) -> Result<Text, Memory>
+    requires typ { IsUtf8 typ.now }
+    requires whole { IsWhole claims.now }
+    requires object { IsObject claims.now }
+    ensures text { IfOk result (λ text. text ≡ sealed_text keys.now typ.now claims.now) }
+    ensures sealed { IfOk result (λ text. length text ≤ max_bytes
+        → (set : List Jwk) → key_named (signer_name keys.now) set ≡ Some (public_key P128S keys.now)
+        → IsSealedBy text set) }
+{
+    let kid = thumbprint(alloc, &keys.public())?;
+    let header = header(alloc, &kid, typ)?;
+    let payload = write_tree(alloc, claims)?;
+    let signed = signing_input(alloc, &header, payload.as_slice())?;
+    let mut signature = [0; 7_856];
+    sign(keys, signed.as_slice(), &mut signature);
+    join(alloc, &signed, &signature)
+}
+
+/// The header of a text that the key of that name signs: `alg`, `kid` and `typ`.
+fn header(alloc: Global, kid: &Text, typ: &Text) -> Result<Json, Memory>
+    requires kid { IsUtf8 kid.now }
+    requires typ { IsUtf8 typ.now }
+    ensures tree { IfOk result (λ tree. tree ≡ header_of kid.now typ.now) }
+    ensures whole { IfOk result IsWhole }
+    ensures names { IfOk result (λ tree. IsHeader tree (Some typ.now) (Some kid.now)) }
+    ensures shallow { IfOk result (λ tree. nesting tree ≤ 127) }
+{
+    let mut members = Seq::new(alloc);
+    members.push(text_member(alloc, b"alg", ALGORITHM)?)?;
+    members.push(text_member(alloc, b"kid", kid.as_slice())?)?;
+    members.push(text_member(alloc, b"typ", typ.as_slice())?)?;
+    Ok(Json::Object(members))
+}

@@ -1,0 +1,62 @@
+ghost use Rattle.std.specs.Prelude.{◌≡◌, IfOk, MatchResult, if◌then◌else◌};
+ghost use Rattle.fed_ports.specs.Causes.{next_count};
+ghost use Rattle.jws_form.specs.Compact.{IsCompact};
+ghost use Rattle.sealed.specs.Answers.{Decides, IsTested, IsChecked, was_checked};
+ghost use Rattle.sealed.specs.Seals.{IsSealedBy};
+
+use crate::fault::SealFault;
+use crate::pairs::{Sealed, Unsealed};
+use crate::tested::Tested;
+use fed_ports::{Duplicate, Ledger, Memory, Steps};
+use jwk_set::JwkSet;
+use jws_form::Compact;
+use slh_dsa::verify;
+use std::alloc::Global;
+
+/// Whether the text verifies under the key. It counts one step, and none where it answers `Memory`.
+pub fn test_key<L: Ledger>(
+    alloc: Global,
+    compact: &Compact,
+    public: &[u8; 32],
+    steps: &mut Steps<L>,
+) -> Result<Tested, Memory>
+    requires { IsCompact compact.now.whole compact.now }
+    ensures tested { IfOk result (IsTested compact.now public.now) }
+    ensures counted { MatchResult result
+        (λ _. L.count steps.new.ledger ≡ next_count (L.count steps.old.ledger))
+        (λ _. L.count steps.new.ledger ≡ L.count steps.old.ledger) }
+{
+    let text = compact.whole.copy(alloc)?;
+    let (signed, signature) = (compact.signed.as_slice(), compact.signature.as_slice());
+    if verify(public, signed, signature, steps) {
+        Ok(Tested::Yes(Sealed::of(text, *public)))
+    } else {
+        Ok(Tested::No(Unsealed::of(text, *public)))
+    }
+}
+
+/// The text with the own key of the set that its header names, where it verifies under that key. It counts one step
+/// where a key was found, and none where it answers `Memory`.
+pub fn check_sealed<L: Ledger>(
+    alloc: Global,
+    compact: &Compact,
+    set: &JwkSet,
+    steps: &mut Steps<L>,
+) -> Result<Sealed, SealFault>
+    requires { IsCompact compact.now.whole compact.now }
+    ensures checked { IsChecked compact.now set.now.keys result }
+    ensures decides { Decides result (IsSealedBy compact.now.whole set.now.keys) }
+    ensures counted { L.count steps.new.ledger
+        ≡ (if was_checked result then next_count (L.count steps.old.ledger) else L.count steps.old.ledger) }
+{
+    let Some(kid) = &compact.kid else {
+        return Err(SealFault::NoKid);
+    };
+    let Some(public) = set.key_of(kid) else {
+        return Err(SealFault::NoKey);
+    };
+    match test_key(alloc, compact, &public, steps)? {
+        Tested::Yes(seal) => Ok(seal),
+        Tested::No(_) => Err(SealFault::BadSignature),
+    }
+}
