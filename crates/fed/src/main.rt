@@ -1,0 +1,48 @@
+//! `fed`: an authority and trust chain resolver of OpenID Federation 1.0.
+//!
+//! [`top::run`] does all that the program does, over any source and sink, and carries what is proved of it. `main` makes the real
+//! outside, calls it and ends with its status.
+#![tactic(auto)]
+
+mod answer;
+mod command;
+mod configuration;
+mod finding;
+mod help;
+mod input;
+mod output;
+#[cfg(test)]
+mod tests;
+mod top;
+
+use fed_ports::{Memory, RealSink, RealSource, Seq, Text};
+use std::alloc::Global;
+use std::env;
+use std::env::Env;
+use std::io::ErrorKind;
+use std::process::ExitCode;
+
+// The words after the program's name. Where one isn't UTF-8 a word stands for them that no command has.
+fn words<R: Env + AllocGlobal>(rt: &R) -> Result<Seq<Text>, Memory> {
+    let alloc = rt.alloc();
+    let mut words = Seq::new(alloc);
+    match env::args(rt) {
+        Ok(given) => {
+            for word in given.skip(1) {
+                words.push(Text::from_vec(word.into_bytes()))?;
+            }
+        }
+        Err(error) if error.kind() == ErrorKind::OutOfMemory => return Err(Memory),
+        Err(_) => words.push(Text::of(alloc, b"\xff")?)?,
+    }
+    Ok(words)
+}
+
+fn main(rt: HostRuntime) -> ExitCode {
+    let Ok(words) = words(&rt) else {
+        return ExitCode::from(5);
+    };
+    let mut input = RealSource::new(rt.stdin());
+    let mut out = RealSink::new(rt.stdout());
+    ExitCode::from(top::run(&rt, rt.alloc(), &words, &mut input, &mut out))
+}
