@@ -1,6 +1,10 @@
 pub mod Bytes
 pub mod Causes
 pub mod Ledgers
+pub mod MemoryClocks
+pub mod MemoryStores
 pub mod MemoryStreams
 pub mod Plans
+pub mod Stores
+pub mod Times
 pub mod formers

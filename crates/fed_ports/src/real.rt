@@ -16,7 +16,9 @@ pub struct RealSource<R: Read + Drop> {
 
 impl<R: Read + Drop> RealSource<R> {
     /// A source that has not failed yet.
-    pub fn new(reader: R) -> RealSource<R> {
+    pub fn new(reader: R) -> RealSource<R>
+        ensures { ⟦<RealSource<R> as Source>⟧.read_faults result ≡ 0 }
+    {
         RealSource { reader, faults: 0 }
     }
 }
@@ -48,7 +50,9 @@ pub struct RealSink<W: Write + Drop> {
 
 impl<W: Write + Drop> RealSink<W> {
     /// A sink that has not failed yet.
-    pub fn new(writer: W) -> RealSink<W> {
+    pub fn new(writer: W) -> RealSink<W>
+        ensures { ⟦<RealSink<W> as Sink>⟧.write_faults result ≡ 0 }
+    {
         RealSink { writer, faults: 0 }
     }
 }

@@ -1,8 +1,9 @@
 // What the contracts do not reach: that ample memory is not refused, and the adapters over real readers and writers.
 
 use crate::{
-    Duplicate, Failed, Ledger, Memory, MemorySink, MemorySource, Plain, RealSink, RealSource, Seq,
-    Sink, Source, Steps, Text,
+    Clock, Duplicate, Failed, Ledger, Memory, MemoryClock, MemorySink, MemorySource, MemoryStore,
+    NamedFile, Plain, RealClock, RealSink, RealSource, RealStore, Seq, Sink, Source, Steps, Store,
+    StoreFault, Text,
 };
 use std::process::Abort;
 use std::test::Fail;
@@ -100,4 +101,65 @@ fn a_plain_ledger_counts_its_ticks(rt: HostRuntime) {
     steps.ledger.tick();
     steps.ledger.tick();
     assert_eq!(rt; steps.ledger.steps(), 2);
+}
+
+fn letter(loaded: Result<Option<Text>, StoreFault>) -> u8 {
+    match loaded {
+        Ok(Some(text)) => text.as_slice().first().copied().unwrap_or(b'e'),
+        Ok(None) => b'-',
+        Err(StoreFault::Failed) => b'F',
+        Err(StoreFault::TooLong) => b'L',
+        Err(StoreFault::Memory) => b'M',
+    }
+}
+
+#[test]
+fn stores_keep_and_fail_as_planned(rt: HostRuntime) -> Result<(), Fail> {
+    let alloc = rt.alloc();
+    let name = Text::of(alloc, b"ring")?;
+    // The calls that fail, the room, whether a failing call leaves the new file, and what is found before a file is kept and after it.
+    let rows: [(&[u64], usize, bool, u8, u8); 5] = [
+        (&[], 9, false, b'o', b'n'),
+        (&[0], 9, false, b'F', b'n'),
+        (&[1], 9, false, b'o', b'o'),
+        (&[1], 9, true, b'o', b'n'),
+        (&[], 2, true, b'o', b'o'),
+    ];
+    for (failing, room, leaves_new, first, second) in rows {
+        let mut files = Seq::new(alloc);
+        files.push(NamedFile {
+            name: Text::of(alloc, b"ring")?,
+            bytes: Text::of(alloc, b"old")?,
+        })?;
+        let mut store = MemoryStore::new(alloc, files, room, leaves_new, failing, 9)?;
+        let before = letter(store.load(alloc, &name));
+        let _ = store.keep(&name, b"new");
+        let after = letter(store.load(alloc, &name));
+        assert_eq!(rt; before, first);
+        assert_eq!(rt; after, second);
+        assert!(rt; store.file(b"rin").is_none());
+    }
+    let mut real = RealStore::new(&rt);
+    assert_eq!(rt;
+        letter(real.load(alloc, &Text::of(alloc, b"no folder/ring")?)),
+        b'-'
+    );
+    assert!(rt;
+        real.keep(&Text::of(alloc, b"no folder/ring")?, b"new")
+            .is_err()
+    );
+    Ok(())
+}
+
+#[test]
+fn clocks_give_their_moments(rt: HostRuntime) -> Result<(), Fail> {
+    let alloc = rt.alloc();
+    let mut clock = MemoryClock::new(alloc, &[7, 1 << 62, 9])?;
+    for moment in [7, 0, 9, 9] {
+        assert_eq!(rt; clock.now(), moment);
+    }
+    assert_eq!(rt; clock.another(alloc)?.now(), 7);
+    assert_eq!(rt; MemoryClock::new(alloc, &[])?.now(), 0);
+    assert!(rt; RealClock::new(&rt).now() > 1_700_000_000);
+    Ok(())
 }
