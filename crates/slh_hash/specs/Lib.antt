@@ -5,3 +5,4 @@ pub mod Addresses
 pub mod Hash
 pub mod Chains
 pub mod Lengths
+pub mod Lanes

@@ -1,12 +1,14 @@
 //! The hash functions with the block of the public seed taken in.
 
-ghost use Rattle.std.specs.Prelude.{◌≡◌, ℕ, List, ◌+◌, ◌++◌, ◌≤◌};
-ghost use Rattle.sha2.specs.Hashers.{Holds256};
+ghost use Rattle.std.specs.Prelude.{◌≡◌, ℕ, List, [], ◌+◌, ◌++◌, ◌<◌, ◌≤◌, length, slice_index_or};
+ghost use Rattle.slh_hash.specs.declared.address.Address.{Address};
 ghost use Rattle.slh_hash.specs.Hash.{seed_block, th};
+ghost use Rattle.slh_hash.specs.Lanes.{IsSeedState, last_block};
 ghost use Rattle.slh_hash.specs.Chains.{chain};
 
 use crate::address::Address;
 use crate::hash::first_bytes;
+use crate::lane_blocks::{fronts, seed_state};
 use sha2::{Digest, Sha256};
 use std::marker::Model;
 
@@ -17,6 +19,7 @@ use std::marker::Model;
 pub struct SeedHash {
     seed: [u8; 16],
     hasher: Sha256,
+    pub(crate) state: [u32; 8],
 }
 
 impl Model for SeedHash {
@@ -24,7 +27,7 @@ impl Model for SeedHash {
 
     ghost view = { λ s. s.seed };
 
-    ghost invariant = { λ s. Holds256 s.hasher (seed_block s.seed) };
+    ghost invariant = { λ s. IsSeedState s.hasher s.state s.seed };
 }
 
 impl SeedHash {
@@ -38,7 +41,17 @@ impl SeedHash {
         SeedHash {
             seed: *pk_seed,
             hasher,
+            state: seed_state(pk_seed),
         }
+    }
+
+    /// The hashes that end in these blocks, eight side by side.
+    pub(crate) fn hash_blocks(&self, blocks: &[[u8; 64]; 8]) -> [[u8; 16]; 8]
+        ensures { (i : ℕ) (adr : Address) (m : List ℕ) → i < 8 → length m ≤ 33
+            → slice_index_or blocks.now i [] ≡ last_block adr m (86 + length m)
+            → slice_index_or result i [] ≡ th self.now adr m }
+    {
+        fronts(&self.state, blocks)
     }
 
     /// F: the hash of one value.

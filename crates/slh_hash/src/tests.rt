@@ -193,3 +193,26 @@ fn hashes_slices(rt: HostRuntime) {
         assert_eq!(rt; got, want, "{name}");
     }
 }
+
+#[test]
+fn hashes_slices_as_one_by_one(rt: HostRuntime) {
+    let seed = SeedHash::new(&SEED);
+    let adr = address(AddressType::WotsHash, 3, 4, 0);
+    let mut addresses = [adr; 11];
+    adr.fill_indices(0, &mut addresses);
+    let mut values = [LEFT; 11];
+    seed.hash_each(&addresses, &mut values);
+    let mut nodes = [RIGHT; 22];
+    seed.hash_pairs(&addresses, &mut nodes);
+    let starts = [0, 1, 2, 3, 4, 5, 6, 7, 8, 9, 10];
+    let steps = [15, 0, 1, 12, 2, 9, 4, 8, 1, 0, 5];
+    let mut ends = [LEFT; 11];
+    seed.chain_each(&addresses, &starts, &steps, &mut ends);
+    for i in 0..11 {
+        let adr = &addresses[i];
+        assert_eq!(rt; values[i], seed.hash_f(adr, &LEFT));
+        assert_eq!(rt; nodes[i], seed.hash_h(adr, &RIGHT, &RIGHT));
+        let steps = steps[i].min(15 - starts[i]);
+        assert_eq!(rt; ends[i], seed.chain(adr, &LEFT, starts[i], steps));
+    }
+}

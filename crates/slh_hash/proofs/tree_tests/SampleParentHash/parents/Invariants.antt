@@ -1,4 +1,4 @@
-use Rattle.std.proofs.Common.{◌≡◌, ℕ, List, [], ◌+◌, ◌*◌, ◌≤◌, ◌++◌, length, get_or}
+use Rattle.std.proofs.Common.{◌≡◌, ℕ, [], ◌+◌, ◌*◌, ◌≤◌, ◌++◌, length, get_or}
 use Rattle.slh_hash.specs.declared.address.AddressType.TheVariants.{Tree}
 use Rattle.slh_hash.specs.Addresses.{address}
 use Rattle.slh_hash.specs.Hash.{th}
