@@ -6,7 +6,7 @@ use Rattle.fed_json.specs.declared.tree.Json.{Json}
 use Rattle.policy_merge.specs.declared.operators.Operators.{Operators}
 use Rattle.policy_merge.specs.Tables.{Name}
 use Rattle.policy_merge.specs.Scope.{members_of}
-use Rattle.std.proofs.Common.{◌≤◌, ◌<◌, ◌+◌, ℕ, [], Some, None, option_map, drop, length, get_or, refl, ap}
+use Rattle.std.proofs.Common.{◌≤◌, ◌<◌, ◌+◌, ℕ, Some, None, option_map, drop, length, get_or, refl, ap}
 use Rattle.std.proofs.lemmas.List.{drop_all}
 use Rattle.policy_merge.specs.declared.named.Named.{Named}
 use Rattle.policy_merge.specs.declared.fault.PolicyFault.{PolicyFault}

@@ -1,22 +1,20 @@
 -- The conflict that is named stands at the first place that has one.
-use Rattle.std.proofs.Common.{◌≡◌, ◌⊎◌, inl, inr, ℕ, List, [], ◌∷◌, Option, Some, None, option_map, Result, Ok, Err, Bool, true, false, ◌&&◌, ◌||◌, cond, map, bytes_eq, refl, sym, ap, ap₂, ◌∙◌, subst, true≢false, IfErr, nat_cmp, Ordering, Less, Equal, Greater}
+use Rattle.std.proofs.Common.{◌≡◌, inl, inr, List, [], ◌∷◌, Option, Some, None, option_map, Result, Ok, Err, Bool, true, false, ◌||◌, map, bytes_eq, refl, sym, ap, ◌∙◌, subst, true≢false, IfErr}
 use Rattle.std.specs.Option.{option_map_or}
 use Rattle.std.specs.Ordering.{is_lt}
 use Rattle.std.specs.List.{list_all, list_any}
-use Rattle.std.specs.Cmp.Lexicographic.{slice_cmp}
 use Rattle.fed_json.specs.Forms.{is_before, rising}
 use Rattle.policy_merge.specs.declared.fault.PolicyFault.{PolicyFault}
 use Rattle.policy_merge.specs.declared.fault.PolicyFault.TheVariants.{Conflict, Memory}
 use Rattle.policy_merge.specs.declared.named.Named.{Named}
-use Rattle.policy_merge.specs.declared.operators.Operators.{Operators}
 use Rattle.policy_merge.specs.Tables.{Name, names_of_both, item_of, Side, side_at, sides}
 use Rattle.policy_merge.specs.Policies.{Parameters, Types, no_operators, operators_formed, parameters_formed, types_formed, parameters_at, operators_at, if_there}
-use Rattle.policy_merge.specs.Combining.{Pair, clash, first, conflict_at, conflict_in, unless, Gives}
-use Rattle.policy_merge.specs.Merging.{name_of, value_or, beside, merge_clash, parameter_conflict, parameters_conflict, type_conflict, merge_conflict, merging, NoneBefore, IsFirst, clash_in, merge_clash_in}
-use Rattle.policy_merge.proofs.Order.{left_true, right_true, both_true, equal-bytes_eq, bytes_eq-itself, is_before-trans, cmp-behind, cmp-itself, cmp-before, first_before, rising-tail}
+use Rattle.policy_merge.specs.Combining.{Pair, first, conflict_at, conflict_in, unless, Gives}
+use Rattle.policy_merge.specs.Merging.{name_of, value_or, merge_clash, parameter_conflict, parameters_conflict, type_conflict, merge_conflict, merging, NoneBefore, IsFirst, clash_in, merge_clash_in}
+use Rattle.policy_merge.proofs.Order.{left_true, right_true, equal-bytes_eq, cmp-behind, first_before, rising-tail}
 use Rattle.policy_merge.proofs.Firsts.{unless_err, unless_some}
 use Rattle.policy_merge.proofs.MergedTables.{rising-names_of_both, table-rises, table-values, item_of-passes}
-use Rattle.policy_merge.proofs.Lookups.{is_name, none_at, side_at-absent, clear_parameters, nothing_conflicts, merge_clash-empty}
+use Rattle.policy_merge.proofs.Lookups.{is_name, side_at-absent, clear_parameters, nothing_conflicts, merge_clash-empty}
 use Rattle.policy_merge.proofs.Neutral.{merging-above, merge_clash-above, option_map_none}
 
 -- a name doesn't stand before itself, nor before one that stands before it
@@ -69,12 +67,12 @@ least {F = F} f at (m ∷ names) y rise e = by (f (at m)) refl e (least f at nam
         rest_case l u early false is_b there = l.before u early there
 
 -- the same of two lists side by side, also at names that neither has
-record LeastSide {U L F : Type 0} (u : U → Name) (l : L → Name) (f : Side U L → Option F) (us : List U) (ls : List L) (y : F) : Type 0 where
-  name : Name
-  here : f (side_at u l us ls name) ≡ Some y
-  before : (n : Name) → is_before n name ≡ true → f (side_at u l us ls n) ≡ None
+pub record LeastSide {U L F : Type 0} (u : U → Name) (l : L → Name) (f : Side U L → Option F) (us : List U) (ls : List L) (y : F) : Type 0 where
+  pub name : Name
+  pub here : f (side_at u l us ls name) ≡ Some y
+  pub before : (n : Name) → is_before n name ≡ true → f (side_at u l us ls n) ≡ None
 
-least_side : {U L F : Type 0} (u : U → Name) (l : L → Name) (f : Side U L → Option F) (us : List U) (ls : List L) (y : F) → rising (map l ls) ≡ true
+pub least_side : {U L F : Type 0} (u : U → Name) (l : L → Name) (f : Side U L → Option F) (us : List U) (ls : List L) (y : F) → rising (map l ls) ≡ true
     → ((n : Name) → f (record { name = n; upper = None; lower = None }) ≡ None) → first f (sides u l us ls) ≡ Some y → LeastSide u l f us ls y
 unfolding sides
 least_side u l f us ls y rise empty e =

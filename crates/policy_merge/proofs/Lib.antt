@@ -14,3 +14,4 @@ pub mod MergeWalk
 pub mod Neutral
 pub mod Lookups
 pub mod Least
+pub mod ConflictNames

@@ -1,15 +1,15 @@
 -- What two tables side by side have under a name.
-use Rattle.std.proofs.Common.{◌≡◌, ◌⊎◌, inl, inr, ℕ, List, [], ◌∷◌, Option, Some, None, option_map, Bool, true, false, ◌&&◌, ◌||◌, cond, map, bytes_eq, refl, sym, ap, ap₂, ◌∙◌, subst, true≢false, Ordering, Less, Equal, Greater, nat_cmp}
+use Rattle.std.proofs.Common.{◌≡◌, List, [], ◌∷◌, Option, Some, None, option_map, Bool, true, false, ◌||◌, cond, map, bytes_eq, refl, sym, ap, ap₂, ◌∙◌, true≢false, Ordering, Less, Equal, Greater, nat_cmp}
 use Rattle.std.specs.Option.{option_map_or}
 use Rattle.std.specs.Ordering.{match_ordering}
-use Rattle.std.specs.List.{list_all, list_any}
+use Rattle.std.specs.List.{list_any}
 use Rattle.std.specs.Cmp.Lexicographic.{slice_cmp}
 use Rattle.policy_merge.specs.declared.named.Named.{Named}
 use Rattle.policy_merge.specs.declared.operators.Operators.{Operators}
 use Rattle.policy_merge.specs.Tables.{Name, with_name, names_of_both, item_of, Side, side_at, sides}
 use Rattle.policy_merge.specs.Policies.{Parameters, Types, named, no_operators, parameters_at, operators_at}
-use Rattle.policy_merge.specs.Combining.{Pair, clash, first, conflict_at, conflict_in_parameters, conflict_in, stand, judged, pairs}
-use Rattle.policy_merge.specs.Merging.{name_of, value_or, beside, merged_operators, merge_clash, merged_parameter, merged_parameters, merged_type, merged, parameter_conflict, parameters_conflict, type_conflict, merge_conflict}
+use Rattle.policy_merge.specs.Combining.{clash, first, conflict_at, conflict_in_parameters, conflict_in, stand, judged, pairs}
+use Rattle.policy_merge.specs.Merging.{name_of, value_or, beside, merged_operators, merge_clash, merged_parameters, merged, parameter_conflict, parameters_conflict, type_conflict, merge_conflict}
 use Rattle.policy_merge.proofs.Order.{equal-bytes_eq, bytes_eq-itself, equal-cmp}
 use Rattle.policy_merge.proofs.Neutral.{option_map_none}
 
@@ -147,7 +147,7 @@ operators_at-merged us ls t p =
 
 -- ---- no conflict at any name
 
-clash-none : (p : Name) → clash p no_operators ≡ None
+pub clash-none : (p : Name) → clash p no_operators ≡ None
 unfolding clash pairs stand judged
 clash-none p = refl
 

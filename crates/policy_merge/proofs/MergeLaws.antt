@@ -1,5 +1,5 @@
 -- What becomes of the operators of two sides.
-use Rattle.std.proofs.Common.{◌≡◌, Option, Some, None, option_map, Result, Ok, Err, Bool, true, false, refl, sym, ap, ◌∙◌}
+use Rattle.std.proofs.Common.{◌≡◌, Some, None, Ok, Err, true, false, refl}
 use Rattle.fed_json.specs.Sets.{same}
 use Rattle.policy_merge.specs.declared.operator.Operator.TheVariants.{Value, Default}
 use Rattle.policy_merge.specs.declared.operators.Operators.{Operators}

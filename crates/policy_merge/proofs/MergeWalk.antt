@@ -1,21 +1,16 @@
 -- Two tables that are merged side by side, one side at a time.
-use Rattle.std.proofs.Common.{◌≡◌, List, [], ◌∷◌, ◌++◌, Option, Some, None, option_map, Result, Ok, Err, Bool, true, false, ◌&&◌, map, refl, sym, ap, ap₂, ◌∙◌, append_assoc, append-nil, subst}
-use Rattle.std.specs.Option.{option_map_or}
-use Rattle.std.specs.List.{list_all}
+use Rattle.std.proofs.Common.{◌≡◌, [], Some, None, option_map, Ok, Err, true, map, refl, sym, ap, ap₂, ◌∙◌}
 use Rattle.std.specs.Str.{is_utf8}
-use Rattle.std.proofs.lemmas.List.Folds.{list_all-append}
-use Rattle.std.proofs.lemmas.List.{map-append}
-use Rattle.fed_json.specs.Forms.{rising}
 use Rattle.policy_merge.specs.declared.fault.PolicyFault.{PolicyFault}
 use Rattle.policy_merge.specs.declared.operators.Operators.{Operators}
 use Rattle.policy_merge.specs.declared.named.Named.{Named}
 use Rattle.policy_merge.specs.Tables.{Name, Side}
-use Rattle.policy_merge.specs.Policies.{Parameters, Types, named, no_operators, if_there, operators_formed, parameters_formed, table_formed}
-use Rattle.policy_merge.specs.Combining.{first, unless, conflict_at, Gives}
-use Rattle.policy_merge.specs.Merging.{merged_operators, merge_clash, merging_operators, value_or, name_of, beside, merged_parameter, merged_parameters, merged_type, merged, parameter_conflict, parameters_conflict, type_conflict, merge_conflict, merging_parameters, merging}
+use Rattle.policy_merge.specs.Policies.{Parameters, Types, named, no_operators, if_there, parameters_formed}
+use Rattle.policy_merge.specs.Combining.{first, conflict_at, Gives}
+use Rattle.policy_merge.specs.Merging.{merged_operators, merge_clash, merging_operators, value_or, beside, merged_parameter, merged_parameters, merged_type, merged, parameter_conflict, parameters_conflict, type_conflict, merge_conflict, merging_parameters, merging}
 use Rattle.policy_merge.proofs.Order.{left_true, right_true}
-use Rattle.policy_merge.proofs.Firsts.{unless_ok, unless_none, unless_some, gives_on}
-use Rattle.policy_merge.proofs.MergedTables.{side_formed, beside-formed, value_or-formed}
+use Rattle.policy_merge.proofs.Firsts.{unless_ok, unless_none, gives_on}
+use Rattle.policy_merge.proofs.MergedTables.{side_formed, value_or-formed}
 
 -- ---- parameters
 

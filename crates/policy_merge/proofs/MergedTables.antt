@@ -1,11 +1,10 @@
 -- Tables that are merged: what every side has, and what the merged table is.
-use Rattle.std.proofs.Common.{◌≡◌, ℕ, List, [], ◌∷◌, ◌++◌, Option, Some, None, Bool, true, false, ◌&&◌, ◌||◌, not, map, filter, cond, bytes_eq, refl, sym, ap, ap₂, ◌∙◌, subst, Ordering, Less, Equal, Greater, nat_cmp}
-use Rattle.std.specs.Option.{option_map_or}
+use Rattle.std.proofs.Common.{◌≡◌, List, [], ◌∷◌, ◌++◌, Option, Some, None, Bool, true, false, ◌&&◌, not, map, filter, cond, bytes_eq, refl, ap, ◌∙◌, Ordering, Less, Equal, Greater, nat_cmp}
 use Rattle.std.specs.Ordering.{match_ordering}
 use Rattle.std.specs.List.{list_all}
 use Rattle.std.specs.Str.{is_utf8}
 use Rattle.std.specs.Cmp.Lexicographic.{slice_cmp}
-use Rattle.std.proofs.lemmas.List.Folds.{list_all-append, list_all-map}
+use Rattle.std.proofs.lemmas.List.Folds.{list_all-append}
 use Rattle.fed_json.specs.declared.tree.Json.{Json}
 use Rattle.fed_json.specs.Forms.{is_before, rising, whole}
 use Rattle.fed_json.specs.Sets.{same, is_among, once, union_of, intersection_of}
@@ -13,8 +12,8 @@ use Rattle.policy_merge.specs.declared.named.Named.{Named}
 use Rattle.policy_merge.specs.declared.operators.Operators.{Operators}
 use Rattle.policy_merge.specs.Tables.{Name, with_name, names_of_both, item_of, Side, side_at, sides}
 use Rattle.policy_merge.specs.Policies.{Parameters, Types, named, no_operators, is_null, if_there, operators_formed, table_formed, parameters_formed, types_formed}
-use Rattle.policy_merge.specs.Merging.{met, merged_operators, value_or, name_of, beside, merged_parameter, merged_parameters, merged_type, merged}
-use Rattle.policy_merge.proofs.Order.{left_true, right_true, both_true, before-cmp_less, before-cmp_greater, first_before, rising-tail, rising-cons, equal-cmp}
+use Rattle.policy_merge.specs.Merging.{met, merged_operators, value_or, name_of, beside, merged_parameters, merged}
+use Rattle.policy_merge.proofs.Order.{left_true, right_true, both_true, before-cmp_less, before-cmp_greater, first_before, rising-tail, rising-cons}
 use Rattle.policy_merge.proofs.SideBySide.{all_with_name, all_names_of_both}
 
 -- ---- the names of both rise

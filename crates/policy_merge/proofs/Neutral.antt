@@ -1,16 +1,15 @@
 -- The empty policy on either side, and that a merged policy combines.
-use Rattle.std.proofs.Common.{◌≡◌, ℕ, List, [], ◌∷◌, Option, Some, None, option_map, Result, Ok, Err, Bool, true, false, ◌&&◌, ◌||◌, cond, map, refl, sym, ap, ap₂, ◌∙◌}
+use Rattle.std.proofs.Common.{◌≡◌, List, [], ◌∷◌, Option, Some, None, option_map, Bool, true, false, ◌||◌, cond, map, refl, ap, ap₂, ◌∙◌}
 use Rattle.std.specs.Option.{option_map_or}
-use Rattle.std.specs.List.{list_all, find}
+use Rattle.std.specs.List.{list_all}
 use Rattle.fed_json.specs.Forms.{rising}
 use Rattle.fed_json.specs.Sets.{same, union_of, intersection_of}
 use Rattle.policy_merge.specs.declared.operators.Operators.{Operators}
 use Rattle.policy_merge.specs.declared.named.Named.{Named}
 use Rattle.policy_merge.specs.declared.operator.Operator.TheVariants.{Value, Default}
-use Rattle.policy_merge.specs.declared.fault.PolicyFault.{PolicyFault}
-use Rattle.policy_merge.specs.Tables.{Name, Side, sides}
-use Rattle.policy_merge.specs.Policies.{Parameters, Types, named, no_operators, table_formed, operators_formed, parameters_formed, types_formed}
-use Rattle.policy_merge.specs.Combining.{Pair, if_both, clash, first, conflict_at, conflict_in_parameters, conflict_in, unless}
+use Rattle.policy_merge.specs.Tables.{Name, Side}
+use Rattle.policy_merge.specs.Policies.{Parameters, Types, named, no_operators, operators_formed, parameters_formed, types_formed}
+use Rattle.policy_merge.specs.Combining.{if_both, clash, first, conflict_at, conflict_in_parameters, conflict_in, unless}
 use Rattle.policy_merge.specs.Merging.{met, merged_operators, merge_clash, name_of, beside, merged_parameter, merged_parameters, merged_type, merged, parameter_conflict, parameters_conflict, type_conflict, merge_conflict, merging}
 use Rattle.policy_merge.proofs.Order.{left_true, right_true, rising-tail}
 use Rattle.policy_merge.proofs.SideBySide.{sides-upper, sides-lower, sides-none}

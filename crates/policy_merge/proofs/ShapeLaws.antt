@@ -1,11 +1,11 @@
 -- What a tree that is read as a policy gives.
-use Rattle.std.proofs.Common.{◌≡◌, ℕ, List, [], ◌∷◌, ◌++◌, Option, Some, None, option_map, Bool, true, false, ◌&&◌, not, map, refl, sym, ap, ap₂, ◌∙◌, subst, true≢false, bytes_eq, cond, Result, Err}
-use Rattle.std.specs.Option.{option_and_then, option_map_or}
+use Rattle.std.proofs.Common.{◌≡◌, List, [], ◌∷◌, Option, Some, None, option_map, Bool, true, false, ◌&&◌, not, map, refl, sym, ap, ap₂, ◌∙◌, subst, true≢false, bytes_eq, cond, Err}
+use Rattle.std.specs.Option.{option_and_then}
 use Rattle.std.specs.List.{list_all}
 use Rattle.std.specs.Str.{is_utf8}
 use Rattle.fed_json.specs.declared.tree.Json.{Json}
 use Rattle.fed_json.specs.declared.tree.Member.{Member}
-use Rattle.fed_json.specs.Forms.{rising, whole, well_formed, has_odd, members_whole}
+use Rattle.fed_json.specs.Forms.{rising, whole, well_formed, has_odd}
 use Rattle.fed_json.specs.Trees.{as_list, as_object, find}
 use Rattle.policy_merge.specs.declared.operator.Operator.{Operator}
 use Rattle.policy_merge.specs.declared.operator.Operator.TheVariants.{Value, Add, Default, OneOf, SubsetOf, SupersetOf, Essential}

@@ -1,13 +1,13 @@
 -- Two lists side by side, one name at a time.
-use Rattle.std.proofs.Common.{◌≡◌, ℕ, List, [], ◌∷◌, Option, Some, None, Bool, true, false, ◌&&◌, map, cond, refl, sym, ap, ap₂, ◌∙◌, Ordering, Less, Equal, Greater, nat_cmp, bytes_eq}
+use Rattle.std.proofs.Common.{◌≡◌, List, [], ◌∷◌, Option, Some, None, Bool, true, map, refl, sym, ap, ap₂, ◌∙◌, Ordering, Less, Equal, Greater, nat_cmp}
 use Rattle.std.specs.Ordering.{match_ordering}
 use Rattle.std.specs.List.{list_all}
-use Rattle.std.specs.Cmp.Lexicographic.{slice_cmp, bytes_decides}
+use Rattle.std.specs.Cmp.Lexicographic.{slice_cmp}
 use Rattle.fed_json.specs.Forms.{is_before, rising}
 use Rattle.policy_merge.specs.Tables.{Name, with_name, names_of_both, item_of, Side, side_at, sides}
 use Rattle.std.proofs.Common.{length, subst}
 use Rattle.std.proofs.lemmas.List.{nil_from_length}
-use Rattle.policy_merge.proofs.Order.{equal-cmp, left_true, right_true, both_true, cmp-before, cmp-behind, cmp-itself, before-cmp_less, before-cmp_greater, other_before, other_behind, bytes_eq-itself, all_behind, first_before, rising-tail}
+use Rattle.policy_merge.proofs.Order.{equal-cmp, left_true, right_true, both_true, cmp-before, cmp-behind, cmp-itself, before-cmp_less, before-cmp_greater, other_before, other_behind, bytes_eq-itself, all_behind, first_before}
 
 -- ---- names
 

@@ -1,15 +1,14 @@
 -- What a tree is, by what it holds.
-use Rattle.std.proofs.Common.{◌≡◌, ℕ, List, [], ◌∷◌, Option, Some, None, Bool, true, false, ◌&&◌, not, refl, sym, ap, ◌∙◌, subst, rules}
+use Rattle.std.proofs.Common.{◌≡◌, ℕ, List, Option, Some, None, true, refl, sym, ap, ◌∙◌, rules}
 use denote.Hole.Carrier.{roll}
-use Rattle.std.specs.Str.{is_utf8}
 use Rattle.std.specs.List.{list_all}
 use Rattle.fed_json.specs.declared.tree.Json.{Json, Text, List as ListOf, Object, out-Json, the_lemmas}
 use Rattle.fed_json.specs.declared.tree.Json.TheOpen.{Json-F}
 use Rattle.fed_json.specs.declared.tree.Json.TheViews.{roll-Json}
 use Rattle.fed_json.specs.declared.tree.Member.{Member}
 use Rattle.fed_json.specs.Trees.{as_text, as_list, as_object}
-use Rattle.fed_json.specs.Forms.{whole, members_whole, well_formed}
-use Rattle.fed_json.proofs.Layers.{whole-List, whole-Object, well_formed-Text}
+use Rattle.fed_json.specs.Forms.{whole, members_whole}
+use Rattle.fed_json.proofs.Layers.{whole-List, whole-Object}
 
 abbrev text_at : Json-F Json Member → Option (List ℕ)
 text_at (Json-F.Text bytes) = Some bytes

@@ -1,5 +1,5 @@
 -- Which operators of one parameter stand together (OpenID Federation 1.0 section 6.1.3.1).
-use Rattle.std.specs.Prelude.{◌≡◌, ℕ, List, [], ◌∷◌, Option, Some, None, option_map, map, Bool, true, false, ◌&&◌, not, Result, Ok, Err}
+use Rattle.std.specs.Prelude.{◌≡◌, List, [], ◌∷◌, Option, Some, None, option_map, Bool, true, false, ◌&&◌, not, Result, Ok, Err}
 use Rattle.std.specs.Option.{option_and_then, option_map_or}
 use Rattle.std.specs.List.{list_all, find}
 use Rattle.fed_json.specs.Sets.{is_among}

@@ -1,15 +1,14 @@
 -- The merged policy (OpenID Federation 1.0 section 6.1.4.1).
-use Rattle.std.specs.Prelude.{◌≡◌, ◌⊎◌, IsTrue, ℕ, List, [], ◌∷◌, Option, Some, None, option_map, map, Bool, true, false, ◌||◌, not, Result, Ok, Err, if◌then◌else◌}
-use Rattle.std.specs.Option.{option_and_then, option_map_or}
+use Rattle.std.specs.Prelude.{◌≡◌, ◌⊎◌, IsTrue, List, [], Option, Some, None, option_map, map, ◌||◌, Result, if◌then◌else◌}
+use Rattle.std.specs.Option.{option_map_or}
 use Rattle.fed_json.specs.Sets.{same, union_of, intersection_of}
-use Rattle.fed_json.specs.declared.tree.Json.{Json}
-use Rattle.policy_merge.specs.declared.operator.Operator.{Operator}
 use Rattle.policy_merge.specs.declared.operator.Operator.TheVariants.{Value, Default}
 use Rattle.policy_merge.specs.declared.operators.Operators.{Operators}
 use Rattle.policy_merge.specs.declared.named.Named.{Named}
 use Rattle.policy_merge.specs.declared.fault.PolicyFault.{PolicyFault}
 use Rattle.policy_merge.specs.declared.fault.PolicyFault.TheVariants.{Conflict, Memory}
 use Rattle.fed_json.specs.Forms.{is_before}
+use Rattle.std.specs.Str.{is_utf8}
 use Rattle.policy_merge.specs.Tables.{Name, Side, sides}
 use Rattle.policy_merge.specs.Policies.{Parameters, Types, named, no_operators, operators_at}
 use Rattle.policy_merge.specs.Combining.{Pair, if_both, clash, first, conflict_at, unless}
@@ -106,3 +105,8 @@ clash_in types t p = clash p (operators_at types t p)
 
 abbrev pub merge_clash_in : Types → Types → Name → Name → Option Pair
 merge_clash_in upper lower t p = merge_clash p (operators_at upper t p) (operators_at lower t p)
+
+-- the names in a conflict are UTF-8
+abbrev pub NamesUtf8 : PolicyFault → Type 0
+NamesUtf8 Memory = Unit {0}
+NamesUtf8 (Conflict t p f s) = IsTrue (is_utf8 t) × IsTrue (is_utf8 p)

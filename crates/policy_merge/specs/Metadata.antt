@@ -1,11 +1,10 @@
 -- Metadata as statements carry it (OpenID Federation 1.0 section 5).
-use Rattle.std.specs.Prelude.{Bool, true, false, ◌&&◌, not, IsTrue}
+use Rattle.std.specs.Prelude.{Bool, false, ◌&&◌, not, IsTrue}
 use Rattle.std.specs.Option.{option_map_or}
 use Rattle.std.specs.List.{list_all}
 use Rattle.fed_json.specs.Trees.{as_object}
 use Rattle.fed_json.specs.Forms.{whole}
 use Rattle.fed_json.specs.declared.tree.Json.{Json}
-use Rattle.fed_json.specs.declared.tree.Member.{Member}
 use Rattle.policy_merge.specs.Policies.{is_null}
 
 -- an object, each of whose values passes

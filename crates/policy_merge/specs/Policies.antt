@@ -1,5 +1,5 @@
 -- What a policy holds: entity types, their parameters and the operators of each (OpenID Federation 1.0 section 6.1).
-use Rattle.std.specs.Prelude.{ℕ, List, [], ◌∷◌, Option, Some, None, map, Bool, true, false, ◌&&◌, not}
+use Rattle.std.specs.Prelude.{List, [], Option, None, map, Bool, true, false, ◌&&◌, not}
 use Rattle.std.specs.Option.{option_map_or}
 use Rattle.std.specs.List.{list_all}
 use Rattle.std.specs.Str.{is_utf8}

@@ -1,7 +1,7 @@
 -- The parameter `scope`, whose texts are words with spaces between them (RFC 6749 section 3.3), and the members of values.
-use Rattle.std.specs.Prelude.{◌==◌, ℕ, List, [], ◌∷◌, Option, Some, None, option_map, map, filter, Bool, true, false, not, codes, bytes_eq, if◌then◌else◌}
-use Rattle.std.specs.Option.{option_and_then, option_or}
-use Rattle.std.specs.List.{slice_split, join_with_byte}
+use Rattle.std.specs.Prelude.{◌==◌, ℕ, List, [], ◌∷◌, Option, None, option_map, map, filter, Bool, true, false, not, codes, bytes_eq, if◌then◌else◌}
+use Rattle.std.specs.Option.{option_or}
+use Rattle.std.specs.List.{slice_split}
 use Rattle.fed_json.specs.Trees.{as_text, as_list}
 use Rattle.fed_json.specs.declared.tree.Json.{Json, Text}
 use Rattle.policy_merge.specs.Tables.{Name}

@@ -1,5 +1,5 @@
 -- The shape of a policy as a tree (OpenID Federation 1.0 section 6.1.2).
-use Rattle.std.specs.Prelude.{◌≡◌, ℕ, List, [], ◌∷◌, Option, Some, None, option_map, Bool, true, false, codes, Result, Ok, Err, if◌then◌else◌}
+use Rattle.std.specs.Prelude.{◌≡◌, List, [], ◌∷◌, Option, Some, None, option_map, Bool, Result, Ok, Err, if◌then◌else◌}
 use Rattle.std.specs.Option.{option_and_then}
 use Rattle.fed_json.specs.Trees.{as_list, as_object, find}
 use Rattle.fed_json.specs.Forms.{has_odd}
@@ -13,7 +13,7 @@ use Rattle.policy_merge.specs.declared.operator.Operator.TheVariants.{Value, Add
 use Rattle.policy_merge.specs.declared.operators.Operators.{Operators}
 use Rattle.policy_merge.specs.declared.named.Named.{Named}
 use Rattle.policy_merge.specs.Names.{operator_name}
-use Rattle.policy_merge.specs.Policies.{Parameters, Types, named, is_null}
+use Rattle.policy_merge.specs.Policies.{Types, named, is_null}
 
 abbrev truth_in : Json-F Json Member → Option Bool
 truth_in (Json-F.Bool b) = Some b

@@ -17,7 +17,7 @@ mod tests;
 
 pub use combining::{holds_all, is_member};
 pub use fault::{PolicyFault, PolicyShape};
-pub use merging::{Parameters, Types, operators_of};
+pub use merging::{Parameters, Types, operators_of, parameters_of};
 pub use metadata::is_metadata;
 pub use named::{HasName, Named};
 pub use operator::Operator;

@@ -46,7 +46,8 @@ pub(crate) fn merge_types(
     Ok(merged)
 }
 
-fn parameters_of<'a>(entity_type: Option<&'a Named<Parameters>>) -> &'a [Named<Operators>]
+/// The parameters of an entity type, none where there is no such type.
+pub fn parameters_of<'a>(entity_type: Option<&'a Named<Parameters>>) -> &'a [Named<Operators>]
     ensures { result.now ≡ value_or [] (option_copied entity_type.entry) }
 {
     match entity_type {

@@ -3,7 +3,7 @@ ghost use Rattle.fed_json.specs.Forms.{IsWellFormed};
 ghost use Rattle.policy_merge.specs.Policies.{types_formed, operators_at};
 ghost use Rattle.policy_merge.specs.Tables.{Name};
 ghost use Rattle.policy_merge.specs.Combining.{Gives, conflict_in, unless};
-ghost use Rattle.policy_merge.specs.Merging.{merging, merged_operators, IsFirst, clash_in, merge_clash_in};
+ghost use Rattle.policy_merge.specs.Merging.{merging, merged_operators, IsFirst, clash_in, merge_clash_in, NamesUtf8};
 ghost use Rattle.policy_merge.specs.Shapes.{Reads, policy_shape};
 
 use crate::combining::types_combined;
@@ -74,6 +74,7 @@ impl Policy {
     pub fn combined(&self, alloc: Global) -> Result<(), PolicyFault>
         ensures combined { Gives result (unless (conflict_in self.now) tt) }
         ensures first { IfErr result (IsFirst (clash_in self.now)) }
+        ensures utf8 { IfErr result NamesUtf8 }
     {
         types_combined(alloc, self.types.as_slice())
     }
@@ -86,6 +87,7 @@ impl Policy {
         ensures operators { IfOk result (λ policy. (t p : Name) → operators_at policy t p
             ≡ merged_operators (operators_at self.now t p) (operators_at lower.now t p)) }
         ensures first { IfErr result (IsFirst (merge_clash_in self.now lower.now)) }
+        ensures utf8 { IfErr result NamesUtf8 }
         ensures combines { IfOk result (λ policy. conflict_in policy ≡ None) }
         ensures empty_lower { lower.now ≡ [] → Gives result (unless (conflict_in self.now) self.now) }
         ensures empty_upper { self.now ≡ [] → Gives result (unless (conflict_in lower.now) lower.now) }

@@ -1,4 +1,4 @@
-use Rattle.std.proofs.Common.{◌≡◌, ◌∙◌}
+use Rattle.std.proofs.Common.{◌∙◌}
 use Rattle.std.specs.Option.{option_copied}
 use Rattle.policy_merge.specs.Combining.{pairs}
 use Rattle.policy_merge.proofs.Clashes.{clash-members}

@@ -4,7 +4,7 @@ use Rattle.std.proofs.lemmas.Result.{err_from_is_err_and}
 use Rattle.policy_merge.specs.Tables.{Side}
 use Rattle.policy_merge.specs.declared.named.Named.{Named}
 use Rattle.policy_merge.specs.Policies.{Parameters, named, parameters_formed}
-use Rattle.policy_merge.specs.Merging.{name_of, value_or, type_conflict, merged_type}
+use Rattle.policy_merge.specs.Merging.{name_of, type_conflict, merged_type}
 use Rattle.policy_merge.proofs.Walks.{map-more, passed-more, passed-found, passed-passes, passed-all}
 use Rattle.policy_merge.proofs.MergedTables.{side_formed, beside-formed}
 use Rattle.policy_merge.proofs.MergeWalk.{type-ok, type-err, type-formed, types-merged}

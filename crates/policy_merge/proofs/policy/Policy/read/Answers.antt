@@ -1,4 +1,4 @@
-use Rattle.std.proofs.Common.{◌≡◌, ◌∙◌, sym}
+use Rattle.std.proofs.Common.{◌∙◌}
 use Rattle.std.proofs.lemmas.Result.{err_from_is_err_and}
 use Rattle.policy_merge.proofs.ShapeLaws.{shape-odd, shape-whole, policy-formed, reads_on, decides_false}
 use Rattle.policy_merge.proofs.policy.Policy.read.Goals as goal
