@@ -1,0 +1,12 @@
+pub mod Joins
+pub mod Loops
+pub mod Walking
+pub mod Places
+pub mod Courses
+pub mod Made
+pub mod Whole
+pub mod SetLaws
+pub mod Standing
+pub mod Keeps
+pub mod KeepsMerged
+pub mod Laws
