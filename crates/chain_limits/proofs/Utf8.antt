@@ -18,11 +18,11 @@ use Rattle.chain_limits.specs.Reading.{HoldsUtf8, Texts, constraints_in, exclude
 -- ---- what stands behind a result
 
 -- a chain that gives something had something to begin with
-and_then-some : {X Y : Type 0} (f : X → Option Y) (o : Option X) (y : Y) → option_and_then f o ≡ Some y → (x : X) × (o ≡ Some x) × (f x ≡ Some y)
+pub and_then-some : {X Y : Type 0} (f : X → Option Y) (o : Option X) (y : Y) → option_and_then f o ≡ Some y → (x : X) × (o ≡ Some x) × (f x ≡ Some y)
 and_then-some f None y e = cc e
 and_then-some f (Some x) y e = (x, refl, e)
 
-map-some : {X Y : Type 0} (f : X → Y) (o : Option X) (y : Y) → option_map f o ≡ Some y → (x : X) × (o ≡ Some x) × (f x ≡ y)
+pub map-some : {X Y : Type 0} (f : X → Y) (o : Option X) (y : Y) → option_map f o ≡ Some y → (x : X) × (o ≡ Some x) × (f x ≡ y)
 map-some f None y e = cc e
 map-some f (Some x) y e = (x, refl, cc e)
 
@@ -71,14 +71,14 @@ optional-texts (Some tree) texts e formed =
 -- ---- the parts of well formed members
 
 -- what is found, and the members of an object
-found_formed : (name : List ℕ) (members : List Member) → members_well_formed members ≡ true → IfSome (find name members) (λ tree. well_formed tree ≡ true)
+pub found_formed : (name : List ℕ) (members : List Member) → members_well_formed members ≡ true → IfSome (find name members) (λ tree. well_formed tree ≡ true)
 found_formed name members formed = by_found (find name members) (λ tree is. well_formed-find name members tree is formed)
   where
     by_found : (o : Option Json) → ((tree : Json) → o ≡ Some tree → well_formed tree ≡ true) → IfSome o (λ tree. well_formed tree ≡ true)
     by_found None each = tt
     by_found (Some tree) each = each tree refl
 
-members_formed : (tree : Json) (members : List Member) → as_object tree ≡ Some members → well_formed tree ≡ true → members_well_formed members ≡ true
+pub members_formed : (tree : Json) (members : List Member) → as_object tree ≡ Some members → well_formed tree ≡ true → members_well_formed members ≡ true
 members_formed tree members is formed = sym (well_formed-Object members) ∙ ap well_formed (sym (Object-as_object tree members is)) ∙ formed
 
 naming_formed : (found : Option Json) (naming : List Member) → members_of found ≡ Some naming → IfSome found (λ tree. well_formed tree ≡ true) → members_well_formed naming ≡ true

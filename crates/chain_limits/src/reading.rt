@@ -48,12 +48,13 @@ pub(crate) fn texts(
 {
     match find(members, name) {
         None => Ok(None),
-        Some(Json::List(items)) => Ok(Some(copies(alloc, items.as_slice())?)),
+        Some(Json::List(items)) => Ok(Some(copied_texts(alloc, items.as_slice())?)),
         Some(_) => Err(LimitShape::Shape),
     }
 }
 
-fn copies(alloc: Global, items: &[Json]) -> Result<Seq<Text>, LimitShape>
+/// Copies of the texts that the items are; `Shape` where one isn't a text.
+pub fn copied_texts(alloc: Global, items: &[Json]) -> Result<Seq<Text>, LimitShape>
     ensures { Gives result (texts_in items.now) }
 {
     let mut texts = Seq::new(alloc);

@@ -96,7 +96,7 @@ fn is_own(members: &[Member]) -> bool
 }
 
 /// The text that the member of that name is.
-pub(crate) fn text_at<'a>(members: &'a [Member], name: &[u8]) -> Option<&'a Text>
+pub fn text_at<'a>(members: &'a [Member], name: &[u8]) -> Option<&'a Text>
     ensures { option_copied result ≡ text_of name.now members.now }
 {
     match find(members, name) {
@@ -116,7 +116,7 @@ fn is_text_at(members: &[Member], name: &[u8], text: &[u8]) -> bool
 
 /// The tree of a key: an own key with `alg`, `kid`, `kty` and `pub`, a foreign one as it was read.
 #[tactic(auto, unfolding(crate::specs::Trees::key_tree))]
-pub(crate) fn write_key(alloc: Global, key: &Jwk) -> Result<Json, Memory>
+pub fn write_key(alloc: Global, key: &Jwk) -> Result<Json, Memory>
     requires { IsTrue (is_key key.now) }
     ensures tree { IfOk result (λ tree. tree ≡ key_tree key.now) }
     ensures whole { IfOk result IsWhole }

@@ -14,6 +14,6 @@ mod tests;
 mod thumbprints;
 
 pub use fault::SetFault;
-pub use jwk::{ALGORITHM, Jwk};
+pub use jwk::{ALGORITHM, Jwk, text_at, write_key};
 pub use set::JwkSet;
 pub use thumbprints::thumbprint;

@@ -1,0 +1,6 @@
+use Rattle.std.proofs.Common.{◌≡◌, ◌++◌, drop, option_map}
+use Rattle.entity_statement.specs.Forms.{each, issuers_in}
+use Rattle.entity_statement.proofs.marks.each_issuers.Given as goal
+
+abbrev pub invariant-loop-member : goal.invariant-loop-member
+invariant-loop-member l = each issuers_in l.members ≡ option_map (λ rest. l.issuers ++ rest) (each issuers_in (drop l.member-index l.members))

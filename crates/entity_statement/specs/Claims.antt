@@ -1,0 +1,58 @@
+-- What an entity statement says (OpenID Federation 1.0 section 3.1).
+use Rattle.std.specs.Prelude.{ℕ, List, [], map, None, Bool, ◌&&◌}
+use Rattle.std.specs.List.{list_all}
+use Rattle.std.specs.Str.{is_utf8, bytes_eq}
+use Rattle.fed_json.specs.declared.tree.Json.{Json, Object}
+use Rattle.jwk_set.specs.declared.jwk.Jwk.{Jwk}
+use Rattle.policy_merge.specs.Policies.{Types}
+use Rattle.chain_limits.specs.declared.constraints.Constraints.{Constraints}
+use Rattle.entity_statement.specs.declared.marks.MarkEntry.{MarkEntry}
+use Rattle.entity_statement.specs.declared.marks.Issuers.{Issuers}
+use Rattle.entity_statement.specs.declared.marks.Owner.{Owner}
+
+-- the bytes of an identifier (section 1.2)
+abbrev pub Identifier : Type 0
+Identifier = List ℕ
+
+-- the owner of a type of trust marks, and its keys (section 3.1.2)
+pub record OwnerClaims : Type 0 where
+  pub mark_type : List ℕ
+  pub sub : Identifier
+  pub keys : List Jwk
+
+-- the claims that are read, where those that are absent say nothing (sections 3.1.1 to 3.1.3)
+pub record Claims : Type 0 where
+  pub iss : Identifier
+  pub sub : Identifier
+  pub iat : ℕ
+  pub exp : ℕ
+  pub keys : List Jwk
+  pub hints : List Identifier
+  pub metadata : Json
+  pub policy : Types
+  pub constraints : Constraints
+  pub marks : List MarkEntry
+  pub issuers : List Issuers
+  pub owners : List OwnerClaims
+
+-- what an owner says, its key set by the keys
+abbrev pub told_owner : Owner → OwnerClaims
+told_owner o = record { mark_type = o.mark_type; sub = o.sub; keys = o.jwks.keys }
+
+-- what absent claims say: no parameter of any type, and no limit
+abbrev pub no_metadata : Json
+no_metadata = Object []
+
+abbrev pub no_constraints : Constraints
+no_constraints = record { max_path = None; permitted = None; excluded = []; types = None }
+
+-- a statement of an entity about itself is its configuration (section 3.1)
+abbrev pub is_configuration : Claims → Bool
+is_configuration s = bytes_eq s.iss s.sub
+
+-- the texts of the entries are UTF-8 (RFC 8259 section 8.1)
+abbrev pub mark_utf8 : MarkEntry → Bool
+mark_utf8 m = is_utf8 m.mark_type && is_utf8 m.text
+
+abbrev pub issuers_utf8 : Issuers → Bool
+issuers_utf8 i = is_utf8 i.mark_type && list_all is_utf8 i.who

@@ -1,0 +1,18 @@
+//! Entity statements (OpenID Federation 1.0 section 3): what a compact text claims.
+//!
+//! A statement of an entity about itself is its configuration; any other is a superior's about its subordinate. The
+//! crates above read texts by [`Statement::read`], ask whether a statement is current, and where its entity answers
+//! statements about its subordinates.
+#![tactic(auto)]
+
+mod claims;
+mod fault;
+mod forms;
+mod marks;
+mod reading;
+mod statement;
+mod table;
+
+pub use fault::StatementFault;
+pub use marks::{Issuers, MarkEntry, Owner};
+pub use statement::Statement;
