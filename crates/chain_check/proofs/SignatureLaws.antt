@@ -1,0 +1,111 @@
+-- Which texts of a chain are signed and which statements are current, place by place, and how many signatures were checked.
+use Rattle.std.proofs.Common.{◌≡◌, ◌<◌, ◌≤◌, ◌+◌, ℕ, zero, suc, List, length, get_or, Bool, true, false, Ok, Err, refl, sym, ap, ◌∙◌, subst, add-one, add-suc, add-zero, arith}
+use Rattle.std.specs.Prelude.{Result, cond}
+use Rattle.std.proofs.lemmas.Bool.{both_ways}
+use Rattle.fed_ports.specs.Causes.{next_count}
+use Rattle.fed_ports.specs.declared.faults.Memory.{Memory as NoMemory}
+use Rattle.jws_form.specs.declared.compact.Compact.{Compact}
+use Rattle.jws_form.specs.Compact.{IsCompact}
+use Rattle.jws_form.proofs.Laws.{IsCompact-unique}
+use Rattle.jwk_set.specs.declared.jwk.Jwk.{Jwk}
+use Rattle.sealed.specs.Answers.{was_checked}
+use Rattle.sealed.specs.Seals.{IsSealedBy, Pair, named_key}
+use Rattle.sealed.specs.declared.fault.SealFault.{SealFault}
+use Rattle.sealed.specs.declared.fault.SealFault.TheVariants.{NoKid, NoKey, BadSignature, Memory}
+use Rattle.entity_statement.specs.Use.{current_at}
+use Rattle.chain_check.specs.declared.entry.Entry.{Entry}
+use Rattle.chain_check.specs.Counts.{Counts, CountsPlace, CountsTests, counted}
+use Rattle.chain_check.specs.Signatures.{CurrentAt}
+use Rattle.chain_check.specs.Stages.{claims_in, entry_claims}
+use Rattle.chain_check.proofs.NameLaws.{claims-there}
+
+-- ---- times
+
+module _ (entries : List Entry) (j : ℕ) (d : Entry) (t : ℕ) (short : j < length entries) where
+  abbrev is_current : Bool
+  is_current = current_at (get_or entries j d).statement.iat (get_or entries j d).statement.exp t
+
+  pub current-there : is_current ≡ true → CurrentAt (claims_in entries) t j
+  current-there now statement there =
+      let both = sym (claims-there entries j d short) ∙ there in
+      let same : entry_claims (get_or entries j d) ≡ statement = cc both in
+      subst (λ s. current_at s.iat s.exp t ≡ true) same now
+
+  pub not-current-there : is_current ≡ false → ¬ CurrentAt (claims_in entries) t j
+  not-current-there late current = both_ways is_current late (current (entry_claims (get_or entries j d)) (claims-there entries j d short))
+
+-- ---- one key in two sets
+
+pub sealed-same : (c : Compact) (own superior : List Jwk) → IsCompact c.whole c → named_key c own ≡ named_key c superior → IsSealedBy c.whole own → IsSealedBy c.whole superior
+sealed-same c own superior is same seal =
+    let one = IsCompact-unique c.whole seal.compact c seal.splits is in
+    record {
+      compact = seal.compact;
+      splits = seal.splits;
+      public = seal.public;
+      named = ap (λ x. named_key x superior) one ∙ sym same ∙ ap (λ x. named_key x own) (sym one) ∙ seal.named;
+      verifies = seal.verifies;
+    }
+
+-- ---- counts
+
+counted-plus : (more steps n : ℕ) → counted more (counted steps n) ≡ counted (steps + more) n
+counted-plus zero steps n = ap (λ k. counted k n) (sym (add-zero steps))
+counted-plus (suc more) steps n = ap next_count (counted-plus more steps n) ∙ ap (λ k. counted k n) (sym (add-suc steps more))
+
+pub Counts-plus : {least most before now then least' most' : ℕ} → Counts least most before now → Counts least' most' now then → Counts (least + least') (most + most') before then
+Counts-plus one two = record {
+  steps = one.steps + two.steps;
+  at_least = omega (arith, one.at_least, two.at_least);
+  at_most = omega (arith, one.at_most, two.at_most);
+  counts = two.counts ∙ ap (counted two.steps) one.counts ∙ counted-plus two.steps one.steps _;
+}
+
+pub Counts-within : {least most before now : ℕ} (least' most' : ℕ) → least' ≤ least → most ≤ most' → Counts least most before now → Counts least' most' before now
+Counts-within least' most' low high one = record { steps = one.steps; at_least = omega (arith, one.at_least, low); at_most = omega (arith, one.at_most, high); counts = one.counts }
+
+pub Counts-none : (n : ℕ) → Counts 0 0 n n
+Counts-none n = record { steps = 0; at_least = omega arith; at_most = omega arith; counts = refl }
+
+counts-one : (before now : ℕ) → now ≡ next_count before → Counts 1 1 before now
+counts-one before now one = record { steps = 1; at_least = omega arith; at_most = omega arith; counts = one }
+
+-- a test of one text under one set
+pub tests-sealed : (r : Result Pair SealFault) (seal : Pair) (before now : ℕ) → r ≡ Ok seal → now ≡ cond (was_checked r) (next_count before) before → Counts 1 1 before now
+tests-sealed r seal before now is count = counts-one before now (count ∙ ap (λ x. cond (was_checked x) (next_count before) before) is)
+
+pub tests-any : (r : Result Pair SealFault) (before now : ℕ) → now ≡ cond (was_checked r) (next_count before) before → Counts 0 1 before now
+tests-any (Ok seal) before now count = Counts-within 0 1 (omega arith) (omega arith) (counts-one before now count)
+tests-any (Err BadSignature) before now count = Counts-within 0 1 (omega arith) (omega arith) (counts-one before now count)
+tests-any (Err NoKid) before now count = record { steps = 0; at_least = omega arith; at_most = omega arith; counts = count }
+tests-any (Err NoKey) before now count = record { steps = 0; at_least = omega arith; at_most = omega arith; counts = count }
+tests-any (Err Memory) before now count = record { steps = 0; at_least = omega arith; at_most = omega arith; counts = count }
+
+-- tests of one text under two sets
+pub tests-most : (most : ℕ) (r : Result Bool NoMemory) (before now : ℕ) → CountsTests most r before now → Counts 0 most before now
+tests-most most (Ok true) before now count = Counts-within 0 most (omega arith) (omega arith) count
+tests-most most (Ok false) before now count = count
+tests-most most (Err e) before now count = count
+
+pub tests-two : (r : Result Bool NoMemory) (before now then : ℕ) → Counts 1 1 before now → CountsTests 1 r now then → CountsTests 2 r before then
+tests-two (Ok true) before now then one two = Counts-within 1 2 (omega arith) (omega arith) (Counts-plus one two)
+tests-two (Ok false) before now then one two = Counts-within 0 2 (omega arith) (omega arith) (Counts-plus one two)
+tests-two (Err e) before now then one two = Counts-within 0 2 (omega arith) (omega arith) (Counts-plus one two)
+
+-- how many checks the first j places cost at most
+abbrev pub most_at : ℕ → ℕ
+most_at zero = zero
+most_at (suc j) = suc (suc j)
+
+pub most_at-within : (j : ℕ) → most_at j ≤ j + 1
+most_at-within zero = omega arith
+most_at-within (suc j) = omega arith
+
+pub place-signed : (j before now then : ℕ) → Counts j (most_at j) before now → CountsPlace j (Ok true) now then → Counts (j + 1) (most_at (j + 1)) before then
+place-signed zero before now then one two = Counts-plus one two
+place-signed (suc j) before now then one two =
+    subst (λ n. Counts n (most_at n) before then) (sym (add-one (suc j))) (Counts-within (suc (suc j)) (suc (suc (suc j))) (omega arith) (omega arith) (Counts-plus one two))
+
+pub place-any : (j before now then : ℕ) (r : Result Bool NoMemory) → Counts j (most_at j) before now → CountsPlace j r now then → Counts j (j + 2) before then
+place-any zero before now then r one two = Counts-within 0 2 (omega arith) (omega arith) (Counts-plus one (tests-most 2 r now then two))
+place-any (suc j) before now then r one two = Counts-within (suc j) (suc j + 2) (omega arith) (omega arith) (Counts-plus one (tests-most 1 r now then two))

@@ -1,0 +1,7 @@
+use Rattle.chain_check.specs.Places.{HoldsBelow}
+use Rattle.chain_check.specs.Names.{NamesFit}
+use Rattle.chain_check.specs.Stages.{claims_in}
+use Rattle.chain_check.proofs.names.check_names.Given as goal
+
+abbrev pub invariant-loop-j : goal.invariant-loop-j
+invariant-loop-j l = HoldsBelow (NamesFit (claims_in l.entries) l.anchor) l.j

@@ -1,0 +1,50 @@
+-- A trust chain as a list of texts, the leaf's first, and the statements that it holds (OpenID Federation 1.0 section 4).
+use Rattle.std.specs.Prelude.{◌≡◌, ◌<◌, ◌-◌, ℕ, List, length, take, drop, max, Option, Some, option_and_then, IsSome, slice_get}
+use Rattle.std.specs.List.{filter_map}
+use Rattle.std.specs.Result.{result_ok}
+use Rattle.jws_form.specs.Splitting.{splitting}
+use Rattle.entity_statement.specs.Claims.{Claims}
+use Rattle.entity_statement.specs.Table.{claims_of}
+use Rattle.chain_check.specs.Places.{HoldsBelow, FailsFirst}
+
+abbrev pub Texts : Type 0
+Texts = List (List ℕ)
+
+-- the statement that a text reads as, where it reads as one (section 3.1)
+unfoldable pub statement_of : List ℕ → Option Claims
+statement_of text = option_and_then (λ compact. result_ok (claims_of compact)) (result_ok (splitting text))
+
+-- the statements of the texts that read as one
+unfoldable pub statements_of : Texts → List Claims
+statements_of texts = filter_map statement_of texts
+
+-- how many statements a chain has at most: two configurations and eight subordinate statements
+abbrev pub max_statements : ℕ
+max_statements = 10
+
+-- the place is one of a chain, and the text there reads as a statement
+pub record ReadsAt (texts : Texts) (j : ℕ) : Type 0 where
+  pub near : j < max_statements
+  pub text : List ℕ
+  pub there : slice_get texts j ≡ Some text
+  pub reads : IsSome (statement_of text)
+
+-- the places that are looked at: those of the texts, and the leaf's always
+abbrev pub places_of : Texts → ℕ
+places_of texts = max 1 (length texts)
+
+-- from 1 to 10 texts, each of which reads as a statement
+abbrev pub HasForm : Texts → Type 0
+HasForm texts = HoldsBelow (ReadsAt texts) (places_of texts)
+
+-- the first place at which there is no statement; the empty chain has none at place 0, and a longer one than 10 none at place 10
+abbrev pub LosesForm : Texts → ℕ → Type 0
+LosesForm texts place = FailsFirst (ReadsAt texts) (places_of texts) place
+
+-- the statements but the last, the trust anchor's configuration
+abbrev pub below_anchor : List Claims → List Claims
+below_anchor chain = take (length chain - 1) chain
+
+-- the subordinate statements, from that about the leaf up: the statements between the two configurations
+abbrev pub subordinate : List Claims → List Claims
+subordinate chain = drop 1 (below_anchor chain)

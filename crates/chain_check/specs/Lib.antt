@@ -1,0 +1,10 @@
+pub mod Places
+pub mod Chains
+pub mod Names
+pub mod Signatures
+pub mod Policies
+pub mod Metadata
+pub mod Validity
+pub mod Verdicts
+pub mod Counts
+pub mod Stages

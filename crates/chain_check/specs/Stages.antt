@@ -1,0 +1,92 @@
+-- What the stages of a check say of the texts that were read, and what each answers.
+use Rattle.std.specs.Prelude.{◌≡◌, ℕ, List, map, Option, Some, None, All, Result, Ok, Err}
+use Rattle.fed_json.specs.declared.tree.Json.{Json}
+use Rattle.jws_form.specs.Compact.{IsCompact}
+use Rattle.entity_statement.specs.Claims.{Claims}
+use Rattle.entity_statement.specs.Told.{told}
+use Rattle.chain_limits.specs.declared.place.Place.{Place}
+use Rattle.chain_limits.specs.Limits.{IsVerdict}
+use Rattle.chain_limits.specs.declared.verdict.LimitVerdict.TheVariants as limit
+use Rattle.policy_merge.specs.Policies.{Types}
+use Rattle.policy_merge.specs.declared.fault.PolicyFault.{PolicyFault}
+use Rattle.policy_merge.specs.declared.fault.PolicyFault.TheVariants as merge
+use Rattle.policy_apply.specs.declared.fault.ApplyFault.{ApplyFault}
+use Rattle.policy_apply.specs.declared.fault.ApplyFault.TheVariants as apply
+use Rattle.chain_check.specs.declared.reason.Reason.{Reason}
+use Rattle.chain_check.specs.declared.reason.Reason.TheVariants.{PathLength, Name, Conflict, Policy}
+use Rattle.fed_ports.specs.declared.faults.Memory.{Memory as NoMemory}
+use Rattle.chain_check.specs.declared.entry.Entry.{Entry}
+use Rattle.chain_check.specs.declared.verdict.Resolved.{Resolved}
+use Rattle.chain_check.specs.declared.verdict.Verdict.{Verdict}
+use Rattle.chain_check.specs.declared.verdict.Verdict.TheVariants as verdict
+use Rattle.chain_check.specs.declared.stop.Stop.{Stop}
+use Rattle.chain_check.specs.declared.stop.Stop.TheVariants.{Refused, Memory}
+use Rattle.chain_check.specs.Chains.{Texts, HasForm, statement_of, statements_of}
+use Rattle.chain_check.specs.Policies.{ConflictAt, merged_policy}
+use Rattle.chain_check.specs.Metadata.{limited_places}
+use Rattle.chain_check.specs.Validity.{IsWithin, applied}
+
+-- the texts and the statements that were read
+abbrev pub entry_text : Entry → List ℕ
+entry_text e = e.compact.whole
+
+abbrev pub entry_claims : Entry → Claims
+entry_claims e = told e.statement
+
+abbrev pub texts_in : List Entry → Texts
+texts_in entries = map entry_text entries
+
+abbrev pub claims_in : List Entry → List Claims
+claims_in entries = map entry_claims entries
+
+abbrev pub IsSplit : Entry → Type 0
+IsSplit e = IsCompact e.compact.whole e.compact
+
+-- the text is read, or reads as no statement
+abbrev pub IsReading : List ℕ → Option Entry → Type 0
+IsReading text (Some entry) = (statement_of text ≡ Some (entry_claims entry)) × (entry_text entry ≡ text) × IsSplit entry
+IsReading text None = statement_of text ≡ None
+
+-- the entries are the texts, each read
+pub record AreRead (texts : Texts) (entries : List Entry) : Type 0 where
+  pub form : HasForm texts
+  pub same : texts_in entries ≡ texts
+  pub statements : claims_in entries ≡ statements_of texts
+  pub split : All IsSplit entries
+
+-- Ok where the stage is passed, else the place and the reason of a failure; of want of memory nothing is said
+abbrev pub Passes : {X : Type 0} → Result X Stop → (X → Type 0) → (ℕ → Reason → Type 0) → Type 0
+Passes (Ok x) passed failed = passed x
+Passes (Err (Refused place reason)) passed failed = failed place reason
+Passes (Err Memory) passed failed = Unit {0}
+
+-- the reason tells the limit, the conflict of a merge, or the refusal of a policy
+abbrev pub IsLimit : List Place → ℕ → Reason → Type 0
+IsLimit places place PathLength = IsVerdict places (limit.PathLength place)
+IsLimit places place Name = IsVerdict places (limit.Name place)
+IsLimit places place _ = ⊥
+
+abbrev pub IsConflict : Result Types PolicyFault → Reason → Type 0
+IsConflict outcome (Conflict t p f s) = outcome ≡ Err (merge.Conflict t p f s)
+IsConflict outcome _ = ⊥
+
+abbrev pub IsConflictAt : Result Types ConflictAt → ℕ → Reason → Type 0
+IsConflictAt outcome place (Conflict t p f s) = outcome ≡ Err (record { place = place; conflict = merge.Conflict t p f s })
+IsConflictAt outcome place _ = ⊥
+
+abbrev pub IsRefusal : Result Json ApplyFault → ℕ → Reason → Type 0
+IsRefusal outcome place (Policy t p o) = (place ≡ 0) × (outcome ≡ Err (apply.Refused t p o))
+IsRefusal outcome place _ = ⊥
+
+-- why a chain doesn't resolve, whose texts are read, named, current and signed as they must be
+abbrev pub FailsToResolve : List Claims → ℕ → Reason → Type 0
+FailsToResolve chain place (Conflict t p f s) = IsWithin chain × IsConflictAt (merged_policy chain) place (Conflict t p f s)
+FailsToResolve chain place (Policy t p o) =
+    IsWithin chain × ((policy : Types) × (merged_policy chain ≡ Ok policy) × IsRefusal (applied chain policy) place (Policy t p o))
+FailsToResolve chain place reason = IsLimit (limited_places chain) place reason
+
+-- the verdict that a check comes to
+abbrev pub verdict_in : Result Resolved Stop → Result Verdict NoMemory
+verdict_in (Ok resolved) = Ok (verdict.Valid resolved)
+verdict_in (Err (Refused place reason)) = Ok (verdict.Refused place reason)
+verdict_in (Err Memory) = Err (record {})

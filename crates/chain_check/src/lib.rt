@@ -1,0 +1,21 @@
+//! Trust chains of OpenID Federation 1.0 (section 10.2): a list of signed texts, from the leaf's configuration up to the
+//! trust anchor's, that is valid for an anchor, its keys and a moment, or is refused with its first failure.
+//!
+//! The crates above hand over texts as they were read or fetched. They take the leaf's metadata from the answer on a
+//! valid chain, and tell the place and the reason of the answer on any other.
+#![tactic(auto)]
+
+mod checking;
+mod entry;
+mod metadata;
+mod names;
+mod reading;
+mod reason;
+mod resolving;
+mod signatures;
+mod stop;
+mod verdict;
+
+pub use checking::check_chain;
+pub use reason::Reason;
+pub use verdict::{Resolved, Verdict};

@@ -1,0 +1,98 @@
+ghost use Rattle.std.specs.Prelude.{◌≡◌, ◌<◌, IfOk, IsTrue, Some, length, map};
+ghost use Rattle.fed_json.specs.Forms.{rising};
+ghost use Rattle.fed_json.specs.Trees.{find as find_in};
+ghost use Rattle.policy_merge.specs.Metadata.{IsMetadata};
+ghost use Rattle.chain_check.specs.Metadata.{allowed_metadata as metadata_allowed, limited_places, members_in, name_of, own_metadata as metadata_own, parameters_over as over, put_over as put, type_over as type_put};
+ghost use Rattle.chain_check.specs.Stages.{claims_in};
+
+use crate::entry::Entry;
+use chain_limits::{Place, allowed_types};
+use fed_json::{Json, Member, find};
+use fed_ports::{Duplicate, Memory, Seq};
+use policy_merge::Sides;
+use std::alloc::Global;
+
+/// The leaf's metadata before policies: with its superior's put over it, and without the types that aren't allowed.
+pub(crate) fn allowed_metadata(
+    alloc: Global,
+    entries: &[Entry],
+    places: &Seq<Place>,
+) -> Result<Json, Memory>
+    requires some { 0 < length entries.now }
+    requires places { places.now ≡ limited_places (claims_in entries.now) }
+    ensures tree { IfOk result (λ tree. tree ≡ metadata_allowed (claims_in entries.now)) }
+    ensures metadata { IfOk result IsMetadata }
+{
+    let metadata = own_metadata(alloc, entries)?;
+    allowed_types(alloc, places, &metadata)
+}
+
+fn own_metadata(alloc: Global, entries: &[Entry]) -> Result<Json, Memory>
+    requires { 0 < length entries.now }
+    ensures tree { IfOk result (λ tree. tree ≡ metadata_own (claims_in entries.now)) }
+    ensures metadata { IfOk result IsMetadata }
+{
+    let metadata = &entries[0].statement.metadata;
+    match entries.get(1) {
+        Some(about) => put_over(alloc, &about.statement.metadata, metadata),
+        None => metadata.copy(alloc),
+    }
+}
+
+/// Metadata with the superior's put over it, for the types that it has.
+fn put_over(alloc: Global, upper: &Json, metadata: &Json) -> Result<Json, Memory>
+    requires upper { IsMetadata upper.now }
+    requires own { IsMetadata metadata.now }
+    ensures tree { IfOk result (λ tree. tree ≡ put upper.now metadata.now) }
+    ensures metadata { IfOk result IsMetadata }
+{
+    let upper = members(upper);
+    let mut types = Seq::new(alloc);
+    for entity_type in members(metadata) {
+        types.push(type_over(alloc, upper, entity_type)?)?;
+    }
+    Ok(Json::Object(types))
+}
+
+/// An entity type with what the superior says of it.
+fn type_over(alloc: Global, upper: &[Member], own: &Member) -> Result<Member, Memory>
+    requires upper { IsTrue (rising (map name_of (members_in (find_in own.now.name upper.now)))) }
+    requires own { IsTrue (rising (map name_of (members_in (Some own.now.value)))) }
+    ensures { IfOk result (λ m. m ≡ type_put upper.now own.now) }
+{
+    let above = match find(upper, own.name.as_slice()) {
+        Some(tree) => members(tree),
+        None => &[],
+    };
+    let parameters = parameters_over(alloc, above, members(&own.value))?;
+    Ok(Member {
+        name: own.name.copy(alloc)?,
+        value: Json::Object(parameters),
+    })
+}
+
+/// The members of an object, and none of any other tree.
+fn members(tree: &Json) -> &[Member]
+    ensures { result.now ≡ members_in (Some tree.now) }
+{
+    match tree {
+        Json::Object(members) => members.as_slice(),
+        _ => &[],
+    }
+}
+
+/// The parameters of both, in byte order of their names; of two with one name the superior's.
+fn parameters_over(alloc: Global, upper: &[Member], own: &[Member]) -> Result<Seq<Member>, Memory>
+    requires upper { IsTrue (rising (map name_of upper.now)) }
+    requires own { IsTrue (rising (map name_of own.now)) }
+    ensures { IfOk result (λ all. all ≡ over upper.now own.now) }
+{
+    let mut all = Seq::new(alloc);
+    let mut sides = Sides { upper, lower: own };
+    while let Some(side) = sides.next() {
+        if let Some(member) = side.upper.or(side.lower) {
+            all.push(member.copy(alloc)?)?;
+        }
+    }
+    Ok(all)
+}

@@ -1,0 +1,148 @@
+ghost use Rattle.std.specs.Prelude.{◌≡◌, ◌<◌, ◌≤◌, ◌+◌, ◌↔◌, All, IfOk, IsTrue, Some, length};
+ghost use Rattle.jws_form.specs.Compact.{IsCompact};
+ghost use Rattle.sealed.specs.Seals.{IsSealedBy, named_key};
+ghost use Rattle.chain_check.specs.declared.reason.Reason.TheVariants.{Times, Signature};
+ghost use Rattle.chain_check.specs.Places.{FailsFirst};
+ghost use Rattle.chain_check.specs.Counts.{CountsChecks, CountsPlace, CountsTests};
+ghost use Rattle.chain_check.specs.Signatures.{AreCurrent, AreSigned, CurrentAt, SignedAt, superior_keys as keys_above};
+ghost use Rattle.chain_check.specs.Stages.{IsSplit, Passes, claims_in, texts_in};
+
+use crate::entry::Entry;
+use crate::reason::Reason;
+use crate::stop::Stop;
+use fed_ports::{Ledger, Memory, Steps};
+use jwk_set::JwkSet;
+use jws_form::Compact;
+use sealed::{SealFault, check_sealed};
+use std::alloc::Global;
+
+/// Looks whether each statement is current at the moment.
+pub(crate) fn check_times(entries: &[Entry], t: u64) -> Result<(), Stop>
+    ensures { Passes result (λ _. AreCurrent (claims_in entries.now) t)
+        (λ place reason. (reason ≡ Times)
+        × FailsFirst (CurrentAt (claims_in entries.now) t) (length (claims_in entries.now)) place) }
+{
+    for (j, entry) in entries.iter().enumerate() {
+        if !entry.statement.is_current(t) {
+            return Err(Stop::Refused {
+                place: j as u64,
+                reason: Reason::Times,
+            });
+        }
+    }
+    Ok(())
+}
+
+/// Looks whether each text is signed by a key of its superior, the last by one of the trust anchor's keys, and the leaf's
+/// by a key of its own too. Each pair of a text and a key is tested once.
+pub(crate) fn check_signatures<L: Ledger>(
+    alloc: Global,
+    entries: &[Entry],
+    keys: &JwkSet,
+    steps: &mut Steps<L>,
+) -> Result<(), Stop>
+    requires { All IsSplit entries.now }
+    ensures signed { Passes result (λ _. AreSigned (texts_in entries.now) (claims_in entries.now) keys.now.keys)
+        (λ place reason. (reason ≡ Signature)
+        × FailsFirst (SignedAt (texts_in entries.now) (claims_in entries.now) keys.now.keys)
+        (length (claims_in entries.now)) place) }
+    ensures counted { CountsChecks (length entries.now) result (L.count steps.old.ledger) (L.count steps.new.ledger) }
+{
+    for j in 0..entries.len() {
+        if !is_signed(alloc, entries, keys, j, steps)? {
+            return Err(Stop::Refused {
+                place: j as u64,
+                reason: Reason::Signature,
+            });
+        }
+    }
+    Ok(())
+}
+
+fn is_signed<L: Ledger>(
+    alloc: Global,
+    entries: &[Entry],
+    keys: &JwkSet,
+    j: usize,
+    steps: &mut Steps<L>,
+) -> Result<bool, Memory>
+    requires within { j < length entries.now }
+    requires split { All IsSplit entries.now }
+    ensures signed { IfOk result (λ signed. IsTrue signed
+        ↔ SignedAt (texts_in entries.now) (claims_in entries.now) keys.now.keys j) }
+    ensures counted { CountsPlace j result (L.count steps.old.ledger) (L.count steps.new.ledger) }
+{
+    let entry = &entries[j];
+    let superior = superior_keys(entries, keys, j);
+    if j == 0 {
+        is_sealed_by_both(
+            alloc,
+            &entry.compact,
+            &entry.statement.jwks,
+            superior,
+            steps,
+        )
+    } else {
+        is_sealed(alloc, &entry.compact, superior, steps)
+    }
+}
+
+/// The keys in the next statement, or the trust anchor's for the last.
+fn superior_keys<'a>(entries: &'a [Entry], keys: &'a JwkSet, j: usize) -> &'a JwkSet
+    requires { j < length entries.now }
+    ensures { result.now.keys ≡ keys_above (claims_in entries.now) keys.now.keys j }
+{
+    match entries.get(j + 1) {
+        Some(superior) => &superior.statement.jwks,
+        None => keys,
+    }
+}
+
+fn is_sealed<L: Ledger>(
+    alloc: Global,
+    compact: &Compact,
+    set: &JwkSet,
+    steps: &mut Steps<L>,
+) -> Result<bool, Memory>
+    requires { IsCompact compact.now.whole compact.now }
+    ensures sealed { IfOk result (λ sealed. IsTrue sealed ↔ IsSealedBy compact.now.whole set.now.keys) }
+    ensures counted { CountsTests 1 result (L.count steps.old.ledger) (L.count steps.new.ledger) }
+{
+    match check_sealed(alloc, compact, set, steps) {
+        Ok(_) => Ok(true),
+        Err(SealFault::Memory) => Err(Memory),
+        Err(_) => Ok(false),
+    }
+}
+
+/// Whether the text is sealed by a key of each of two sets. One check does where its header names one key in both.
+fn is_sealed_by_both<L: Ledger>(
+    alloc: Global,
+    compact: &Compact,
+    own: &JwkSet,
+    superior: &JwkSet,
+    steps: &mut Steps<L>,
+) -> Result<bool, Memory>
+    requires { IsCompact compact.now.whole compact.now }
+    ensures sealed { IfOk result (λ sealed. IsTrue sealed
+        ↔ (IsSealedBy compact.now.whole own.now.keys × IsSealedBy compact.now.whole superior.now.keys)) }
+    ensures counted { CountsTests 2 result (L.count steps.old.ledger) (L.count steps.new.ledger) }
+{
+    if !is_sealed(alloc, compact, own, steps)? {
+        return Ok(false);
+    }
+    if name_one_key(compact, own, superior) {
+        return Ok(true);
+    }
+    is_sealed(alloc, compact, superior, steps)
+}
+
+/// Whether the text's header names the same key in both sets, or none in either.
+fn name_one_key(compact: &Compact, own: &JwkSet, superior: &JwkSet) -> bool
+    ensures { IsTrue result ↔ (named_key compact.now own.now.keys ≡ named_key compact.now superior.now.keys) }
+{
+    match &compact.kid {
+        Some(kid) => own.key_of(kid) == superior.key_of(kid),
+        None => true,
+    }
+}
