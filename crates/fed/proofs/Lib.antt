@@ -1,5 +1,12 @@
-pub mod CommandLaws
+pub mod CheckLaws
 pub mod FindingLaws
+pub mod KeygenLaws
+pub mod ReadLaws
+pub mod ReplyLaws
+pub mod RingForms
+pub mod RingLaws
+pub mod SealingLaws
 pub mod StreamLaws
-pub mod VerifyLaws
+pub mod TopLaws
+pub mod VerdictLaws
 pub mod Writes

@@ -1,84 +1,185 @@
--- What the program answers: a status, and the text that it writes.
-use Rattle.std.specs.Prelude.{◌≡◌, ◌⊎◌, ◌≤◌, ◌<◌, ℕ, List, [], ◌∷◌, ◌++◌, length, take, codes, Option, Some, None}
+-- What the program answers: a status, the text that it writes, and the file that it keeps.
+use Rattle.std.specs.Prelude.{◌≡◌, ◌⊎◌, ◌≤◌, ◌<◌, ℕ, List, length, take, nat_lt, Bool, true, false, IsTrue, Option, Some, None, Result, Ok, Err, IfSome, MatchOption, if◌then◌else◌}
 use Rattle.fed_ports.specs.Bytes.{Appends}
-use Rattle.fed_ports.specs.Causes.{Rose}
-use Rattle.fed.specs.declared.help.TheConstants.{HELP, VERSION}
+use Rattle.fed_ports.specs.Causes.{Rose, next_count}
+use Rattle.fed_ports.specs.Stores.{Files, IsFile, Keeps}
+use Rattle.fed_ports.specs.Times.{Told}
+use Rattle.fed_ports.specs.declared.faults.Failed.{Failed}
 use Rattle.fed.specs.declared.answer.Stop.{Stop}
-use Rattle.fed.specs.declared.answer.Stop.TheVariants.{Source, Memory}
+use Rattle.fed.specs.declared.answer.Stop.TheVariants.{Source, Store, Memory}
 use Rattle.fed.specs.declared.command.Command.{Command}
-use Rattle.fed.specs.declared.command.Command.TheVariants.{Verify, Help, Version, Faulty}
-use Rattle.fed.specs.declared.finding.Finding.{Finding}
-use Rattle.fed.specs.Findings.{IsFinding, status_of, line_of}
+use Rattle.fed.specs.declared.command.Command.TheVariants.{Verify, Keygen, Issue, Check, Help, Version, Faulty}
+use Rattle.fed.specs.declared.reply.Reply.{Reply}
+use Rattle.fed.specs.declared.step.Step.{Step}
+use Rattle.fed.specs.declared.step.Step.TheVariants.{Done, Awaits}
+use Rattle.fed.specs.Steps.{IsStep, IsOutcome}
 use Rattle.fed.specs.Streams.{AtEnd, input_limit, without_line_end}
 
--- the status and the text are these
-pub record Is (wanted : ℕ) (line : List ℕ) (status : ℕ) (text : List ℕ) : Type 0 where
-  pub status_is : status ≡ wanted
-  pub text_is : text ≡ line
+-- the file that a command names
+abbrev pub named : Command → Option (List ℕ)
+named (Verify key) = None
+named (Keygen ring at exp) = Some ring
+named (Issue ring) = Some ring
+named (Check anchor keys at) = Some keys
+named Help = None
+named Version = None
+named Faulty = None
 
--- what `verify` answers on an input: `input` where it is too long, else what is found of the text
-abbrev pub IsVerifyAnswer : List ℕ → List ℕ → ℕ → List ℕ → Type 0
-IsVerifyAnswer key input status text =
-    ((input_limit < length input) × Is 2 (codes "input" ++ 10 ∷ []) status text)
-    ⊎ ((length input ≤ input_limit) × ((f : Finding) × IsFinding key (without_line_end input) f × Is (status_of f) (line_of f) status text))
+-- the command may want an input
+abbrev pub wants_input : Command → Bool
+wants_input (Verify key) = true
+wants_input (Keygen ring at exp) = true
+wants_input (Issue ring) = true
+wants_input (Check anchor keys at) = true
+wants_input Help = false
+wants_input Version = false
+wants_input Faulty = false
 
--- what the command answers on an input, the outside's faults and want of memory aside
-abbrev pub IsAnswer : Command → List ℕ → ℕ → List ℕ → Type 0
-IsAnswer (Verify key) input status text = IsVerifyAnswer key input status text
-IsAnswer Help input status text = Is 0 HELP.now status text
-IsAnswer Version input status text = Is 0 VERSION.now status text
-IsAnswer Faulty input status text = Is 2 (codes "words" ++ 10 ∷ []) status text
+-- the text of an input: the bytes without their one line end, and none where they are too long
+abbrev pub text_of : List ℕ → Option (List ℕ)
+text_of input = if nat_lt input_limit (length input) then None else Some (without_line_end input)
+
+-- what the command answers on the bytes of its file, where there is one, and on an input, at a moment in seconds since 1970: the
+-- outside's faults and want of memory aside
+pub record IsReply (command : Command) (moment : ℕ) (file : Option (List ℕ)) (input : List ℕ) (reply : Reply) : Type 0 where
+  pub step : Step
+  pub is_step : IsStep command moment file step
+  pub outcome : IsOutcome step (text_of input) reply
 
 -- these bytes are the input, where the source tells what it has left
 abbrev pub MayBe : Option (List ℕ) → List ℕ → Type 0
 MayBe None input = Unit {0}
 MayBe (Some left) input = left ≡ input
 
--- the same, where the command reads its input: the others answer alike on any
-abbrev pub Fixes : Command → Option (List ℕ) → List ℕ → Type 0
-Fixes (Verify key) left input = left ≡ Some input
-Fixes Help left input = Unit {0}
-Fixes Version left input = Unit {0}
-Fixes Faulty left input = Unit {0}
+-- this is the file that the command names, where the store tells its files
+abbrev pub IsNamed : Command → Option Files → Option (List ℕ) → Type 0
+IsNamed command files file = IfSome (named command) (λ name. IsFile files name file)
 
--- after the answer of a command that reads its input nothing is left; the others take nothing
-abbrev pub IsRead : Command → Option (List ℕ) → Option (List ℕ) → ℕ → Type 0
-IsRead (Verify key) old new status = status ≤ 1 → AtEnd new
-IsRead Help old new status = new ≡ old
-IsRead Version old new status = new ≡ old
-IsRead Faulty old new status = new ≡ old
+-- a step that wants an input reads it to its end, unless it is too long, and no other reads any
+abbrev pub IsRead : Step → List ℕ → Option (List ℕ) → Option (List ℕ) → Type 0
+IsRead (Done reply) input left left' = left' ≡ left
+IsRead (Awaits job) input left left' = length input ≤ input_limit → AtEnd left'
 
--- this is so, or the source or the sink failed, or memory was wanting
+-- the reply is the command's on its file and its input, which was read
+pub record IsReached (command : Command) (moment : ℕ) (files : Option Files) (left left' : Option (List ℕ)) (reply : Reply) : Type 0 where
+  pub file : Option (List ℕ)
+  pub input : List ℕ
+  pub is_file : IsNamed command files file
+  pub is_input : MayBe left input
+  pub is_reply : IsReply command moment file input reply
+  pub read : IsRead is_reply.step input left left'
+
+-- what a keeping leaves of the files: where there are bytes to keep the command's file has them, or may have them after a failure
+abbrev pub IsKeptAs : Command → Option Files → Option Files → Option (List ℕ) → Result Unit Failed → Type 0
+IsKeptAs command files files' None result = files' ≡ files
+IsKeptAs command files files' (Some bytes) result = MatchOption (named command) (files' ≡ files) (λ name. Keeps files files' name bytes result)
+
+-- the bytes to keep are the command's file, every other file is as before, and so are all where there is nothing to keep
+abbrev pub Stands : Command → Option Files → Option Files → Option (List ℕ) → Type 0
+Stands command files files' kept = IsKeptAs command files files' kept (Ok tt)
+
+-- the file that the command names is this one, where it names one
+abbrev pub FixesFile : Command → Option Files → Option (List ℕ) → Type 0
+FixesFile command files file = IfSome (named command) (λ name. (told : Files) × (files ≡ Some told) × (told name ≡ file))
+
+-- the input is this one, where the command may want one
+abbrev pub FixesInput : Command → Option (List ℕ) → List ℕ → Type 0
+FixesInput command left input = IsTrue (wants_input command) → left ≡ Some input
+
+-- this is so, or the source, the sink or the store failed, or memory was wanting
 abbrev pub Or : Type 0 → ℕ → Type 0
-Or answered status = answered ⊎ ((status ≡ 3) ⊎ ((status ≡ 4) ⊎ (status ≡ 5)))
+Or answered status = answered ⊎ ((status ≡ 3) ⊎ ((status ≡ 4) ⊎ ((status ≡ 5) ⊎ (status ≡ 6))))
 
--- the program answers as the command does on its input, and writes that text and nothing else
-pub record Answers (command : Command) (left left' held held' : Option (List ℕ)) (status : ℕ) : Type 0 where
-  -- a status up to 2 comes only with the answer on the input, whose whole text is written
-  pub done : status ≤ 2 → (input : List ℕ) × (text : List ℕ) × MayBe left input × IsAnswer command input status text × Appends held held' text
-  -- and where there is one, it comes and is written, but for a fault of the outside or want of memory
-  pub exact : (input : List ℕ) (wanted : ℕ) (text : List ℕ) → Fixes command left input → IsAnswer command input wanted text → Or ((status ≡ wanted) × Appends held held' text) status
-  -- after a fault of the sink a beginning of that text stands
-  pub cut : status ≡ 4 → (input : List ℕ) × (wanted : ℕ) × (text : List ℕ) × (n : ℕ) × MayBe left input × IsAnswer command input wanted text × Appends held held' (take n text)
-  -- after a fault of the source and after want of memory nothing is written
-  pub silent : (status ≡ 3) ⊎ (status ≡ 5) → held' ≡ held
-  -- the input was read to its end
-  pub read : IsRead command left left' status
+-- what an outside that tells it was before the call, and what it is after it
+pub record Outside : Type 0 where
+  pub left : Option (List ℕ)
+  pub left' : Option (List ℕ)
+  pub held : Option (List ℕ)
+  pub held' : Option (List ℕ)
+  pub files : Option Files
+  pub files' : Option Files
+
+-- the program answers as the command does on its file and its input, writes that text and nothing else, and keeps that file and no other
+pub record Answers (command : Command) (moment : ℕ) (o : Outside) (status : ℕ) : Type 0 where
+  -- a status up to 2 comes only with the reply, whose whole text is written, and whose file stands
+  pub done : status ≤ 2 → (reply : Reply) × IsReached command moment o.files o.left o.left' reply × (status ≡ reply.status)
+      × Appends o.held o.held' reply.text × Stands command o.files o.files' reply.kept
+  -- and where there is one, it comes and is written and kept, but for a fault of the outside or want of memory
+  pub exact : (file : Option (List ℕ)) (input : List ℕ) (reply : Reply) → FixesFile command o.files file → FixesInput command o.left input
+      → IsReply command moment file input reply
+      → Or ((status ≡ reply.status) × Appends o.held o.held' reply.text × Stands command o.files o.files' reply.kept) status
+  -- after a fault of the sink a beginning of that text is written, and the file stands
+  pub cut : status ≡ 4 → (reply : Reply) × (n : ℕ) × IsReached command moment o.files o.left o.left' reply
+      × Appends o.held o.held' (take n reply.text) × Stands command o.files o.files' reply.kept
+  -- after a fault of the store all files are as before, or the one that was to be kept is the old or the new one
+  pub torn : status ≡ 6 → (o.files' ≡ o.files) ⊎ ((reply : Reply) × (e : Failed) × IsReached command moment o.files o.left o.left' reply
+      × IsKeptAs command o.files o.files' reply.kept (Err e))
+  -- after a fault of the source and after want of memory nothing is kept
+  pub untouched : (status ≡ 3) ⊎ (status ≡ 5) → o.files' ≡ o.files
+  -- and nothing is written after these or a fault of the store
+  pub silent : (status ≡ 3) ⊎ ((status ≡ 5) ⊎ (status ≡ 6)) → o.held' ≡ o.held
 
 -- the status comes only where the count of faults rose, and always where it grew
 pub record Tells (wanted before now status : ℕ) : Type 0 where
   pub only : status ≡ wanted → Rose before now
   pub always : before < now → status ≡ wanted
 
--- an answer that was found: the command's on its input, which was read, and no call failed
-pub record IsAnswered (command : Command) (left left' : Option (List ℕ)) (before now status : ℕ) (text : List ℕ) : Type 0 where
-  pub steady : now ≡ before
-  pub small : status ≤ 2
-  pub answer : (input : List ℕ) × MayBe left input × IsAnswer command input status text
-  pub exact : (input : List ℕ) (wanted : ℕ) (line : List ℕ) → Fixes command left input → IsAnswer command input wanted line → Is status text wanted line
-  pub read : IsRead command left left' status
+-- why there is no reply: the one object's count of faults rose and the other's is as before, or memory was wanting and both are
+abbrev pub StopsAs : Stop → ℕ → ℕ → ℕ → ℕ → Type 0
+StopsAs Source source source' store store' = Rose source source' × (store' ≡ store)
+StopsAs Store source source' store store' = (source' ≡ source) × Rose store store'
+StopsAs Memory source source' store store' = (source' ≡ source) × (store' ≡ store)
 
--- none was found: the source failed, or memory was wanting
-abbrev pub StopsAs : Command → Option (List ℕ) → Option (List ℕ) → ℕ → ℕ → Stop → Type 0
-StopsAs command left left' before now Source = Rose before now × IsRead command left left' 3
-StopsAs command left left' before now Memory = (now ≡ before) × IsRead command left left' 5
+-- the status that says so
+abbrev pub stop_status : Stop → ℕ
+stop_status Source = 3
+stop_status Store = 6
+stop_status Memory = 5
+
+-- how a run ends that had a reply: it is kept and written; or kept, and the sink failed in the writing; or the store failed in the keeping
+abbrev pub IsEnded : Command → Reply → Option Files → Option Files → Option (List ℕ) → Option (List ℕ) → ℕ → ℕ → ℕ → ℕ → ℕ → Type 0
+IsEnded command reply files files' held held' store store' sink sink' status =
+    ((status ≡ reply.status) × (store' ≡ store) × (sink' ≡ sink) × Appends held held' reply.text × Stands command files files' reply.kept)
+    ⊎ (((status ≡ 4) × (store' ≡ store) × Rose sink sink' × ((n : ℕ) × Appends held held' (take n reply.text)) × Stands command files files' reply.kept)
+    ⊎ ((status ≡ 6) × Rose store store' × (sink' ≡ sink) × (held' ≡ held) × ((e : Failed) × IsKeptAs command files files' reply.kept (Err e))))
+
+-- a clock's count of readings, its last reading and what it tells
+pub record Readings : Type 0 where
+  pub count : ℕ
+  pub last : ℕ
+  pub told : Option (List ℕ)
+
+-- one reading was made
+pub record IsOneReading (before now : Readings) : Type 0 where
+  pub counted : now.count ≡ next_count before.count
+  pub added : Told before.told now.told now.last
+
+-- the clock is read once by a check without a moment of its own, and by nothing else; a check for which memory is wanting may not read it
+abbrev pub UsesClock : Command → Readings → Readings → ℕ → Type 0
+UsesClock (Check anchor keys None) before now status = IsOneReading before now ⊎ ((now ≡ before) × (status ≡ 5))
+UsesClock (Check anchor keys (Some at)) before now status = now ≡ before
+UsesClock (Verify key) before now status = now ≡ before
+UsesClock (Keygen ring at exp) before now status = now ≡ before
+UsesClock (Issue ring) before now status = now ≡ before
+UsesClock Help before now status = now ≡ before
+UsesClock Version before now status = now ≡ before
+UsesClock Faulty before now status = now ≡ before
+
+-- the text of an input was read, and no call failed
+pub record IsTextRead (left left' : Option (List ℕ)) (before now : ℕ) (text : Option (List ℕ)) : Type 0 where
+  pub steady : now ≡ before
+  pub input : List ℕ
+  pub is_input : MayBe left input
+  pub is_text : text_of input ≡ text
+  pub ended : length input ≤ input_limit → AtEnd left'
+
+-- the moment of a check that has none of its own is the clock's, which is read once; no other command reads it
+abbrev pub IsMomentFor : Command → Readings → Readings → ℕ → Type 0
+IsMomentFor (Check anchor keys None) before now moment = IsOneReading before now × (moment ≡ now.last)
+IsMomentFor (Check anchor keys (Some at)) before now moment = now ≡ before
+IsMomentFor (Verify key) before now moment = now ≡ before
+IsMomentFor (Keygen ring at exp) before now moment = now ≡ before
+IsMomentFor (Issue ring) before now moment = now ≡ before
+IsMomentFor Help before now moment = now ≡ before
+IsMomentFor Version before now moment = now ≡ before
+IsMomentFor Faulty before now moment = now ≡ before

@@ -1,27 +1,26 @@
-// The answer of a command.
+// From a command to its reply: the file that it names, and then its input.
 
-ghost use Rattle.std.specs.Prelude.{◌≡◌, ◌≤◌, MatchResult};
-ghost use Rattle.fed.specs.Answers.{IsAnswered, StopsAs};
+ghost use Rattle.std.specs.Prelude.{◌≡◌, ◌≤◌, ℕ, List, Option, MatchResult, IfErr, IfOk, OnOk};
+ghost use Rattle.std.specs.Option.{option_copied};
+ghost use Rattle.fed_ports.specs.Causes.{HasCause};
+ghost use Rattle.fed.specs.Answers.{named, text_of, MayBe, IsNamed, IsRead, IsReached, IsKeptAs, StopsAs, IsTextRead};
+ghost use Rattle.fed.specs.Sealings.{RepliesSealed};
+ghost use Rattle.fed.specs.Steps.{IsFileOf};
 
 use crate::command::Command;
-use crate::finding::examine;
-use crate::help::{HELP, VERSION};
 use crate::input::{ReadEnd, read_all, trimmed};
-use fed_ports::{Memory, Source, Text};
+use crate::reply::Reply;
+use crate::step::{File, Step, finish, first_step};
+use fed_ports::{Failed, Memory, Source, Store, StoreFault, Text};
 use std::alloc::Global;
 
-/// The exit status, and the text that goes to standard output.
-#[derive(Drop)]
-pub struct Answer {
-    pub status: u8,
-    pub text: Text,
-}
-
-/// Why there is no answer.
+/// Why there is no reply.
 #[derive(Clone, Copy, Debug, PartialEq, Eq)]
 pub enum Stop {
     /// The source failed.
     Source,
+    /// The store failed.
+    Store,
     /// Memory was wanting.
     Memory,
 }
@@ -36,46 +35,81 @@ impl From<Memory> for Stop {
     }
 }
 
-/// The command's answer, for which the input is read where the command has one.
-pub fn answer_to<S: Source>(alloc: Global, command: &Command, input: &mut S) -> Result<Answer, Stop>
-    ensures later { S.read_faults input.old ≤ S.read_faults input.new }
-    ensures answer { MatchResult result
-        (λ a. IsAnswered command.now (S.left input.old) (S.left input.new) (S.read_faults input.old) (S.read_faults input.new) a.status a.text)
-        (StopsAs command.now (S.left input.old) (S.left input.new) (S.read_faults input.old) (S.read_faults input.new)) }
+/// The name of the file that the command looks at or keeps.
+fn named(command: &Command) -> Option<&Text>
+    ensures { option_copied result ≡ named command.now }
 {
     match command {
-        Command::Verify(key) => verify_answer(alloc, key, input),
-        Command::Help => constant(alloc, 0, HELP),
-        Command::Version => constant(alloc, 0, VERSION),
-        Command::Faulty => constant(alloc, 2, b"words\n"),
+        Command::Keygen { ring, .. } | Command::Issue { ring } => Some(ring),
+        Command::Check { keys, .. } => Some(keys),
+        Command::Verify(_) | Command::Help | Command::Version | Command::Faulty => None,
     }
 }
 
-/// An answer that no input changes.
-fn constant(alloc: Global, status: u8, text: &[u8]) -> Result<Answer, Stop>
-    ensures { MatchResult result (λ a. (a.status ≡ status) × (a.text ≡ text.now)) (λ stop. stop ≡ Stop.Memory) }
+/// The file that the command names.
+fn load<D: Store>(alloc: Global, command: &Command, store: &mut D) -> Result<File, Stop>
+    ensures files { D.files store.new ≡ D.files store.old }
+    ensures steady { OnOk result (D.store_faults store.new ≡ D.store_faults store.old) }
+    ensures found { IfOk result (λ file. (bytes : Option (List ℕ)) × IsNamed command.now (D.files store.old) bytes × IsFileOf file bytes) }
+    ensures stops { IfErr result (λ stop. (source : ℕ) → StopsAs stop source source (D.store_faults store.old) (D.store_faults store.new)) }
 {
-    let text = Text::of(alloc, text)?;
-    Ok(Answer { status, text })
+    let Some(name) = named(command) else {
+        return Ok(File::Absent);
+    };
+    match store.load(alloc, name) {
+        Ok(Some(bytes)) => Ok(File::Whole(bytes)),
+        Ok(None) => Ok(File::Absent),
+        Err(StoreFault::TooLong) => Ok(File::TooLong),
+        Err(StoreFault::Failed) => Err(Stop::Store),
+        Err(StoreFault::Memory) => Err(Stop::Memory),
+    }
 }
 
-/// What is found of the text on the input, or that the input is too long.
-fn verify_answer<S: Source>(alloc: Global, key: &[u8; 32], input: &mut S) -> Result<Answer, Stop>
-    ensures later { S.read_faults input.old ≤ S.read_faults input.new }
-    ensures answer { MatchResult result
-        (λ a. IsAnswered (Command.Verify key.now) (S.left input.old) (S.left input.new) (S.read_faults input.old) (S.read_faults input.new) a.status a.text)
-        (StopsAs (Command.Verify key.now) (S.left input.old) (S.left input.new) (S.read_faults input.old) (S.read_faults input.new)) }
+/// The text of the input, or `None` where it is too long.
+fn read_text<S: Source>(alloc: Global, input: &mut S) -> Result<Option<Text>, Stop>
+    ensures read { IfOk result (IsTextRead (S.left input.old) (S.left input.new) (S.read_faults input.old) (S.read_faults input.new)) }
+    ensures stops { IfErr result (λ stop. (store : ℕ) → StopsAs stop (S.read_faults input.old) (S.read_faults input.new) store store) }
 {
-    let bytes = match read_all(alloc, input) {
-        Ok(bytes) => bytes,
-        Err(ReadEnd::Fault) => return Err(Stop::Source),
-        Err(ReadEnd::TooLong) => return constant(alloc, 2, b"input\n"),
-        Err(ReadEnd::Memory) => return Err(Stop::Memory),
-    };
-    let found = examine(alloc, key, trimmed(bytes.as_slice()))?;
-    let text = found.line(alloc)?;
-    Ok(Answer {
-        status: found.status(),
-        text,
-    })
+    match read_all(alloc, input) {
+        Ok(bytes) => Ok(Some(Text::of(alloc, trimmed(bytes.as_slice()))?)),
+        Err(ReadEnd::Fault) => Err(Stop::Source),
+        Err(ReadEnd::TooLong) => Ok(None),
+        Err(ReadEnd::Memory) => Err(Stop::Memory),
+    }
+}
+
+/// The command's reply on its file and its input, at a moment in seconds since 1970. No file is changed.
+pub fn reply_to<S: Source, D: Store>(
+    alloc: Global,
+    command: &Command,
+    moment: u64,
+    input: &mut S,
+    store: &mut D,
+) -> Result<Reply, Stop>
+    ensures files { D.files store.new ≡ D.files store.old }
+    ensures steady { MatchResult result
+        (λ reply. (S.read_faults input.new ≡ S.read_faults input.old) × (D.store_faults store.new ≡ D.store_faults store.old))
+        (λ stop. StopsAs stop (S.read_faults input.old) (S.read_faults input.new) (D.store_faults store.old) (D.store_faults store.new)) }
+    ensures reply { IfOk result (IsReached command.now moment (D.files store.old) (S.left input.old) (S.left input.new)) }
+    ensures sealed { IfOk result (RepliesSealed command.now (D.files store.old)) }
+{
+    let file = load(alloc, command, store)?;
+    match first_step(alloc, command, moment, &file)? {
+        Step::Done(reply) => Ok(reply),
+        Step::Awaits(job) => {
+            let text = read_text(alloc, input)?;
+            Ok(finish(alloc, &job, text.as_ref())?)
+        }
+    }
+}
+
+/// Keeps the bytes, where there are some, as the file that the command names.
+pub fn keep<D: Store>(command: &Command, kept: Option<&Text>, store: &mut D) -> Result<(), Failed>
+    ensures kept { IsKeptAs command.now (D.files store.old) (D.files store.new) (option_copied kept.entry) result }
+    ensures cause { HasCause (D.store_faults store.old) (D.store_faults store.new) result }
+{
+    match (named(command), kept) {
+        (Some(name), Some(bytes)) => store.keep(name, bytes.as_slice()),
+        _ => Ok(()),
+    }
 }

@@ -1,9 +1,11 @@
 // Whether a text is a valid entity configuration under a public key.
 
-ghost use Rattle.std.specs.Prelude.{◌≡◌, ℕ, IfOk, ◌↔◌, IsTrue};
+ghost use Rattle.std.specs.Prelude.{◌≡◌, ◌↔◌, IfOk, IsTrue};
 ghost use Rattle.fed.specs.Findings.{IsFinding, status_of, line_of};
 
-use crate::configuration::read_statement;
+use crate::configuration::{SignedStatement, read_statement};
+use entity_id::EntityId;
+use entity_statement::Statement;
 use fed_ports::{Memory, Plain, Steps, Text};
 use slh_dsa::verify;
 use std::alloc::Global;
@@ -11,8 +13,8 @@ use std::alloc::Global;
 /// What is found of a text under a public key.
 #[derive(Drop)]
 pub enum Finding {
-    /// It is an entity configuration of this subject, and its signature verifies.
-    Valid(Text),
+    /// It is the configuration of this entity, and its signature verifies.
+    Valid(EntityId),
     /// It isn't an entity statement.
     Form,
     /// Its issuer isn't its subject.
@@ -25,22 +27,29 @@ pub enum Finding {
 pub fn examine(alloc: Global, key: &[u8; 32], text: &[u8]) -> Result<Finding, Memory>
     ensures { IfOk result (IsFinding key.now text.now) }
 {
-    let Some(statement) = read_statement(alloc, text)? else {
+    let Some(SignedStatement { compact, statement }) = read_statement(alloc, text)? else {
         return Ok(Finding::Form);
     };
-    if statement.iss.as_slice() != statement.sub.as_slice() {
+    if !is_own(&statement) {
         return Ok(Finding::Names);
     }
     let mut steps = Steps {
         ledger: Plain::new(),
     };
-    let signed = statement.compact.signed.as_slice();
-    let signature = statement.compact.signature.as_slice();
+    let signed = compact.signed.as_slice();
+    let signature = compact.signature.as_slice();
     if verify(key, signed, signature, &mut steps) {
         Ok(Finding::Valid(statement.sub))
     } else {
         Ok(Finding::Signature)
     }
+}
+
+/// Whether the statement is its issuer's about itself.
+fn is_own(statement: &Statement) -> bool
+    ensures { IsTrue result ↔ (statement.now.iss ≡ statement.now.sub) }
+{
+    statement.iss.text() == statement.sub.text()
 }
 
 impl Finding {
@@ -64,7 +73,7 @@ impl Finding {
         match self {
             Finding::Valid(sub) => {
                 let mut line = Text::of(alloc, b"valid ")?;
-                line.append(sub.as_slice())?;
+                line.append(sub.text())?;
                 line.push(b'\n')?;
                 Ok(line)
             }

@@ -4,23 +4,33 @@
 pub const HELP: &[u8] = b"fed: an authority and trust chain resolver of OpenID Federation 1.0
 
 usage: fed verify PUB < TEXT
+       fed keygen --ring FILE --at T --exp T < SEEDS
+       fed issue --ring FILE --typ entity-statement+jwt < CLAIMS
+       fed check --anchor ID --keys FILE [--at T] < CHAIN
        fed --help | --version
 
-verify PUB    checks one entity configuration, a signed text that is read from
-              standard input: whether it reads, its issuer is its subject, and
-              its signature verifies under the public key PUB. PUB is the
-              base64url of PK.seed and PK.root of SLH-DSA-SHA2-128s (FIPS 205),
-              43 characters. The text's own keys and its moments aren't looked
-              at. It writes `valid <sub>`, or `refused Form`, `refused Names` or
-              `refused Signature`, the first of these that holds.
+verify   checks one entity configuration under the public key PUB, 43 base64url
+         characters (PK.seed and PK.root of SLH-DSA-SHA2-128s, FIPS 205). The
+         text's own keys and moments aren't looked at. It writes `valid <sub>`,
+         or `refused Form`, `refused Names` or `refused Signature`.
+keygen   makes the key of 96 hexadecimal digits (SK.seed, SK.prf, PK.seed), live
+         from --at to --exp, keeps it in the new file --ring, and writes its
+         public key as a JWK, or `refused Exists` or `refused Order`.
+issue    seals claims, a JSON object, by the key of the file --ring, and writes
+         the text, or `refused Form` or `refused TooLong`.
+check    checks a trust chain, a JSON list of texts from the leaf's up, for the
+         anchor ID, whose keys are the key set in the file --keys, at the moment
+         --at, or now. It writes `valid <leaf> <exp>` and the leaf's metadata on
+         a second line, or `refused <place> <reason>`.
 
-An input has at most 4,194,304 bytes, and one LF or CR LF may end it.
+Options stand in any order. T is a moment in seconds since 1970, below 2^62. An
+input or a file has at most 4,194,304 bytes; one LF or CR LF may end an input.
 
-status  0  the work is done, or the text is valid
-        1  the text is refused
-        2  the words (`words`) or the input (`input`) aren't of their form
-        3  reading the input failed          4  writing the output failed
-        5  memory was wanting
+status  0  the work is done              1  refused
+        2  the words (`words`), or the input or a file (`input`), aren't of
+           their form                    3  reading the input failed
+        4  writing the output failed     5  memory was wanting
+        6  reading or keeping a file failed
 ";
 
 /// What `--version` writes.

@@ -1,21 +1,31 @@
 //! `fed`: an authority and trust chain resolver of OpenID Federation 1.0.
 //!
-//! [`top::run`] does all that the program does, over any source and sink, and carries what is proved of it. `main` makes the real
+//! [`top::run`] does all that the program does, over any source, sink, store and clock, and carries what is proved of it. `main` makes the real
 //! outside, calls it and ends with its status.
 #![tactic(auto)]
 
+mod anchor_keys;
 mod answer;
+mod chain_text;
+mod check;
 mod command;
 mod configuration;
 mod finding;
 mod help;
 mod input;
+mod issue;
+mod keygen;
+mod options;
 mod output;
+mod reply;
+mod ring;
+mod step;
 #[cfg(test)]
 mod tests;
 mod top;
+mod verdict_line;
 
-use fed_ports::{Memory, RealSink, RealSource, Seq, Text};
+use fed_ports::{Memory, RealClock, RealSink, RealSource, RealStore, Seq, Text};
 use std::alloc::Global;
 use std::env;
 use std::env::Env;
@@ -44,5 +54,15 @@ fn main(rt: HostRuntime) -> ExitCode {
     };
     let mut input = RealSource::new(rt.stdin());
     let mut out = RealSink::new(rt.stdout());
-    ExitCode::from(top::run(&rt, rt.alloc(), &words, &mut input, &mut out))
+    let mut store = RealStore::new(&rt);
+    let mut clock = RealClock::new(&rt);
+    ExitCode::from(top::run(
+        &rt,
+        rt.alloc(),
+        &words,
+        &mut input,
+        &mut out,
+        &mut store,
+        &mut clock,
+    ))
 }

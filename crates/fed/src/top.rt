@@ -1,49 +1,99 @@
 // The top call.
 
-ghost use Rattle.std.specs.Prelude.{◌≤◌};
-ghost use Rattle.fed.specs.Answers.{Answers, Tells};
-ghost use Rattle.fed.specs.Commands.{IsCommand};
-ghost use Rattle.fed.specs.declared.command.Command.{Command};
+ghost use Rattle.std.specs.Prelude.{◌≡◌, ◌≤◌};
+ghost use Rattle.fed.specs.Answers.{Answers, Tells, UsesClock, IsEnded, IsMomentFor, stop_status};
+ghost use Rattle.fed.specs.Commands.{command_of};
+ghost use Rattle.fed.specs.Sealings.{IssuesSealed};
 
-use crate::answer::{Stop, answer_to};
-use crate::command::read_command;
+use crate::answer::{Stop, keep, reply_to};
+use crate::command::{Command, read_command};
 use crate::output::write_all;
-use fed_ports::{Seq, Sink, Source, Text};
+use crate::reply::Reply;
+use fed_ports::{Clock, Seq, Sink, Source, Store, Text};
 use std::alloc::Global;
 
 /// Does all that the program does, and answers its exit status.
 ///
-/// The words are those after the program's name. What it writes goes to `out`, refusals too.
+/// The words are those after the program's name. They are looked at first, then the clock, the file that the command names, and the
+/// input. What is written goes to `out`, refusals too. What `issue` seals verifies under the key of its ring file.
 ///
 /// | Status | Comes | Written |
 /// |---|---|---|
-/// | 0 | the text is valid, or `--help` or `--version` stood alone | `valid <sub>`, or that text |
-/// | 1 | the text is refused | `refused Form`, `refused Names` or `refused Signature` |
-/// | 2 | the words aren't of their form, or the input is longer than 4,194,304 bytes | `words` or `input` |
+/// | 0 | the work is done | what the command makes |
+/// | 1 | the text, the claims, the chain or the new ring is refused | `refused ..` |
+/// | 2 | the words aren't of their form; the input or the named file isn't, is too long, or isn't there | `words`; `input` |
 /// | 3 | the source failed | nothing |
 /// | 4 | the sink failed | a beginning of the text |
 /// | 5 | memory was wanting | nothing |
-pub fn run<R, S: Source, K: Sink>(
+/// | 6 | the store failed | nothing |
+pub fn run<R, S: Source, K: Sink, D: Store, C: Clock>(
     _rt: &R,
     alloc: Global,
     words: &Seq<Text>,
     input: &mut S,
     out: &mut K,
+    store: &mut D,
+    clock: &mut C,
 ) -> u8
-    ensures answers { (c : Command) → IsCommand words.now c
-        → Answers c (S.left input.old) (S.left input.new) (K.held out.old) (K.held out.new) result }
+    ensures answers { Answers (command_of words.now) (C.last clock.new)
+        (record {
+          left = S.left input.old;
+          left' = S.left input.new;
+          held = K.held out.old;
+          held' = K.held out.new;
+          files = D.files store.old;
+          files' = D.files store.new;
+        }) result }
+    ensures sealed { IssuesSealed (command_of words.now) (D.files store.old) (K.held out.old) (K.held out.new) result }
     ensures source { Tells 3 (S.read_faults input.old) (S.read_faults input.new) result }
     ensures sink { Tells 4 (K.write_faults out.old) (K.write_faults out.new) result }
-    ensures range { result ≤ 5 }
+    ensures store { Tells 6 (D.store_faults store.old) (D.store_faults store.new) result }
+    ensures clock { UsesClock (command_of words.now) (record { count = C.readings clock.old; last = C.last clock.old; told = C.told clock.old })
+        (record { count = C.readings clock.new; last = C.last clock.new; told = C.told clock.new }) result }
+    ensures range { result ≤ 6 }
 {
-    let command = read_command(words.as_slice());
-    let answer = match answer_to(alloc, &command, input) {
-        Ok(answer) => answer,
-        Err(Stop::Source) => return 3,
-        Err(Stop::Memory) => return 5,
+    let Ok(command) = read_command(alloc, words.as_slice()) else {
+        return 5;
     };
-    match write_all(out, answer.text.as_slice()) {
-        Ok(()) => answer.status,
+    let moment = moment_for(&command, clock);
+    match reply_to(alloc, &command, moment, input, store) {
+        Ok(reply) => conclude(&command, &reply, store, out),
+        Err(stop) => stop_status(stop),
+    }
+}
+
+/// The status that says why there is no reply.
+fn stop_status(stop: Stop) -> u8
+    ensures { result ≡ stop_status stop }
+{
+    match stop {
+        Stop::Source => 3,
+        Stop::Memory => 5,
+        Stop::Store => 6,
+    }
+}
+
+/// Keeps what the reply has to keep, and then writes its text.
+fn conclude<K: Sink, D: Store>(command: &Command, reply: &Reply, store: &mut D, out: &mut K) -> u8
+    ensures { IsEnded command.now reply.now (D.files store.old) (D.files store.new) (K.held out.old) (K.held out.new)
+        (D.store_faults store.old) (D.store_faults store.new) (K.write_faults out.old) (K.write_faults out.new) result }
+{
+    if keep(command, reply.kept.as_ref(), store).is_err() {
+        return 6;
+    }
+    match write_all(out, reply.text.as_slice()) {
+        Ok(()) => reply.status,
         Err(_) => 4,
+    }
+}
+
+/// The clock's moment for a check that has none of its own. No other command reads the clock.
+fn moment_for<C: Clock>(command: &Command, clock: &mut C) -> u64
+    ensures { IsMomentFor command.now (record { count = C.readings clock.old; last = C.last clock.old; told = C.told clock.old })
+        (record { count = C.readings clock.new; last = C.last clock.new; told = C.told clock.new }) result }
+{
+    match command {
+        Command::Check { at: None, .. } => clock.now(),
+        _ => 0,
     }
 }

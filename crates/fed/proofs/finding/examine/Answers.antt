@@ -1,0 +1,31 @@
+use Rattle.std.proofs.Common.{rules, ◌≡◌, sym, subst}
+use Rattle.fed.proofs.FindingLaws.{configuration_at}
+use Rattle.fed.proofs.finding.examine.Goals as goal
+use Rattle.slh_dsa.specs.Verifying.{Verifies}
+
+-- src/finding.rt:28:1
+pub returns-then-verify : goal.returns-then-verify
+returns-then-verify c =
+    let s = c.in-Some.field-0 in
+    let same : s.statement.iss ≡ s.statement.sub = search rules in
+    let is = configuration_at c.args.text.now c.in_ok-compact.field-0 s (search rules) c.in_ok-compact.ensures same in
+    let signed : c.as_slice-signed.result.now ≡ s.compact.signed = search rules in
+    let signature : c.as_slice-signature.result.now ≡ s.compact.signature = search rules in
+    let verifies : Verifies c.args.key.now c.as_slice-signed.result.now c.as_slice-signature.result.now = search rules in
+    (s.compact, is, subst (λ z. Verifies c.args.key.now s.compact.signed z) signature (subst (λ z. Verifies c.args.key.now z c.as_slice-signature.result.now) signed verifies))
+
+-- src/finding.rt:26:1
+pub returns : goal.returns
+returns c =
+    let s = c.in-Some.field-0 in
+    let same : s.statement.iss ≡ s.statement.sub = search rules in
+    let is = configuration_at c.args.text.now c.in_ok-compact.field-0 s (search rules) c.in_ok-compact.ensures same in
+    let signed : c.as_slice-signed.result.now ≡ s.compact.signed = search rules in
+    let signature : c.as_slice-signature.result.now ≡ s.compact.signature = search rules in
+    let fails : Verifies c.args.key.now c.as_slice-signed.result.now c.as_slice-signature.result.now → ⊥ = search rules in (
+      s.compact,
+      s.statement.sub,
+      is,
+      λ verifies.
+          fails (subst (λ z. Verifies c.args.key.now c.as_slice-signed.result.now z) (sym signature) (subst (λ z. Verifies c.args.key.now z s.compact.signature) (sym signed) verifies)),
+    )

@@ -1,0 +1,51 @@
+-- What `issue` makes of claims (OpenID Federation 1.0 section 3).
+use Rattle.std.specs.Prelude.{ℕ, List, [], ◌∷◌, ◌++◌, length, codes, nat_lt, Bool, not, Option, Some, None, is_some, is_ok, if◌then◌else◌}
+use Rattle.entity_statement.specs.Table.{claims_of, statement_type}
+use Rattle.fed_json.specs.declared.tree.Json.{Json}
+use Rattle.fed_json.specs.Compact.{compact}
+use Rattle.fed_json.specs.Forms.{whole}
+use Rattle.fed_json.specs.Reading.{reading}
+use Rattle.fed_json.specs.Trees.{as_object}
+use Rattle.jws_form.specs.declared.compact.Compact.{Compact}
+use Rattle.sealed.specs.Sealing.{sealed_text}
+use Rattle.fed.specs.Replies.{plain, bad_input, refused}
+use Rattle.fed.specs.declared.reply.Reply.{Reply}
+
+-- the parts of a statement's text that its claims are read from, with this payload (section 3.1)
+abbrev pub typed : List ℕ → Compact
+typed payload = record {
+  whole = [];
+  typ = Some statement_type;
+  kid = None;
+  payload = payload;
+  signed = [];
+  signature = [];
+}
+
+-- the payload's claims are those of an entity statement (section 3.1.1)
+unfoldable pub payload_read : List ℕ → Bool
+payload_read payload = is_ok (claims_of (typed payload))
+
+-- the claims' compact text reads
+abbrev pub claims_read : Json → Bool
+claims_read tree = payload_read (compact tree)
+
+-- the sealed text, on its own line (RFC 7515 section 7.1)
+unfoldable pub sealed_reply : List ℕ → Json → Reply
+sealed_reply keys tree = plain 0 (sealed_text keys statement_type tree ++ 10 ∷ [])
+
+-- an object: first whether it has a JSON text, then how long that is, then whether it reads
+unfoldable pub of_object : List ℕ → Json → Reply
+of_object keys tree =
+    if not (whole tree) then refused (codes "Form")
+    else (if nat_lt 180000 (length (compact tree)) then refused (codes "TooLong")
+    else (if not (claims_read tree) then refused (codes "Form")
+    else sealed_reply keys tree))
+
+unfoldable pub of_tree : List ℕ → Option Json → Reply
+of_tree keys None = bad_input
+of_tree keys (Some tree) = if is_some (as_object tree) then of_object keys tree else bad_input
+
+-- the claims are a JSON object
+unfoldable pub issue_reply : List ℕ → List ℕ → Reply
+issue_reply keys input = of_tree keys (reading input)
