@@ -7,6 +7,7 @@ use Rattle.entity_statement.specs.Claims.{Claims}
 use Rattle.entity_statement.specs.Table.{claims_of}
 use Rattle.chain_check.specs.Places.{HoldsBelow, FailsFirst}
 
+-- the texts of a chain, the leaf's first (section 4)
 abbrev pub Texts : Type 0
 Texts = List (List ℕ)
 

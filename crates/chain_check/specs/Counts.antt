@@ -30,7 +30,7 @@ abbrev pub CountsPlace : ℕ → Result Bool NoMemory → ℕ → ℕ → Type 0
 CountsPlace zero result before now = CountsTests 2 result before now
 CountsPlace (suc j) result before now = CountsTests 1 result before now
 
--- the checks of n signatures, one for each and one more where the leaf names two keys, or those up to the first that fails
+-- the checks of n signatures: n of them, or one more, since the leaf may name two keys; or those up to the first that fails
 abbrev pub CountsChecks : ℕ → Result (Unit {0}) Stop → ℕ → ℕ → Type 0
 CountsChecks n (Ok _) before now = Counts n (n + 1) before now
 CountsChecks n (Err (stop.Refused place reason)) before now = Counts place (place + 2) before now

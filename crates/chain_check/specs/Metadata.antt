@@ -18,6 +18,7 @@ use Rattle.chain_check.specs.Chains.{below_anchor}
 abbrev pub members_in : Option Json → List Member
 members_in tree = unwrap_or (option_and_then as_object tree) []
 
+-- the name of a member
 abbrev pub name_of : Member → List ℕ
 name_of m = m.name
 

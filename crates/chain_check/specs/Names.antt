@@ -35,8 +35,10 @@ pub record NamesFit (chain : List Claims) (anchor : List ℕ) (j : ℕ) : Type 0
   -- the last is the trust anchor's
   pub anchored : IsAnchor chain j → issuer_at chain j ≡ anchor
 
+-- the names of each statement are those of a chain up to the anchor
 abbrev pub HasNames : List Claims → List ℕ → Type 0
 HasNames chain anchor = HoldsBelow (NamesFit chain anchor) (length chain)
 
+-- the first place at which they are not
 abbrev pub LosesNames : List Claims → List ℕ → ℕ → Type 0
 LosesNames chain anchor place = FailsFirst (NamesFit chain anchor) (length chain) place

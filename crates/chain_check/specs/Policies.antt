@@ -11,6 +11,7 @@ pub record ConflictAt : Type 0 where
   pub place : ℕ
   pub conflict : PolicyFault
 
+-- what merging at a place gives, with the place beside a conflict
 abbrev pub at_place : ℕ → Result Types PolicyFault → Result Types ConflictAt
 at_place place (Ok policy) = Ok policy
 at_place place (Err conflict) = Err (record { place = place; conflict = conflict })

@@ -13,6 +13,7 @@ use Rattle.chain_check.specs.Places.{HoldsBelow}
 abbrev pub CurrentAt : List Claims → ℕ → ℕ → Type 0
 CurrentAt chain t j = (statement : Claims) → slice_get chain j ≡ Some statement → IsTrue (current_at statement.iat statement.exp t)
 
+-- each statement of the chain is current at that moment (section 3.1.1)
 abbrev pub AreCurrent : List Claims → ℕ → Type 0
 AreCurrent chain t = HoldsBelow (CurrentAt chain t) (length chain)
 
@@ -29,6 +30,7 @@ pub record SignedAt (texts : Texts) (chain : List Claims) (keys : List Jwk) (j :
   pub by_itself : j ≡ 0 → IsSealedBy (slice_index_or texts j []) (keys_at chain 0 [])
   pub by_superior : IsSealedBy (slice_index_or texts j []) (superior_keys chain keys j)
 
+-- each text of the chain is signed so
 abbrev pub AreSigned : Texts → List Claims → List Jwk → Type 0
 AreSigned texts chain keys = HoldsBelow (SignedAt texts chain keys) (length chain)
 

@@ -39,6 +39,7 @@ texts_in entries = map entry_text entries
 abbrev pub claims_in : List Entry → List Claims
 claims_in entries = map entry_claims entries
 
+-- the parts of the entry are those of its text (RFC 7515 section 7.1)
 abbrev pub IsSplit : Entry → Type 0
 IsSplit e = IsCompact e.compact.whole e.compact
 
