@@ -11,6 +11,7 @@ unfoldable pub flag_of : List ℕ → List (List ℕ) → Command
 flag_of verb (word ∷ words) = Faulty
 flag_of verb [] = if bytes_eq verb (codes "--help") then Help else (if bytes_eq verb (codes "--version") then Version else Faulty)
 
+-- the command, where the key has its form
 abbrev pub verify_with : Option (List ℕ) → Command
 verify_with (Some key) = Verify key
 verify_with None = Faulty
@@ -21,6 +22,7 @@ verify_of [] = Faulty
 verify_of (word ∷ []) = verify_with (decoded_32 word)
 verify_of (word ∷ next ∷ words) = Faulty
 
+-- the command, where all three are there
 abbrev pub keygen_with : Option (List ℕ) → Option ℕ → Option ℕ → Command
 keygen_with (Some ring) (Some at) (Some exp) = Keygen ring at exp
 keygen_with (Some ring) (Some at) None = Faulty
@@ -32,6 +34,7 @@ unfoldable pub keygen_of : List (List ℕ) → Command
 keygen_of words =
     if length words == 6 then keygen_with (option_in (codes "--ring") words) (moment_in (codes "--at") words) (moment_in (codes "--exp") words) else Faulty
 
+-- the command, where both are there and the type is the one that is issued
 abbrev pub issue_with : Option (List ℕ) → Option (List ℕ) → Command
 issue_with (Some ring) (Some typ) = if bytes_eq typ (codes "entity-statement+jwt") then Issue ring else Faulty
 issue_with (Some ring) None = Faulty
@@ -41,6 +44,7 @@ issue_with None typ = Faulty
 unfoldable pub issue_of : List (List ℕ) → Command
 issue_of words = if length words == 4 then issue_with (option_in (codes "--ring") words) (option_in (codes "--typ") words) else Faulty
 
+-- the command, where the anchor and the file are there; a moment may be absent
 abbrev pub check_with : Option (List ℕ) → Option (List ℕ) → Option ℕ → Command
 check_with (Some anchor) (Some keys) at = Check anchor keys at
 check_with (Some anchor) None at = Faulty

@@ -42,6 +42,7 @@ of_object keys tree =
     else (if not (claims_read tree) then refused (codes "Form")
     else sealed_reply keys tree))
 
+-- the same of the input as a tree, where it is one
 unfoldable pub of_tree : List ℕ → Option Json → Reply
 of_tree keys None = bad_input
 of_tree keys (Some tree) = if is_some (as_object tree) then of_object keys tree else bad_input

@@ -24,6 +24,7 @@ made key = record { status = 0; text = public_line key.seeds; kept = Some (compa
 abbrev pub in_order : LiveKey → Reply
 in_order key = if nat_lt key.iat key.exp then made key else refused (codes "Order")
 
+-- the same of the seeds, where the input has them
 abbrev pub of_seeds : ℕ → ℕ → Option (List ℕ) → Reply
 of_seeds at exp None = bad_input
 of_seeds at exp (Some seeds) = in_order (record { seeds = seeds; iat = at; exp = exp })

@@ -37,12 +37,15 @@ abbrev pub count_of : ℤ → Option ℕ
 count_of (pos n) = if nat_lt n (2 ^ 62) then Some n else None
 count_of (negsuc n) = None
 
+-- such a number under that name
 abbrev pub count_at : List ℕ → List Member → Option ℕ
 count_at name members = option_and_then count_of (option_and_then as_int (find name members))
 
+-- the seeds: 48 bytes in hexadecimal digits, here of either case
 abbrev pub seeds_at : List Member → Option (List ℕ)
 seeds_at members = option_and_then (λ text. result_ok (decode_sized text 48)) (option_and_then as_text (find (codes "seeds") members))
 
+-- the key, where all three are there
 abbrev pub fields_with : Option (List ℕ) → Option ℕ → Option ℕ → Option LiveKey
 fields_with (Some seeds) (Some iat) (Some exp) = Some (record { seeds = seeds; iat = iat; exp = exp })
 fields_with (Some seeds) (Some iat) None = None
