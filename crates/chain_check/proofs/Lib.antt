@@ -5,4 +5,6 @@ pub mod MergeLaws
 pub mod Overrides
 pub mod ResolveLaws
 pub mod Told
+pub mod JudgingLaws
+pub mod JudgedLaws
 pub mod Verdicts

@@ -6,5 +6,6 @@ pub mod Policies
 pub mod Metadata
 pub mod Validity
 pub mod Verdicts
+pub mod Judging
 pub mod Counts
 pub mod Stages

@@ -1,9 +1,11 @@
 -- Under which keys each text of a chain is signed, and that its statements are current (OpenID Federation 1.0 section 10.2).
-use Rattle.std.specs.Prelude.{◌≡◌, ◌≤◌, ◌+◌, ℕ, List, [], length, IsTrue, Some, slice_get, slice_index_or}
-use Rattle.std.specs.Option.{option_map_or}
+use Rattle.std.specs.Prelude.{◌≡◌, ◌≤◌, ◌+◌, ℕ, List, [], length, IsTrue, Option, Some, slice_get, slice_index_or}
+use Rattle.std.specs.Option.{option_and_then, option_map_or}
+use Rattle.std.specs.Result.{result_ok}
+use Rattle.jws_form.specs.Splitting.{splitting}
 use Rattle.jwk_set.specs.declared.jwk.Jwk.{Jwk}
 use Rattle.jwk_set.specs.KeySets.{key_named}
-use Rattle.sealed.specs.Seals.{IsSealedBy}
+use Rattle.sealed.specs.Seals.{IsSealedBy, named_key}
 use Rattle.entity_statement.specs.Claims.{Claims}
 use Rattle.entity_statement.specs.Use.{current_at}
 use Rattle.chain_check.specs.Chains.{Texts}
@@ -21,11 +23,11 @@ AreCurrent chain t = HoldsBelow (CurrentAt chain t) (length chain)
 abbrev pub keys_at : List Claims → ℕ → List Jwk → List Jwk
 keys_at chain j others = option_map_or (λ s. s.keys) (slice_get chain j) others
 
--- the keys of the entity that vouches for the one at the place: those in the next statement, and the trust anchor's for the last
+-- the keys of the superior of the entity at the place: those in the next statement, and the trust anchor's for the last
 abbrev pub superior_keys : List Claims → List Jwk → ℕ → List Jwk
 superior_keys chain keys j = keys_at chain (j + 1) keys
 
--- the text at the place is signed by a key that its superior vouches for, and the leaf's by a key of its own too
+-- the text at the place is signed by a key of its superior, and the leaf's by a key of its own too
 pub record SignedAt (texts : Texts) (chain : List Claims) (keys : List Jwk) (j : ℕ) : Type 0 where
   pub by_itself : j ≡ 0 → IsSealedBy (slice_index_or texts j []) (keys_at chain 0 [])
   pub by_superior : IsSealedBy (slice_index_or texts j []) (superior_keys chain keys j)
@@ -33,6 +35,14 @@ pub record SignedAt (texts : Texts) (chain : List Claims) (keys : List Jwk) (j :
 -- each text of the chain is signed so
 abbrev pub AreSigned : Texts → List Claims → List Jwk → Type 0
 AreSigned texts chain keys = HoldsBelow (SignedAt texts chain keys) (length chain)
+
+-- the key of a set that the header of a text names (RFC 7515 section 4.1.4)
+unfoldable pub key_in : List Jwk → List ℕ → Option (List ℕ)
+key_in keys text = option_and_then (λ compact. named_key compact keys) (result_ok (splitting text))
+
+-- the leaf's text names one key in its own set and in its superior's
+abbrev pub NamesOneKey : Texts → List Claims → List Jwk → Type 0
+NamesOneKey texts chain keys = key_in (keys_at chain 0 []) (slice_index_or texts 0 []) ≡ key_in (superior_keys chain keys 0) (slice_index_or texts 0 [])
 
 -- each key of the first has its name among the others too
 abbrev pub Extends : List Jwk → List Jwk → Type 0

@@ -1,5 +1,5 @@
 -- What the stages of a check say of the texts that were read, and what each answers.
-use Rattle.std.specs.Prelude.{◌≡◌, ℕ, List, map, Option, Some, None, All, Result, Ok, Err}
+use Rattle.std.specs.Prelude.{◌≡◌, ℕ, List, length, map, Option, Some, None, All, Result, Ok, Err}
 use Rattle.fed_json.specs.declared.tree.Json.{Json}
 use Rattle.jws_form.specs.Compact.{IsCompact}
 use Rattle.entity_statement.specs.Claims.{Claims}
@@ -13,7 +13,7 @@ use Rattle.policy_merge.specs.declared.fault.PolicyFault.TheVariants as merge
 use Rattle.policy_apply.specs.declared.fault.ApplyFault.{ApplyFault}
 use Rattle.policy_apply.specs.declared.fault.ApplyFault.TheVariants as apply
 use Rattle.chain_check.specs.declared.reason.Reason.{Reason}
-use Rattle.chain_check.specs.declared.reason.Reason.TheVariants.{PathLength, Name, Conflict, Policy}
+use Rattle.chain_check.specs.declared.reason.Reason.TheVariants.{Signature, PathLength, Name, Conflict, Policy}
 use Rattle.fed_ports.specs.declared.faults.Memory.{Memory as NoMemory}
 use Rattle.chain_check.specs.declared.entry.Entry.{Entry}
 use Rattle.chain_check.specs.declared.verdict.Resolved.{Resolved}
@@ -21,6 +21,15 @@ use Rattle.chain_check.specs.declared.verdict.Verdict.{Verdict}
 use Rattle.chain_check.specs.declared.verdict.Verdict.TheVariants as verdict
 use Rattle.chain_check.specs.declared.stop.Stop.{Stop}
 use Rattle.chain_check.specs.declared.stop.Stop.TheVariants.{Refused, Memory}
+use Rattle.jwk_set.specs.declared.jwk.Jwk.{Jwk}
+use Rattle.sealed.specs.Seals.{IsSealedBy}
+use Rattle.chain_check.specs.declared.tried.Tried.{Tried}
+use Rattle.chain_check.specs.declared.known.Known.{Known}
+use Rattle.chain_check.specs.declared.known.Known.TheVariants as known
+use Rattle.chain_check.specs.declared.known.Test.{Test}
+use Rattle.chain_check.specs.Places.{FailsFirst}
+use Rattle.chain_check.specs.Signatures.{AreSigned, SignedAt}
+use Rattle.chain_check.specs.Judging.{IsKnownSeal, IsUnknown, IsUntriedFirst, texts_of}
 use Rattle.chain_check.specs.Chains.{Texts, HasForm, statement_of, statements_of}
 use Rattle.chain_check.specs.Policies.{ConflictAt, merged_policy}
 use Rattle.chain_check.specs.Metadata.{limited_places}
@@ -91,3 +100,27 @@ abbrev pub verdict_in : Result Resolved Stop → Result Verdict NoMemory
 verdict_in (Ok resolved) = Ok (verdict.Valid resolved)
 verdict_in (Err (Refused place reason)) = Ok (verdict.Refused place reason)
 verdict_in (Err Memory) = Err (record {})
+
+-- what is known of a text under the keys of a set
+pub record IsKnownFailure (keys : List Jwk) (tried : Tried) : Type 0 where
+  pub fails : ¬ IsSealedBy tried.text keys
+  pub no_seal : ¬ IsKnownSeal keys tried
+  pub no_test : (public : List ℕ) → ¬ IsUnknown keys tried public
+
+abbrev pub IsKnown : List Jwk → Tried → Known → Type 0
+IsKnown keys tried known.Sealed = IsKnownSeal keys tried × IsSealedBy tried.text keys
+IsKnown keys tried known.Unsealed = IsKnownFailure keys tried
+IsKnown keys tried (known.Untried public) = IsUnknown keys tried public
+
+-- no test is wanted
+abbrev pub NoTest : List Tried → List Claims → List Jwk → Type 0
+NoTest texts chain keys = (place : ℕ) (public : List ℕ) → ¬ IsUntriedFirst texts chain keys place public
+
+-- the first test that is wanted, and none only where each text is known to be signed
+abbrev pub TestsFirst : List Tried → List Claims → List Jwk → Option Test → Type 0
+TestsFirst texts chain keys (Some test) = IsUntriedFirst texts chain keys test.place test.public
+TestsFirst texts chain keys None = AreSigned (texts_of texts) chain keys × NoTest texts chain keys
+
+-- a text isn't signed, as is known before any test is wanted
+abbrev pub FailsUntried : List Tried → List Claims → List Jwk → ℕ → Reason → Type 0
+FailsUntried texts chain keys place reason = (reason ≡ Signature) × FailsFirst (SignedAt (texts_of texts) chain keys) (length chain) place × NoTest texts chain keys

@@ -1,12 +1,13 @@
 ghost use Rattle.std.specs.Prelude.{◌≡◌, ◌≤◌, ◌↔◌, ℕ, List, IfOk, IsTrue, length};
 ghost use Rattle.jwk_set.specs.declared.jwk.Jwk.{Jwk};
 ghost use Rattle.chain_check.specs.declared.verdict.Resolved.{Resolved};
+ghost use Rattle.chain_check.specs.declared.verdict.Verdict.{Verdict as Answer};
 ghost use Rattle.chain_check.specs.declared.verdict.Verdict.TheVariants.{Valid, Refused};
 ghost use Rattle.chain_check.specs.Validity.{Case, IsValid, IsWithin, Merges, case_of};
 ghost use Rattle.chain_check.specs.Verdicts.{CanBeWritten, IfValid, IsVerdictOn, is_valid};
 ghost use Rattle.chain_check.specs.Chains.{statements_of};
 ghost use Rattle.chain_check.specs.Counts.{CountsVerdict};
-ghost use Rattle.chain_check.specs.Signatures.{AreCurrent, AreSigned, Extends, HasExpired};
+ghost use Rattle.chain_check.specs.Signatures.{AreCurrent, AreSigned, Extends, HasExpired, NamesOneKey};
 ghost use Rattle.chain_check.specs.Stages.{Passes, verdict_in};
 
 use crate::names::check_names;
@@ -33,12 +34,14 @@ pub fn check_chain<L: Ledger>(
 ) -> Result<Verdict, Memory>
     ensures verdict { IfOk result (IsVerdictOn (case_of chain.now anchor.now keys.now.keys t)) }
     ensures only { IfOk result (λ verdict. IsTrue (is_valid verdict) ↔ IsValid (case_of chain.now anchor.now keys.now.keys t)) }
+    // A chain has one verdict.
+    ensures one { IfOk result (λ verdict. (other : Answer) → IsVerdictOn (case_of chain.now anchor.now keys.now.keys t) other → other ≡ verdict) }
     // What is valid is signed link by link, current, within all constraints and free of policy conflict.
     ensures signed { IfOk result (λ verdict. IfValid verdict (λ _. AreSigned chain.now (statements_of chain.now) keys.now.keys)) }
     ensures current { IfOk result (λ verdict. IfValid verdict (λ _. AreCurrent (statements_of chain.now) t)) }
     ensures within { IfOk result (λ verdict. IfValid verdict (λ _. IsWithin (statements_of chain.now))) }
     ensures merges { IfOk result (λ verdict. IfValid verdict (λ _. Merges (statements_of chain.now))) }
-    // It stays valid under more keys of the trust anchor, and no later moment revives what has expired.
+    // It stays valid under more keys of the trust anchor, and what has expired is valid at no later moment.
     ensures more_keys { IfOk result (λ verdict. (more : List Jwk) → Extends keys.now.keys more
         → IfValid verdict (λ resolved. IsVerdictOn (case_of chain.now anchor.now more t) (Valid resolved))) }
     ensures expired { HasExpired (statements_of chain.now) t
@@ -47,7 +50,8 @@ pub fn check_chain<L: Ledger>(
     ensures texts_alone { IfOk result (λ verdict. (other : Case) (same : Resolved) → other.texts ≡ chain.now
         → IsVerdictOn other (Valid same) → IfValid verdict (λ resolved. resolved ≡ same)) }
     ensures written { IfOk result CanBeWritten }
-    ensures counted { CountsVerdict (length chain.now) result (L.count steps.old.ledger) (L.count steps.new.ledger) }
+    ensures counted { CountsVerdict (length chain.now) (NamesOneKey chain.now (statements_of chain.now) keys.now.keys)
+        result (L.count steps.old.ledger) (L.count steps.new.ledger) }
 {
     match checked(alloc, chain.as_slice(), anchor, keys, t, steps) {
         Ok(resolved) => Ok(Verdict::Valid(resolved)),
@@ -68,7 +72,8 @@ fn checked<L: Ledger>(
         (λ resolved. IsVerdictOn (case_of texts.now anchor.now keys.now.keys t) (Valid resolved))
         (λ place reason. IsVerdictOn (case_of texts.now anchor.now keys.now.keys t) (Refused place reason)) }
     ensures written { Passes result (λ resolved. CanBeWritten (Valid resolved)) (λ place reason. CanBeWritten (Refused place reason)) }
-    ensures counted { CountsVerdict (length texts.now) (verdict_in result) (L.count steps.old.ledger) (L.count steps.new.ledger) }
+    ensures counted { CountsVerdict (length texts.now) (NamesOneKey texts.now (statements_of texts.now) keys.now.keys)
+        (verdict_in result) (L.count steps.old.ledger) (L.count steps.new.ledger) }
 {
     let entries = read_chain(alloc, texts)?;
     let entries = entries.as_slice();

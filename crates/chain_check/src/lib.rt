@@ -7,6 +7,10 @@
 
 mod checking;
 mod entry;
+mod holds_text;
+mod judged;
+mod judging;
+mod known;
 mod metadata;
 mod names;
 mod reading;
@@ -14,8 +18,12 @@ mod reason;
 mod resolving;
 mod signatures;
 mod stop;
+mod tried;
 mod verdict;
 
 pub use checking::check_chain;
+pub use judged::Judged;
+pub use judging::judge;
 pub use reason::Reason;
+pub use tried::Tried;
 pub use verdict::{Resolved, Verdict};

@@ -1,9 +1,10 @@
-ghost use Rattle.std.specs.Prelude.{◌≡◌, IfOk};
+ghost use Rattle.std.specs.Prelude.{◌≡◌, IfOk, map};
 ghost use Rattle.chain_check.specs.declared.reason.Reason.TheVariants.{Form};
 ghost use Rattle.chain_check.specs.Chains.{LosesForm};
 ghost use Rattle.chain_check.specs.Stages.{AreRead, IsReading, Passes};
 
 use crate::entry::Entry;
+use crate::holds_text::HoldsText;
 use crate::reason::Reason;
 use crate::stop::Stop;
 use entity_statement::{Statement, StatementFault};
@@ -15,9 +16,9 @@ use std::alloc::Global;
 const MAX_STATEMENTS: usize = 10;
 
 /// The statements of the texts, or the first place at which there is none.
-pub(crate) fn read_chain(alloc: Global, texts: &[Text]) -> Result<Seq<Entry>, Stop>
-    ensures { Passes result (AreRead texts.now)
-        (λ place reason. (reason ≡ Form) × LosesForm texts.now place) }
+pub(crate) fn read_chain<T: HoldsText>(alloc: Global, texts: &[T]) -> Result<Seq<Entry>, Stop>
+    ensures { Passes result (AreRead (map T.text_of texts.now))
+        (λ place reason. (reason ≡ Form) × LosesForm (map T.text_of texts.now) place) }
 {
     if texts.is_empty() {
         return Err(Stop::Refused {
@@ -26,14 +27,14 @@ pub(crate) fn read_chain(alloc: Global, texts: &[Text]) -> Result<Seq<Entry>, St
         });
     }
     let mut entries = Seq::new(alloc);
-    for (j, text) in texts.iter().enumerate() {
+    for (j, holder) in texts.iter().enumerate() {
         if j >= MAX_STATEMENTS {
             return Err(Stop::Refused {
                 place: j as u64,
                 reason: Reason::Form,
             });
         }
-        match read_text(alloc, text)? {
+        match read_text(alloc, holder.text())? {
             Some(entry) => entries.push(entry)?,
             None => return Err(Stop::Refused {
                 place: j as u64,

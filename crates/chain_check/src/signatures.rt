@@ -3,8 +3,8 @@ ghost use Rattle.jws_form.specs.Compact.{IsCompact};
 ghost use Rattle.sealed.specs.Seals.{IsSealedBy, named_key};
 ghost use Rattle.chain_check.specs.declared.reason.Reason.TheVariants.{Times, Signature};
 ghost use Rattle.chain_check.specs.Places.{FailsFirst};
-ghost use Rattle.chain_check.specs.Counts.{CountsChecks, CountsPlace, CountsTests};
-ghost use Rattle.chain_check.specs.Signatures.{AreCurrent, AreSigned, CurrentAt, SignedAt, superior_keys as keys_above};
+ghost use Rattle.chain_check.specs.Counts.{CountsBoth, CountsChecks, CountsPlace, CountsTest};
+ghost use Rattle.chain_check.specs.Signatures.{AreCurrent, AreSigned, CurrentAt, NamesOneKey, SignedAt, key_in, superior_keys as keys_above};
 ghost use Rattle.chain_check.specs.Stages.{IsSplit, Passes, claims_in, texts_in};
 
 use crate::entry::Entry;
@@ -46,7 +46,9 @@ pub(crate) fn check_signatures<L: Ledger>(
         (λ place reason. (reason ≡ Signature)
         × FailsFirst (SignedAt (texts_in entries.now) (claims_in entries.now) keys.now.keys)
         (length (claims_in entries.now)) place) }
-    ensures counted { CountsChecks (length entries.now) result (L.count steps.old.ledger) (L.count steps.new.ledger) }
+    ensures counted { CountsChecks (length entries.now)
+        (NamesOneKey (texts_in entries.now) (claims_in entries.now) keys.now.keys)
+        result (L.count steps.old.ledger) (L.count steps.new.ledger) }
 {
     for j in 0..entries.len() {
         if !is_signed(alloc, entries, keys, j, steps)? {
@@ -70,7 +72,8 @@ fn is_signed<L: Ledger>(
     requires split { All IsSplit entries.now }
     ensures signed { IfOk result (λ signed. IsTrue signed
         ↔ SignedAt (texts_in entries.now) (claims_in entries.now) keys.now.keys j) }
-    ensures counted { CountsPlace j result (L.count steps.old.ledger) (L.count steps.new.ledger) }
+    ensures counted { CountsPlace j (NamesOneKey (texts_in entries.now) (claims_in entries.now) keys.now.keys)
+        result (L.count steps.old.ledger) (L.count steps.new.ledger) }
 {
     let entry = &entries[j];
     let superior = superior_keys(entries, keys, j);
@@ -88,7 +91,7 @@ fn is_signed<L: Ledger>(
 }
 
 /// The keys in the next statement, or the trust anchor's for the last.
-fn superior_keys<'a>(entries: &'a [Entry], keys: &'a JwkSet, j: usize) -> &'a JwkSet
+pub(crate) fn superior_keys<'a>(entries: &'a [Entry], keys: &'a JwkSet, j: usize) -> &'a JwkSet
     requires { j < length entries.now }
     ensures { result.now.keys ≡ keys_above (claims_in entries.now) keys.now.keys j }
 {
@@ -106,7 +109,7 @@ fn is_sealed<L: Ledger>(
 ) -> Result<bool, Memory>
     requires { IsCompact compact.now.whole compact.now }
     ensures sealed { IfOk result (λ sealed. IsTrue sealed ↔ IsSealedBy compact.now.whole set.now.keys) }
-    ensures counted { CountsTests 1 result (L.count steps.old.ledger) (L.count steps.new.ledger) }
+    ensures counted { CountsTest result (L.count steps.old.ledger) (L.count steps.new.ledger) }
 {
     match check_sealed(alloc, compact, set, steps) {
         Ok(_) => Ok(true),
@@ -126,7 +129,8 @@ fn is_sealed_by_both<L: Ledger>(
     requires { IsCompact compact.now.whole compact.now }
     ensures sealed { IfOk result (λ sealed. IsTrue sealed
         ↔ (IsSealedBy compact.now.whole own.now.keys × IsSealedBy compact.now.whole superior.now.keys)) }
-    ensures counted { CountsTests 2 result (L.count steps.old.ledger) (L.count steps.new.ledger) }
+    ensures counted { CountsBoth (key_in own.now.keys compact.now.whole ≡ key_in superior.now.keys compact.now.whole)
+        result (L.count steps.old.ledger) (L.count steps.new.ledger) }
 {
     if !is_sealed(alloc, compact, own, steps)? {
         return Ok(false);

@@ -1,8 +1,22 @@
 // Faults of the outside at each call in turn, and words; the answers on real texts are the program's stored run and tests/program.
 
+ghost use Rattle.std.specs.Prelude.{All, IfOk};
+ghost use Rattle.jws_form.specs.Compact.{IsCompact};
+ghost use Rattle.chain_check.specs.Judging.{IsOfItsText};
+
 use crate::help::HELP;
 use crate::top::run;
-use fed_ports::{Memory, MemoryClock, MemorySink, MemorySource, MemoryStore, NamedFile, Seq, Text};
+use chain_check::{Judged, Reason, Tried, Verdict, judge};
+use entity_id::EntityId;
+use fed_json::{Json, is_whole, read_tree};
+use fed_ports::{
+    Duplicate, Memory, MemoryClock, MemorySink, MemorySource, MemoryStore, NamedFile, Plain, Seq,
+    Steps, Text,
+};
+use jwk_set::JwkSet;
+use jws_form::{Compact, split};
+use sealed::{Tested, seal, test_key};
+use slh_dsa::KeyPair;
 use std::alloc::Global;
 use std::process::Abort;
 use std::test::Fail;
@@ -177,6 +191,75 @@ fn claims_are_refused_in_order(rt: HostRuntime) -> Result<(), Fail> {
         );
         assert_eq!(rt; got, status);
         assert_eq!(rt; out.as_slice(), written);
+    }
+    Ok(())
+}
+
+// The claims of the trust anchor's configuration, the key set in them, and the seeds of its key.
+const ANCHOR: &[u8] =
+    b"{\"exp\":1900000000,\"iat\":1800000000,\"iss\":\"https://ta.example\",\"jwks\":{\"keys\":[{\"alg\":\"SLH-DSA-SHA2-128s\",\"kid\":\"iif1sWF2bp-0ANJO3YzpiDHWLvDf9tqJJ_bu1trBODg\",\"kty\":\"AKP\",\"pub\":\"gIGCg4SFhoeIiYqLjI2Oj9jBECynG2yIJA4SuuZ7Glc\"}]},\"sub\":\"https://ta.example\"}";
+
+const ANCHOR_KEYS: &[u8] =
+    b"{\"keys\":[{\"alg\":\"SLH-DSA-SHA2-128s\",\"kid\":\"iif1sWF2bp-0ANJO3YzpiDHWLvDf9tqJJ_bu1trBODg\",\"kty\":\"AKP\",\"pub\":\"gIGCg4SFhoeIiYqLjI2Oj9jBECynG2yIJA4SuuZ7Glc\"}]}";
+
+const ANCHOR_SEEDS: [u8; 48] = [
+    96, 97, 98, 99, 100, 101, 102, 103, 104, 105, 106, 107, 108, 109, 110, 111, 112, 113, 114, 115,
+    116, 117, 118, 119, 120, 121, 122, 123, 124, 125, 126, 127, 128, 129, 130, 131, 132, 133, 134,
+    135, 136, 137, 138, 139, 140, 141, 142, 143,
+];
+
+// The chain of this text alone, with what its test under a key tells.
+fn tested_chain(alloc: Global, compact: &Compact, public: &[u8; 32]) -> Result<Seq<Tried>, Memory>
+    requires { IsCompact compact.now.whole compact.now }
+    ensures { IfOk result (All IsOfItsText) }
+{
+    let mut steps = Steps {
+        ledger: Plain::new(),
+    };
+    let mut tried = Tried {
+        text: compact.whole.copy(alloc)?,
+        seals: Seq::new(alloc),
+        misses: Seq::new(alloc),
+    };
+    match test_key(alloc, compact, public, &mut steps)? {
+        Tested::Yes(seal) => tried.seals.push(seal)?,
+        Tested::No(miss) => tried.misses.push(miss)?,
+    }
+    let mut chain = Seq::new(alloc);
+    chain.push(tried)?;
+    Ok(chain)
+}
+
+#[test]
+fn a_chain_is_judged_by_what_is_known(rt: HostRuntime) -> Result<(), Fail> {
+    let alloc = rt.alloc();
+    let keys = KeyPair::from_seeds(&ANCHOR_SEEDS);
+    let claims = read_tree(alloc, ANCHOR)?;
+    assert!(rt; is_whole(&claims) && matches!(claims, Json::Object(_)));
+    let typ = Text::of(alloc, b"entity-statement+jwt")?;
+    let text = seal(alloc, &keys, &typ, &claims)?;
+    let compact = split(alloc, text.as_slice())?;
+    let anchor = EntityId::read(alloc, b"https://ta.example")?;
+    let set = JwkSet::read(alloc, &read_tree(alloc, ANCHOR_KEYS)?)?;
+    // The key that the text was tested under, the moment, and the answer: valid, else not in time or the test that is wanted.
+    let rows: [([u8; 32], u64, Option<Option<[u8; 32]>>); 3] = [
+        (keys.public(), 1_850_000_000, None),
+        ([0; 32], 1_850_000_000, Some(Some(keys.public()))),
+        (keys.public(), 1_900_000_000, Some(None)),
+    ];
+    for (public, moment, wanted) in rows {
+        let chain = tested_chain(alloc, &compact, &public)?;
+        match judge(alloc, &chain, &anchor, &set, moment)? {
+            Judged::Told(Verdict::Valid(_resolved)) => assert!(rt; wanted.is_none()),
+            Judged::Told(Verdict::Refused { place, reason }) => {
+                assert!(rt; place == 0 && matches!(reason, Reason::Times));
+                assert!(rt; wanted == Some(None));
+            },
+            Judged::Untried { place, public } => {
+                assert_eq!(rt; place, 0);
+                assert!(rt; wanted == Some(Some(public)));
+            },
+        }
     }
     Ok(())
 }

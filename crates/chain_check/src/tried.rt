@@ -1,0 +1,13 @@
+use fed_ports::{Seq, Text};
+use sealed::{Sealed, Unsealed};
+
+/// A text of a chain, with what is known of its signature.
+#[derive(Drop)]
+pub struct Tried {
+    /// The signed text.
+    pub text: Text,
+    /// The pairs of the text and a key under which it verifies.
+    pub seals: Seq<Sealed>,
+    /// The pairs of the text and a key under which it doesn't verify.
+    pub misses: Seq<Unsealed>,
+}
