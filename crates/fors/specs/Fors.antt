@@ -7,20 +7,22 @@ use Rattle.slh_hash.specs.Hash.{th}
 use Rattle.slh_hash.specs.Lists.{joined, piece}
 use Rattle.slh_hash.specs.Trees.{tree_node, tree_path, tree_climb}
 
--- the public seed, the tree of layer 0 and the key pair that the trees stand below
+-- the public seed, the tree of layer 0 and the key pair that the trees stand below (section 8)
 pub record Instance : Type 0 where
   pub seed : List ℕ
   pub tree : ℕ
   pub pair : ℕ
 
+-- the trees below that key pair (section 4.2, the fields of an address)
 abbrev pub instance_of : List ℕ → ℕ → ℕ → Instance
 instance_of seed tree pair = record { seed = seed; tree = tree; pair = pair }
 
--- the same with the secret seed
+-- the same with the secret seed (section 8.1)
 pub record SecretInstance : Type 0 where
   pub trees : Instance
   pub sk_seed : List ℕ
 
+-- these trees with the secret seed
 abbrev pub secret_instance_of : Instance → List ℕ → SecretInstance
 secret_instance_of trees sk_seed = record { trees = trees; sk_seed = sk_seed }
 
@@ -45,7 +47,7 @@ named_leaf a k md q = q * 2 ^ a + slice_index (digits md a k) q
 unfoldable pub opening : ℕ → Instance → List ℕ → ℕ → List ℕ
 opening a w sk i = secret w sk i ++ tree_path (leaf w sk) (parent w) i a
 
--- how many bytes an opening has
+-- how many bytes an opening has (section 8.3)
 abbrev pub opening_bytes : ℕ → ℕ
 opening_bytes a = 16 + 16 * a
 
@@ -65,6 +67,6 @@ root_from a w i xs = tree_climb (parent w) i (parent w 0 i (take 16 xs)) (drop 1
 unfoldable pub fors_key_from : ℕ → ℕ → Instance → List ℕ → List ℕ → List ℕ
 fors_key_from a k w md sig = key_of_roots w (joined (λ q. root_from a w (named_leaf a k md q) (piece (opening_bytes a) q sig)) k)
 
--- the key: that of the roots of the k trees
+-- the key: that of the roots of the k trees (section 8)
 unfoldable pub fors_key : ℕ → ℕ → Instance → List ℕ → List ℕ
 fors_key a k w sk = key_of_roots w (joined (λ q. tree_node (leaf w sk) (parent w) a q) k)

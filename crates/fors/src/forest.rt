@@ -1,4 +1,4 @@
-//! The trees of one FORS key, as a reader of signatures knows them and as their signer does.
+// The trees of one FORS key, as a reader of signatures knows them and as their signer does.
 
 ghost use Rattle.std.specs.Prelude.{◌≡◌, ℕ, List, [], ◌+◌, ◌*◌, ◌/◌, ◌^◌, ◌<◌, ◌≤◌, ◌++◌, length, slice_index_or};
 ghost use Rattle.slh_hash.specs.declared.address.Address.{Address};

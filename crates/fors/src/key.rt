@@ -1,4 +1,4 @@
-//! The key from a signature (FIPS 205 Algorithm 17).
+// The key from a signature (FIPS 205 Algorithm 17).
 
 ghost use Rattle.std.specs.Prelude.{◌≡◌, ℕ, ◌+◌, ◌*◌, ◌/◌, ◌^◌, ◌<◌, ◌≤◌, length};
 ghost use Rattle.slh_hash.specs.Lists.{piece};

@@ -1,4 +1,4 @@
-//! Signing a digest (FIPS 205 Algorithm 16).
+// Signing a digest (FIPS 205 Algorithm 16).
 
 ghost use Rattle.std.specs.Prelude.{◌≡◌, ℕ, ◌+◌, ◌*◌, ◌/◌, ◌^◌, ◌<◌, ◌≤◌, length};
 ghost use Rattle.slh_hash.specs.Trees.{tree_node};

@@ -1,4 +1,4 @@
-//! The numbers of a FORS key and its signature.
+// The numbers of a FORS key and its signature.
 
 use slh_hash::P128S;
 

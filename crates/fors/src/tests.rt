@@ -1,4 +1,4 @@
-//! A signature that Python's hashlib and independent implementations agree on.
+// A signature that Python's hashlib and independent implementations agree on.
 
 use super::*;
 use slh_hash::{Address, hash_t};

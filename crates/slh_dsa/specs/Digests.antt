@@ -6,18 +6,19 @@ use Rattle.slh_hash.specs.declared.params.Params.{Params}
 abbrev pub to_int : List ℕ → ℕ
 to_int bytes = fold (λ v b. 256 * v + b) 0 bytes
 
--- the least number of bytes that hold so many bits
+-- the least number of bytes that hold so many bits (Algorithm 19, lines 6 to 8)
 abbrev pub bytes_for : ℕ → ℕ
 bytes_for bits = (bits + 7) / 8
 
--- the bits of the number of a tree in layer 0: h - h/d
+-- the bits of the number of a tree in layer 0: h - h/d (Algorithm 19, line 9)
 abbrev pub tree_bits : Params → ℕ
 tree_bits p = (p.d - 1) * p.tree_height
 
--- md: what FORS signs (Algorithm 19, line 6)
+-- how many bytes md has (Algorithm 19, line 6)
 abbrev pub md_bytes : Params → ℕ
 md_bytes p = bytes_for (p.k * p.a)
 
+-- md: what FORS signs (Algorithm 19, line 6)
 unfoldable pub md_of : Params → List ℕ → List ℕ
 md_of p digest = take (md_bytes p) digest
 

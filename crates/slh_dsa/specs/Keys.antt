@@ -3,12 +3,15 @@ use Rattle.std.specs.Prelude.{ℕ, ◌-◌, List, ◌++◌, take, drop}
 use Rattle.slh_hash.specs.declared.params.Params.{Params}
 use Rattle.wots_xmss.specs.Xmss.{xmss_node}
 
+-- SK.seed (Algorithm 18)
 abbrev pub sk_seed_of : List ℕ → List ℕ
 sk_seed_of seeds = take 16 seeds
 
+-- SK.prf (Algorithm 18)
 abbrev pub sk_prf_of : List ℕ → List ℕ
 sk_prf_of seeds = take 16 (drop 16 seeds)
 
+-- PK.seed (Algorithm 18)
 abbrev pub pk_seed_of : List ℕ → List ℕ
 pk_seed_of seeds = drop 32 seeds
 

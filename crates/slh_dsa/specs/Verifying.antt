@@ -7,10 +7,11 @@ use Rattle.wots_xmss.specs.Hypertree.{hyper_key, layer_bytes}
 use Rattle.slh_dsa.specs.Digests.{tree_of, leaf_of}
 use Rattle.slh_dsa.specs.Signing.{digest_of, fors_key_of}
 
--- how many bytes SIG_FORS and a signature have (section 11, table 2)
+-- how many bytes SIG_FORS has (section 8.3)
 abbrev pub fors_bytes : Params → ℕ
 fors_bytes p = p.k * opening_bytes p.a
 
+-- how many bytes a signature has (section 11, table 2)
 abbrev pub signature_bytes : Params → ℕ
 signature_bytes p = 16 + fors_bytes p + p.d * layer_bytes p.tree_height
 
@@ -29,6 +30,6 @@ pub record VerifiesBy (p : Params) (public message sig : List ℕ) : Type 0 wher
   pub size : length sig ≡ signature_bytes p
   pub root : root_from p (take 16 public) (drop 16 public) message sig ≡ drop 16 public
 
--- the same at SLH-DSA-SHA2-128s
+-- the same at SLH-DSA-SHA2-128s (section 11, table 2)
 abbrev pub Verifies : List ℕ → List ℕ → List ℕ → Type 0
 Verifies public message sig = VerifiesBy P128S public message sig

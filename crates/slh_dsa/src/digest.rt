@@ -32,6 +32,7 @@ pub fn leaf_of(digest: &[u8; 30]) -> u32
     u32::from(int_of_two(&part(digest, 28)) % (1 << 9))
 }
 
+// The number of 7 bytes, the highest first (FIPS 205 Algorithm 2).
 fn int_of_seven(bytes: &[u8; 7]) -> u64
     ensures { result ≡ to_int bytes.now }
 {
@@ -39,6 +40,7 @@ fn int_of_seven(bytes: &[u8; 7]) -> u64
     u64::from_be_bytes([0, a, b, c, d, e, f, g])
 }
 
+// The number of 2 bytes, the highest first (FIPS 205 Algorithm 2).
 fn int_of_two(bytes: &[u8; 2]) -> u16
     ensures { result ≡ to_int bytes.now }
 {

@@ -14,5 +14,5 @@ mod tests;
 mod verifying;
 
 pub use key_pair::KeyPair;
-pub use signing::sign;
+pub use signing::{SIGNATURE_BYTES, sign};
 pub use verifying::verify;

@@ -11,6 +11,9 @@ use fors::{FORS_BYTES, fors_sign_with};
 use slh_hash::{P128S, SeedHash, h_msg, prf_msg};
 use wots_xmss::hyper_sign_with;
 
+/// How many bytes a signature has (FIPS 205 table 2).
+pub const SIGNATURE_BYTES: usize = 7856;
+
 /// Writes the signature of a message, 7,856 bytes: a function of the key pair and the message (FIPS 205 Algorithms 19 and 22, without
 /// fresh random bytes and with an empty context).
 pub fn sign(keys: &KeyPair, message: &[u8], signature: &mut [u8])

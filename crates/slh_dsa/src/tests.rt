@@ -1,4 +1,4 @@
-//! Keys and signatures against those of five other implementations.
+// Keys and signatures against those of five other implementations.
 
 ghost use Rattle.std.specs.Prelude.{◌<◌};
 

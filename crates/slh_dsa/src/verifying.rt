@@ -36,7 +36,7 @@ pub fn verify<L: Ledger>(
     root.as_slice() == pk_root.as_slice()
 }
 
-/// The root that the signature leads to.
+// The root that the signature leads to.
 fn root_from(pk_seed: &[u8; 16], pk_root: &[u8; 16], message: &[u8], signature: &[u8]) -> [u8; 16]
     requires { length signature.now ≡ signature_bytes P128S }
     ensures { result ≡ root_from P128S pk_seed.now pk_root.now message.now signature.now }

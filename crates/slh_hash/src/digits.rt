@@ -1,4 +1,4 @@
-//! Digits: groups of the bits of a list of bytes, the high bit first (FIPS 205 Algorithm 4).
+// Digits: groups of the bits of a list of bytes, the high bit first (FIPS 205 Algorithm 4).
 
 ghost use Rattle.std.specs.Prelude.{◌≡◌, ℕ, ◌+◌, ◌*◌, ◌/◌, ◌%◌, ◌^◌, ◌<◌, ◌≤◌, length, slice_index};
 ghost use Rattle.slh_hash.specs.Digits.{bits, digits, nibble, twelve_bits};

@@ -1,5 +1,5 @@
-//! Many independent hashes in one call, each with a contract per value, so that their bodies may hash
-//! several values side by side.
+// Many independent hashes in one call, each with a contract per value, so that their bodies may hash
+// several values side by side.
 
 ghost use Rattle.std.specs.Prelude.{◌≡◌, ℕ, List, [], ◌+◌, ◌-◌, ◌*◌, ◌/◌, ◌^◌, ◌++◌, ◌<◌, ◌≤◌, length, slice_index, slice_index_or};
 ghost use Rattle.slh_hash.specs.declared.address.Address.{Address};

@@ -1,4 +1,4 @@
-//! The hash functions of FIPS 205 section 11.2.1 for keys and messages of one call.
+// The hash functions of FIPS 205 section 11.2.1 for keys and messages of one call.
 
 ghost use Rattle.std.specs.Prelude.{◌≡◌, ◌++◌, ◌≤◌, take};
 ghost use Rattle.slh_hash.specs.Hash.{th, h_msg, prf_msg, pure_message, key_block, xor_each};

@@ -1,4 +1,4 @@
-//! The blocks that hashes of one or two values end in, and the states that they lead to, a block a lane.
+// The blocks that hashes of one or two values end in, and the states that they lead to, a block a lane.
 
 ghost use Rattle.std.specs.Prelude.{◌≡◌, ◌++◌, ◌<◌, ◌≤◌, ◌+◌, ◌*◌, ℕ, [], length, slice_index, slice_index_or};
 ghost use Rattle.sha2.specs.Sha256.{compress, digest_bytes, first_words, initial_hash_256, word_at};

@@ -1,4 +1,4 @@
-//! Chains side by side, a chain a lane, whose values stay in words from step to step.
+// Chains side by side, a chain a lane, whose values stay in words from step to step.
 
 ghost use Rattle.std.specs.Prelude.{◌≡◌, ◌≢◌, ◌+◌, ◌-◌, ◌<◌, ◌≤◌, ◌^◌, ℕ, List, [], length, slice_index, slice_index_or};
 ghost use Rattle.sha2.specs.Sha256.{compress, digest_bytes, first_words, rounds, schedule};

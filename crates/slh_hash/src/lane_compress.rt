@@ -1,4 +1,4 @@
-//! SHA-256's compression of a block in each lane (FIPS 180-4 section 6.2.2).
+// SHA-256's compression of a block in each lane (FIPS 180-4 section 6.2.2).
 
 ghost use Rattle.std.specs.Prelude.{◌≡◌, ◌<◌, ◌≤◌, ◌+◌, ◌*◌, ℕ, List, slice_index, slice_set};
 ghost use Rattle.sha2.specs.Sha256.{IsRoundsAt, IsWindow, add_state, compress, first_words, round, rounds, schedule, window_word};

@@ -1,4 +1,4 @@
-//! Operations on several words at once, one in each lane of a vector (FIPS 180-4 section 4.1.2).
+// Operations on several words at once, one in each lane of a vector (FIPS 180-4 section 4.1.2).
 
 ghost use Rattle.std.specs.Prelude.{◌≡◌, ◌<◌, ◌^◌, ◌/◌, ◌*◌, ◌%◌, ℕ, bit_or, bit_xor, slice_index};
 ghost use Rattle.std.specs.Int.{w32, rotate_right};

@@ -1,4 +1,4 @@
-//! The numbers of a parameter set.
+// The numbers of a parameter set.
 
 /// The numbers of a parameter set that differ between the sets of one security category
 /// (FIPS 205 section 11, table 2). In all of them n is 16 bytes, w is 16 and a WOTS+ key has 35 chains.

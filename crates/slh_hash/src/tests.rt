@@ -1,4 +1,4 @@
-//! The hashes against values that Python's hashlib and hmac give.
+// The hashes against values that Python's hashlib and hmac give.
 
 use super::*;
 

@@ -1,7 +1,7 @@
-//! Trees of hashes: the root and a leaf's path from the leaves, and the root from a leaf and its path
-//! (FIPS 205 Algorithms 9 to 11 and 15 to 17).
-//!
-//! A tree is what hashes it: [`ParentHash`] knows the hash of two children, [`LeafHash`] the leaves too.
+// Trees of hashes: the root and a leaf's path from the leaves, and the root from a leaf and its path
+// (FIPS 205 Algorithms 9 to 11 and 15 to 17).
+//
+// A tree is what hashes it: [`ParentHash`] knows the hash of two children, [`LeafHash`] the leaves too.
 
 ghost use Rattle.std.specs.Prelude.{◌≡◌, ℕ, List, [], ◌+◌, ◌*◌, ◌/◌, ◌^◌, ◌<◌, ◌≤◌, ◌++◌, length, slice_index_or};
 ghost use Rattle.slh_hash.specs.Lists.{Begins};

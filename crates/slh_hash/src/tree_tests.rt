@@ -1,4 +1,4 @@
-//! Digits, and a tree of sixteen leaves against values that Python's hashlib gives.
+// Digits, and a tree of sixteen leaves against values that Python's hashlib gives.
 
 ghost use Rattle.std.specs.Prelude.{◌≡◌, ℕ, List, [], ◌+◌, ◌*◌, ◌/◌, ◌^◌, ◌<◌, ◌≤◌, ◌++◌, length, slice_index_or};
 ghost use Rattle.slh_hash.specs.declared.address.AddressType.TheVariants.{Tree};

@@ -13,7 +13,7 @@ unfoldable pub leaf_at : ℕ → ℕ → ℕ → ℕ → ℕ
 leaf_at h t leaf zero = leaf
 leaf_at h t leaf (suc j) = tree_at h t j % 2 ^ h
 
--- how many bytes the signature of one layer has
+-- how many bytes the signature of one layer has (section 6.2)
 abbrev pub layer_bytes : ℕ → ℕ
 layer_bytes h = 560 + 16 * h
 
@@ -23,7 +23,7 @@ message_at h seed sk t leaf m zero = m
 message_at h seed sk t leaf m (suc j) = xmss_key h seed j (tree_at h t j) (leaf_at h t leaf j) (message_at h seed sk t leaf m j)
     (xmss_signature h seed sk j (tree_at h t j) (leaf_at h t leaf j) (message_at h seed sk t leaf m j))
 
--- the signature of layer j
+-- the signature of layer j (Algorithm 12)
 unfoldable pub layer_signature : ℕ → List ℕ → List ℕ → ℕ → ℕ → List ℕ → ℕ → List ℕ
 layer_signature h seed sk t leaf m j = xmss_signature h seed sk j (tree_at h t j) (leaf_at h t leaf j) (message_at h seed sk t leaf m j)
 

@@ -8,13 +8,14 @@ use Rattle.slh_hash.specs.Digits.{digits}
 use Rattle.slh_hash.specs.Hash.{th}
 use Rattle.slh_hash.specs.Lists.{joined, piece}
 
--- the public seed, and the layer, tree and number of a key pair
+-- the public seed, and the layer, tree and number of a key pair (section 5)
 pub record Instance : Type 0 where
   pub seed : List ℕ
   pub layer : ℕ
   pub tree : ℕ
   pub pair : ℕ
 
+-- the key pair at that place (section 4.2, the fields of an address)
 abbrev pub instance_of : List ℕ → ℕ → ℕ → ℕ → Instance
 instance_of seed layer tree pair = record { seed = seed; layer = layer; tree = tree; pair = pair }
 
@@ -26,7 +27,7 @@ checksum ds = sum_by (λ d. 15 - d) ds
 unfoldable pub wots_digits : List ℕ → List ℕ
 wots_digits m = digits m 4 32 ++ digits (to_byte (16 * checksum (digits m 4 32)) 2) 4 3
 
--- the address of chain c
+-- the address of chain c (Algorithms 6 to 8)
 unfoldable pub chain_address : Instance → ℕ → Address
 chain_address w c = address w.layer w.tree WotsHash w.pair c 0
 

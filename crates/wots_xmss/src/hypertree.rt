@@ -1,4 +1,4 @@
-//! The hypertree: layers of trees, each of which signs the root of a tree below (FIPS 205 section 7).
+// The hypertree: layers of trees, each of which signs the root of a tree below (FIPS 205 section 7).
 
 ghost use Rattle.std.specs.Prelude.{◌≡◌, ℕ, List, ◌+◌, ◌-◌, ◌*◌, ◌/◌, ◌%◌, ◌^◌, ◌<◌, ◌≤◌, length};
 ghost use Rattle.wots_xmss.specs.Xmss.{xmss_node};

@@ -1,4 +1,4 @@
-//! The lengths of signatures in bytes.
+// The lengths of signatures in bytes.
 
 use slh_hash::P128S;
 

@@ -1,5 +1,5 @@
-//! A signature of the empty message by the key of the seeds 00, 01, .. 2f, as five implementations of
-//! SLH-DSA make it. Parts of it stand here by their hash, which Python's hashlib gives.
+// A signature of the empty message by the key of the seeds 00, 01, .. 2f, as five implementations of
+// SLH-DSA make it. Parts of it stand here by their hash, which Python's hashlib gives.
 
 use super::*;
 use crate::digits::wots_digits;

@@ -1,6 +1,6 @@
-//! WOTS+ key pairs, which sign one message each (FIPS 205 section 5).
-//!
-//! The chains of one or more key pairs lie one after the other, 35 a pair, and are hashed side by side.
+// WOTS+ key pairs, which sign one message each (FIPS 205 section 5).
+//
+// The chains of one or more key pairs lie one after the other, 35 a pair, and are hashed side by side.
 
 ghost use Rattle.std.specs.Prelude.{◌≡◌, ℕ, List, [], ◌+◌, ◌-◌, ◌*◌, ◌/◌, ◌%◌, ◌^◌, ◌<◌, ◌≤◌, length, slice_index, slice_index_or};
 ghost use Rattle.std.specs.List.{flat_map};

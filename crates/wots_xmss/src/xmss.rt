@@ -1,4 +1,4 @@
-//! Signatures of trees of WOTS+ keys (FIPS 205 section 6).
+// Signatures of trees of WOTS+ keys (FIPS 205 section 6).
 
 ghost use Rattle.std.specs.Prelude.{◌≡◌, ℕ, List, [], ◌+◌, ◌*◌, ◌/◌, ◌^◌, ◌<◌, ◌≤◌, length};
 ghost use Rattle.slh_hash.specs.Trees.{tree_climb};

@@ -1,4 +1,4 @@
-//! Two signatures, in hex. OpenSSL 3.5.9 and 4.0, Botan 3.7.1, BouncyCastle 1.80 and CIRCL 1.6.5 make the same bytes.
+// Two signatures, in hex. OpenSSL 3.5.9 and 4.0, Botan 3.7.1, BouncyCastle 1.80 and CIRCL 1.6.5 make the same bytes.
 
 /// By the key of the seeds 00, 01, .. 2f, of the thousand bytes 7 + 131 i modulo 256.
 pub const OF_THOUSAND_BYTES: &[u8] = b"\
