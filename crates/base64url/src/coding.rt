@@ -1,3 +1,5 @@
+// Base64url in both directions.
+
 ghost use Rattle.std.specs.Prelude.{◌≡◌, ℕ, ◌↔◌, List, length, IfOk, IfSome, Some};
 ghost use Rattle.base64.specs.GeneralPurpose.{IsBytes};
 ghost use Rattle.base64url.specs.Base64url.{base64url, decoded, decoded_32};
@@ -16,8 +18,8 @@ pub fn encode(alloc: Global, bytes: &[u8]) -> Result<Text, Memory>
     Ok(Text::from_vec(text.into_bytes()))
 }
 
-/// The bytes whose base64url the text is, and `None` where it is that of none: another character, padding, a lone
-/// last character, or bits left over that aren't zero.
+/// The bytes whose base64url the text is, and `None` where it is that of none: another character, padding, a lone last
+/// character, or bits left over that aren't zero.
 #[tactic(auto, unfolding(crate::specs::Base64url::decoded, crate::specs::Base64url::base64url))]
 pub fn decode(alloc: Global, text: &[u8]) -> Result<Option<Text>, Memory>
     ensures exact { IfOk result (λ bytes. bytes ≡ decoded text.now) }
@@ -41,8 +43,7 @@ pub fn encode_32(bytes: &[u8; 32]) -> [u8; 43]
     text
 }
 
-/// The 32 bytes whose base64url the text is, and `None` where it is that of none. Such a text has 43
-/// characters.
+/// The 32 bytes whose base64url the text is, and `None` where it is that of none. Such a text has 43 characters.
 pub fn decode_32(text: &[u8]) -> Option<[u8; 32]>
     ensures exact { result ≡ decoded_32 text.now }
     ensures canonical { (b : List ℕ) → IsBytes b → length b ≡ 32

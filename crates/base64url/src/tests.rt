@@ -1,3 +1,5 @@
+// The texts of RFC 4648, and texts that are not canonical.
+
 use super::*;
 use std::test::Fail;
 

@@ -1,7 +1,7 @@
 -- What the stages of a judgement tell of the texts that were read is the judgement on them.
 use Rattle.std.proofs.Common.{◌≡◌, ℕ, List, length, sym, subst}
 use Rattle.jwk_set.specs.declared.jwk.Jwk.{Jwk}
-use Rattle.chain_check.specs.declared.entry.Entry.{Entry}
+use Rattle.entity_statement.specs.declared.signed.SignedStatement.{SignedStatement}
 use Rattle.chain_check.specs.declared.reason.Reason.{Reason}
 use Rattle.chain_check.specs.declared.reason.Reason.TheVariants.{Form, Names, Times}
 use Rattle.chain_check.specs.declared.tried.Tried.{Tried}
@@ -27,7 +27,7 @@ module _ (chain : List Tried) (anchor : List ℕ) (keys : List Jwk) (t : ℕ) wh
   form-judged place reason told =
       subst (λ r. IsJudgementOn case chain (Told (Refused place r))) (sym told.0) ((told.1, λ at public need. told.1.here (need.0.0.0 place told.1.within)))
 
-  module _ (entries : List Entry) (read : AreRead (texts_of chain) entries) where
+  module _ (entries : List SignedStatement) (read : AreRead (texts_of chain) entries) where
     pub names-judged : (place : ℕ) (reason : Reason) → (reason ≡ Names) × LosesNames (claims_in entries) anchor place → IsJudgementOn case chain (Told (Refused place reason))
     names-judged place reason told =
         let loses : LosesNames (statements_of (texts_of chain)) anchor place = subst (λ claims. LosesNames claims anchor place) read.statements told.1 in

@@ -10,7 +10,7 @@ use Rattle.jws_form.proofs.Laws.{only}
 use Rattle.jwk_set.specs.declared.jwk.Jwk.{Jwk}
 use Rattle.sealed.specs.Seals.{IsSealed, IsSealedBy, IsUnsealed, Pair, named_key}
 use Rattle.entity_statement.specs.Claims.{Claims}
-use Rattle.chain_check.specs.declared.entry.Entry.{Entry}
+use Rattle.entity_statement.specs.declared.signed.SignedStatement.{SignedStatement}
 use Rattle.chain_check.specs.declared.tried.Tried.{Tried}
 use Rattle.chain_check.specs.declared.reason.Reason.TheVariants.{Signature}
 use Rattle.chain_check.specs.Places.{FailsFirst, HoldsBelow}
@@ -19,7 +19,8 @@ use Rattle.chain_check.specs.Signatures.{AreSigned, SignedAt, key_in, keys_at}
 use Rattle.chain_check.proofs.NameLaws.{length-claims}
 use Rattle.chain_check.proofs.SignatureLaws.{key_in-compact}
 use Rattle.chain_check.specs.Judging.{AtSeal, IsKnownSeal, IsOfItsText, IsUnknown, IsUntriedFirst, pair_of, seal_keys, seal_place, text_in, texts_of}
-use Rattle.chain_check.specs.Stages.{FailsUntried, IsKnownFailure, IsSplit, NoTest, claims_in, entry_text, texts_in}
+use Rattle.entity_statement.specs.Signed.{IsSplit}
+use Rattle.chain_check.specs.Stages.{FailsUntried, IsKnownFailure, NoTest, claims_in, entry_text, texts_in}
 
 -- ---- one text and the keys of a set
 
@@ -97,11 +98,11 @@ module _ (pairs : List Pair) (text public : List ℕ) where
 
 -- ---- all the seals of a chain
 
-module _ (entries : List Entry) (chain : List Tried) (same : texts_in entries ≡ texts_of chain) where
+module _ (entries : List SignedStatement) (chain : List Tried) (same : texts_in entries ≡ texts_of chain) where
   pub length-chain : length chain ≡ length entries
   length-chain = sym (length-map chain text_in) ∙ ap length (sym same) ∙ length-map entries entry_text
 
-  module _ (j : ℕ) (e : Entry) (d : Tried) (short : j < length entries) where
+  module _ (j : ℕ) (e : SignedStatement) (d : Tried) (short : j < length entries) where
     tried : Tried
     tried = get_or chain j d
 
@@ -184,7 +185,7 @@ seal_place-is : (i : ℕ) → seal_place i ≡ i - 1
 seal_place-is zero = omega arith
 seal_place-is (suc j) = omega arith
 
-module _ (entries : List Entry) (chain : List Tried) (keys : List Jwk) (same : texts_in entries ≡ texts_of chain) (some : 0 < length entries) where
+module _ (entries : List SignedStatement) (chain : List Tried) (keys : List Jwk) (same : texts_in entries ≡ texts_of chain) (some : 0 < length entries) where
   abbrev claims : List Claims
   claims = claims_in entries
 
@@ -192,7 +193,7 @@ module _ (entries : List Entry) (chain : List Tried) (keys : List Jwk) (same : t
   abbrev pub KnownBelow : ℕ → Type 0
   KnownBelow i = HoldsBelow (KnownAt chain claims keys) i × HoldsBelow (SealedAt (texts_of chain) claims keys) i
 
-  module _ (i place : ℕ) (e : Entry) (x : Tried) (within : i ≤ length entries) (at : place ≡ i - 1) (is : x ≡ get_or chain place x) where
+  module _ (i place : ℕ) (e : SignedStatement) (x : Tried) (within : i ≤ length entries) (at : place ≡ i - 1) (is : x ≡ get_or chain place x) where
     place-is : place ≡ seal_place i
     place-is = at ∙ sym (seal_place-is i)
 

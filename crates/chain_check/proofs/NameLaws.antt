@@ -4,12 +4,12 @@ use Rattle.std.specs.Prelude.{◌↔◌, Bool, true, option_map, slice_get}
 use Rattle.std.proofs.lemmas.List.{length-map}
 use Rattle.std.proofs.lemmas.Option.{slice_get-get_or, slice_get-map}
 use Rattle.std.proofs.lemmas.Slice.Eq.{bytes_eq-Decides}
-use Rattle.chain_check.specs.declared.entry.Entry.{Entry}
+use Rattle.entity_statement.specs.declared.signed.SignedStatement.{SignedStatement}
 use Rattle.chain_check.specs.Names.{issuer_at, subject_at}
 use Rattle.chain_check.specs.Stages.{claims_in, entry_claims}
 
 -- the statement at a place
-module _ (entries : List Entry) (j : ℕ) (d : Entry) (short : j < length entries) where
+module _ (entries : List SignedStatement) (j : ℕ) (d : SignedStatement) (short : j < length entries) where
   pub claims-there : slice_get (claims_in entries) j ≡ Some (entry_claims (get_or entries j d))
   claims-there = slice_get-map entry_claims entries j ∙ ap (option_map entry_claims) (slice_get-get_or entries j d short)
 
@@ -19,7 +19,7 @@ module _ (entries : List Entry) (j : ℕ) (d : Entry) (short : j < length entrie
   pub subject-there : subject_at (claims_in entries) j ≡ (get_or entries j d).statement.sub
   subject-there = rw claims-there refl
 
-pub length-claims : (entries : List Entry) → length (claims_in entries) ≡ length entries
+pub length-claims : (entries : List SignedStatement) → length (claims_in entries) ≡ length entries
 length-claims entries = length-map entries entry_claims
 
 -- a test of two names says whether they are one

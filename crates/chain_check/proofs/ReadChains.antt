@@ -4,13 +4,14 @@ use Rattle.std.specs.Prelude.{All, is_some, true, slice_get}
 use Rattle.std.proofs.lemmas.List.{map-append, take_all, take_more}
 use Rattle.std.proofs.lemmas.List.Elements.{All-push, filter_map-append}
 use Rattle.std.proofs.lemmas.Option.{slice_get-get_or}
-use Rattle.chain_check.specs.declared.entry.Entry.{Entry}
+use Rattle.entity_statement.specs.declared.signed.SignedStatement.{SignedStatement}
+use Rattle.entity_statement.specs.Signed.{IsReading, IsSplit, statement_of}
 use Rattle.chain_check.specs.Places.{HoldsBelow}
-use Rattle.chain_check.specs.Chains.{Texts, ReadsAt, LosesForm, max_statements, statement_of, statements_of}
-use Rattle.chain_check.specs.Stages.{AreRead, IsReading, IsSplit, claims_in, entry_claims, entry_text, texts_in}
+use Rattle.chain_check.specs.Chains.{Texts, ReadsAt, LosesForm, max_statements, statements_of}
+use Rattle.chain_check.specs.Stages.{AreRead, claims_in, entry_claims, entry_text, texts_in}
 
 -- the first j texts are read
-pub record ReadUpTo (texts : Texts) (entries : List Entry) (j : ℕ) : Type 0 where
+pub record ReadUpTo (texts : Texts) (entries : List SignedStatement) (j : ℕ) : Type 0 where
   pub fits : HoldsBelow (ReadsAt texts) j
   pub same : texts_in entries ≡ take j texts
   pub statements : claims_in entries ≡ statements_of (take j texts)
@@ -21,14 +22,14 @@ unfolding statements_of
 ReadUpTo-none texts = record { fits = λ j below. absurd (omega arith); same = refl; statements = refl; split = search rules }
 
 -- one text more, which the list has at j
-module _ (texts : Texts) (entries : List Entry) (j : ℕ) (text : List ℕ) (short : j < length texts) (is : text ≡ get_or texts j text) where
+module _ (texts : Texts) (entries : List SignedStatement) (j : ℕ) (text : List ℕ) (short : j < length texts) (is : text ≡ get_or texts j text) where
   there : slice_get texts j ≡ Some text
   there = slice_get-get_or texts j text short ∙ ap Some (sym is)
 
   longer : take (j + 1) texts ≡ take j texts ++ text ∷ []
   longer = take_more texts j text short ∙ ap (λ x. take j texts ++ x ∷ []) (sym is)
 
-  pub ReadUpTo-more : (entry : Entry) (more : List Entry) → j < max_statements → IsReading text (Some entry) → more ≡ entries ++ entry ∷ [] → ReadUpTo texts entries j → ReadUpTo texts more (j + 1)
+  pub ReadUpTo-more : (entry : SignedStatement) (more : List SignedStatement) → j < max_statements → IsReading text (Some entry) → more ≡ entries ++ entry ∷ [] → ReadUpTo texts entries j → ReadUpTo texts more (j + 1)
   unfolding statements_of
   ReadUpTo-more entry more near reading pushed read =
       let here : ReadsAt texts j = record { near = near; text = text; there = there; reads = ap is_some reading.0 } in
@@ -63,7 +64,7 @@ LosesForm-empty texts none = record {
 }
 
 -- all are read
-pub AreRead-all : (texts : Texts) (entries : List Entry) (j : ℕ) → 0 < length texts → length texts ≤ j → ReadUpTo texts entries j → AreRead texts entries
+pub AreRead-all : (texts : Texts) (entries : List SignedStatement) (j : ℕ) → 0 < length texts → length texts ≤ j → ReadUpTo texts entries j → AreRead texts entries
 AreRead-all texts entries j some all read =
     let whole = take_all j texts all in
     record {

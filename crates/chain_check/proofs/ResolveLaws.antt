@@ -10,7 +10,7 @@ use Rattle.chain_limits.specs.Types.{types_allowed}
 use Rattle.policy_merge.specs.Policies.{Types}
 use Rattle.policy_apply.specs.declared.fault.ApplyFault.{ApplyFault}
 use Rattle.entity_statement.specs.Claims.{Claims}
-use Rattle.chain_check.specs.declared.entry.Entry.{Entry}
+use Rattle.entity_statement.specs.declared.signed.SignedStatement.{SignedStatement}
 use Rattle.chain_check.specs.declared.reason.Reason.{Reason}
 use Rattle.chain_check.specs.declared.reason.Reason.TheVariants.{Form, Names, Times, Signature, PathLength, Name, Conflict, Policy}
 use Rattle.chain_check.specs.declared.stop.Stop.{Stop}
@@ -38,10 +38,10 @@ Passes-weaker (Err stop) P P' Q Q' ok then told = Passes-err stop P P' Q Q' then
 abbrev pub policies_of : List Claims → List Types
 policies_of = map (λ s. s.policy)
 
-pub length-policies : (entries : List Entry) → length (policies_of (claims_in entries)) ≡ length entries
+pub length-policies : (entries : List SignedStatement) → length (policies_of (claims_in entries)) ≡ length entries
 length-policies entries = length-map (claims_in entries) (λ s. s.policy) ∙ length-claims entries
 
-pub policy-there : (entries : List Entry) (j : ℕ) (d : Entry) → j < length entries → slice_get (policies_of (claims_in entries)) j ≡ Some (get_or entries j d).statement.policy
+pub policy-there : (entries : List SignedStatement) (j : ℕ) (d : SignedStatement) → j < length entries → slice_get (policies_of (claims_in entries)) j ≡ Some (get_or entries j d).statement.policy
 policy-there entries j d short =
     slice_get-map (λ s. s.policy) (claims_in entries) j ∙ ap (option_map (λ s. s.policy)) (slice_get-map entry_claims entries j ∙ ap (option_map entry_claims) (slice_get-get_or entries j d short))
 
@@ -49,11 +49,11 @@ pub policies-drop : (chain : List Claims) → policies_of (drop 1 chain) ≡ dro
 policies-drop chain = sym (drop-map (λ s. s.policy) 1 chain)
 
 -- the statements below the trust anchor's
-pub claims-below : (entries below : List Entry) (n : ℕ) → n ≡ length entries - 1 → below ≡ take n entries → claims_in below ≡ below_anchor (claims_in entries)
+pub claims-below : (entries below : List SignedStatement) (n : ℕ) → n ≡ length entries - 1 → below ≡ take n entries → claims_in below ≡ below_anchor (claims_in entries)
 claims-below entries below n is parts =
     ap claims_in parts ∙ sym (take-map entry_claims n entries) ∙ ap (λ k. take k (claims_in entries)) (is ∙ ap (λ k. k - 1) (sym (length-claims entries)))
 
-module _ (entries below : List Entry) (is_below : claims_in below ≡ below_anchor (claims_in entries)) where
+module _ (entries below : List SignedStatement) (is_below : claims_in below ≡ below_anchor (claims_in entries)) where
   pub places-are : (places : List Place) → places ≡ map place_of (claims_in below) → places ≡ limited_places (claims_in entries)
   unfolding limited_places
   places-are places is = is ∙ ap (map place_of) is_below
@@ -96,13 +96,13 @@ refusal-fails chain policy outcome merged is within place Signature told = absur
 refusal-fails chain policy outcome merged is within place (Conflict t p f s) told = absurd told
 
 -- the leaf's metadata
-pub own-about : (entries : List Entry) (d about : Entry) → slice_get entries 1 ≡ Some about → put_over about.statement.metadata (get_or entries 0 d).statement.metadata ≡ own_metadata (claims_in entries)
+pub own-about : (entries : List SignedStatement) (d about : SignedStatement) → slice_get entries 1 ≡ Some about → put_over about.statement.metadata (get_or entries 0 d).statement.metadata ≡ own_metadata (claims_in entries)
 unfolding own_metadata
 own-about [] d about there = cc there
 own-about (leaf ∷ []) d about there = cc there
-own-about (leaf ∷ next ∷ rest) d about there = let same : about ≡ next = cc there in ap (λ (e : Entry). put_over e.statement.metadata leaf.statement.metadata) same
+own-about (leaf ∷ next ∷ rest) d about there = let same : about ≡ next = cc there in ap (λ (e : SignedStatement). put_over e.statement.metadata leaf.statement.metadata) same
 
-pub own-alone : (entries : List Entry) (d : Entry) → 0 < length entries → slice_get entries 1 ≡ None → (get_or entries 0 d).statement.metadata ≡ own_metadata (claims_in entries)
+pub own-alone : (entries : List SignedStatement) (d : SignedStatement) → 0 < length entries → slice_get entries 1 ≡ None → (get_or entries 0 d).statement.metadata ≡ own_metadata (claims_in entries)
 unfolding own_metadata
 own-alone [] d some none = absurd (omega arith)
 own-alone (leaf ∷ []) d some none = refl
@@ -113,7 +113,7 @@ unfolding allowed_metadata
 allowed-is chain places own is_places is_own = ap₂ types_allowed is_places is_own
 
 -- the least end
-pub least-is : (entries : List Entry) (d : Entry) → 0 < length entries → fold (λ exp s. min exp s.exp) (get_or entries 0 d).statement.exp (claims_in entries) ≡ least_exp (claims_in entries)
+pub least-is : (entries : List SignedStatement) (d : SignedStatement) → 0 < length entries → fold (λ exp s. min exp s.exp) (get_or entries 0 d).statement.exp (claims_in entries) ≡ least_exp (claims_in entries)
 unfolding least_exp
 least-is [] d some = absurd (omega arith)
 least-is (leaf ∷ rest) d some =

@@ -15,7 +15,7 @@ use Rattle.sealed.specs.Seals.{IsSealedBy, Pair, named_key}
 use Rattle.sealed.specs.declared.fault.SealFault.{SealFault}
 use Rattle.sealed.specs.declared.fault.SealFault.TheVariants.{NoKid, NoKey, BadSignature, Memory}
 use Rattle.entity_statement.specs.Use.{current_at}
-use Rattle.chain_check.specs.declared.entry.Entry.{Entry}
+use Rattle.entity_statement.specs.declared.signed.SignedStatement.{SignedStatement}
 use Rattle.chain_check.specs.Counts.{Counts, CountsAll, CountsBoth, CountsPlace, CountsTest, counted}
 use Rattle.chain_check.specs.Signatures.{CurrentAt, key_in}
 use Rattle.chain_check.specs.Stages.{claims_in, entry_claims}
@@ -23,7 +23,7 @@ use Rattle.chain_check.proofs.NameLaws.{claims-there}
 
 -- ---- times
 
-module _ (entries : List Entry) (j : ℕ) (d : Entry) (t : ℕ) (short : j < length entries) where
+module _ (entries : List SignedStatement) (j : ℕ) (d : SignedStatement) (t : ℕ) (short : j < length entries) where
   abbrev is_current : Bool
   is_current = current_at (get_or entries j d).statement.iat (get_or entries j d).statement.exp t
 

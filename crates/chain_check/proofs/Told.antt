@@ -3,7 +3,7 @@ use Rattle.std.proofs.Common.{◌≡◌, ◌+◌, ℕ, List, length, Result, Ok,
 use Rattle.std.proofs.lemmas.List.{length-map}
 use Rattle.std.specs.Prelude.{is_ok}
 use Rattle.jwk_set.specs.declared.jwk.Jwk.{Jwk}
-use Rattle.chain_check.specs.declared.entry.Entry.{Entry}
+use Rattle.entity_statement.specs.declared.signed.SignedStatement.{SignedStatement}
 use Rattle.chain_check.specs.declared.reason.Reason.{Reason}
 use Rattle.chain_check.specs.declared.reason.Reason.TheVariants.{Form, Names, Times, Signature, PathLength, Name, Conflict, Policy}
 use Rattle.chain_check.specs.declared.verdict.Resolved.{Resolved}
@@ -22,14 +22,14 @@ use Rattle.chain_check.proofs.SignatureLaws.{Counts-within}
 
 -- ---- the names
 
-pub names-told : (texts : Texts) (anchor : List ℕ) (keys : List Jwk) (t : ℕ) (entries : List Entry) → AreRead texts entries → (place : ℕ) (reason : Reason)
+pub names-told : (texts : Texts) (anchor : List ℕ) (keys : List Jwk) (t : ℕ) (entries : List SignedStatement) → AreRead texts entries → (place : ℕ) (reason : Reason)
     → (reason ≡ Names) × LosesNames (claims_in entries) anchor place → IsFirstFailure (case_of texts anchor keys t) place reason
 names-told texts anchor keys t entries read place reason told =
     subst (IsFirstFailure (case_of texts anchor keys t) place) (sym told.0) ((read.form, subst (λ chain. LosesNames chain anchor place) read.statements told.1))
 
 -- ---- how many signatures were checked
 
-module _ (texts : Texts) (keys : List Jwk) (entries : List Entry) (read : AreRead texts entries) where
+module _ (texts : Texts) (keys : List Jwk) (entries : List SignedStatement) (read : AreRead texts entries) where
   abbrev One : Type 0
   One = NamesOneKey texts (statements_of texts) keys
 
@@ -61,7 +61,7 @@ module _ (texts : Texts) (keys : List Jwk) (entries : List Entry) (read : AreRea
 
 -- ---- the classes after the names
 
-module _ (texts : Texts) (anchor : List ℕ) (keys : List Jwk) (t : ℕ) (entries : List Entry) (read : AreRead texts entries) (names : HasNames (claims_in entries) anchor) where
+module _ (texts : Texts) (anchor : List ℕ) (keys : List Jwk) (t : ℕ) (entries : List SignedStatement) (read : AreRead texts entries) (names : HasNames (claims_in entries) anchor) where
   abbrev case : Case
   case = case_of texts anchor keys t
 

@@ -1,19 +1,13 @@
 -- A trust chain as a list of texts, the leaf's first, and the statements that it holds (OpenID Federation 1.0 section 4).
-use Rattle.std.specs.Prelude.{◌≡◌, ◌<◌, ◌-◌, ℕ, List, length, take, drop, max, Option, Some, option_and_then, IsSome, slice_get}
+use Rattle.std.specs.Prelude.{◌≡◌, ◌<◌, ◌-◌, ℕ, List, length, take, drop, max, Some, IsSome, slice_get}
 use Rattle.std.specs.List.{filter_map}
-use Rattle.std.specs.Result.{result_ok}
-use Rattle.jws_form.specs.Splitting.{splitting}
 use Rattle.entity_statement.specs.Claims.{Claims}
-use Rattle.entity_statement.specs.Table.{claims_of}
+use Rattle.entity_statement.specs.Signed.{statement_of}
 use Rattle.chain_check.specs.Places.{HoldsBelow, FailsFirst}
 
 -- the texts of a chain, the leaf's first (section 4)
 abbrev pub Texts : Type 0
 Texts = List (List ℕ)
-
--- the statement that a text reads as, where it reads as one (section 3.1)
-unfoldable pub statement_of : List ℕ → Option Claims
-statement_of text = option_and_then (λ compact. result_ok (claims_of compact)) (result_ok (splitting text))
 
 -- the statements of the texts that read as one
 unfoldable pub statements_of : Texts → List Claims

@@ -1,12 +1,12 @@
 -- The leaf's metadata before policies: its own, what its superior puts over it, and without the types that constraints
--- don't allow (OpenID Federation 1.0 sections 3.1.3, 6.1.4.2 and 6.2.3).
-use Rattle.std.specs.Prelude.{ℕ, List, [], ◌∷◌, map, Option, Some, unwrap_or, slice_get}
-use Rattle.std.specs.Option.{option_and_then, option_map_or, option_or}
+-- don't allow (OpenID Federation 1.0 sections 3.1.1, 6.1.4.2 and 6.2.3).
+use Rattle.std.specs.Prelude.{List, [], ◌∷◌, map, Option, slice_get}
+use Rattle.std.specs.Option.{option_map_or, option_or}
 use Rattle.std.specs.List.{filter_map}
 use Rattle.fed_json.specs.declared.tree.Json.{Json, Object}
 use Rattle.fed_json.specs.declared.tree.Member.{Member}
 use Rattle.fed_json.specs.Reading.{member_of}
-use Rattle.fed_json.specs.Trees.{as_object, find}
+use Rattle.fed_json.specs.Trees.{find, member_name, object_members}
 use Rattle.entity_id.specs.Identifiers.{host_of}
 use Rattle.chain_limits.specs.declared.place.Place.{Place}
 use Rattle.chain_limits.specs.Types.{types_allowed}
@@ -14,31 +14,23 @@ use Rattle.policy_merge.specs.Tables.{Side, sides}
 use Rattle.entity_statement.specs.Claims.{Claims}
 use Rattle.chain_check.specs.Chains.{below_anchor}
 
--- the members of an object, and none of any other tree
-abbrev pub members_in : Option Json → List Member
-members_in tree = unwrap_or (option_and_then as_object tree) []
-
--- the name of a member
-abbrev pub name_of : Member → List ℕ
-name_of m = m.name
-
 -- what stands under one name: the superior's member, and the entity's own where the superior has none
 abbrev pub upper_first : Side Member Member → Option Member
 upper_first side = option_or side.upper side.lower
 
 -- the parameters of both in byte order of their names; of two with one name the superior's
 unfoldable pub parameters_over : List Member → List Member → List Member
-parameters_over upper own = filter_map upper_first (sides name_of name_of upper own)
+parameters_over upper own = filter_map upper_first (sides member_name member_name upper own)
 
 -- an entity type of the leaf with what the superior says of it
 abbrev pub type_over : List Member → Member → Member
-type_over upper m = member_of m.name (Object (parameters_over (members_in (find m.name upper)) (members_in (Some m.value))))
+type_over upper m = member_of m.name (Object (parameters_over (option_map_or object_members (find m.name upper) []) (object_members m.value)))
 
 -- the leaf's metadata with the superior's over it, for the types that the leaf has
 unfoldable pub put_over : Json → Json → Json
-put_over upper metadata = Object (map (type_over (members_in (Some upper))) (members_in (Some metadata)))
+put_over upper metadata = Object (map (type_over (object_members upper)) (object_members metadata))
 
--- the leaf's metadata, with that of the statement about it put over where there is one (section 3.1.3)
+-- the leaf's metadata, with that of the statement about it put over where there is one (section 3.1.1, `metadata`)
 unfoldable pub own_metadata : List Claims → Json
 own_metadata [] = Object []
 own_metadata (leaf ∷ rest) = option_map_or (λ about. put_over about.metadata leaf.metadata) (slice_get rest 0) leaf.metadata

@@ -1,8 +1,8 @@
 -- What the stages of a check say of the texts that were read, and what each answers.
 use Rattle.std.specs.Prelude.{◌≡◌, ℕ, List, length, map, Option, Some, None, All, Result, Ok, Err}
 use Rattle.fed_json.specs.declared.tree.Json.{Json}
-use Rattle.jws_form.specs.Compact.{IsCompact}
 use Rattle.entity_statement.specs.Claims.{Claims}
+use Rattle.entity_statement.specs.Signed.{IsSplit}
 use Rattle.entity_statement.specs.Told.{told}
 use Rattle.chain_limits.specs.declared.place.Place.{Place}
 use Rattle.chain_limits.specs.Limits.{IsVerdict}
@@ -15,7 +15,7 @@ use Rattle.policy_apply.specs.declared.fault.ApplyFault.TheVariants as apply
 use Rattle.chain_check.specs.declared.reason.Reason.{Reason}
 use Rattle.chain_check.specs.declared.reason.Reason.TheVariants.{Signature, PathLength, Name, Conflict, Policy}
 use Rattle.fed_ports.specs.declared.faults.Memory.{Memory as NoMemory}
-use Rattle.chain_check.specs.declared.entry.Entry.{Entry}
+use Rattle.entity_statement.specs.declared.signed.SignedStatement.{SignedStatement}
 use Rattle.chain_check.specs.declared.verdict.Resolved.{Resolved}
 use Rattle.chain_check.specs.declared.verdict.Verdict.{Verdict}
 use Rattle.chain_check.specs.declared.verdict.Verdict.TheVariants as verdict
@@ -30,35 +30,26 @@ use Rattle.chain_check.specs.declared.known.Test.{Test}
 use Rattle.chain_check.specs.Places.{FailsFirst}
 use Rattle.chain_check.specs.Signatures.{AreSigned, SignedAt}
 use Rattle.chain_check.specs.Judging.{IsKnownSeal, IsUnknown, IsUntriedFirst, texts_of}
-use Rattle.chain_check.specs.Chains.{Texts, HasForm, statement_of, statements_of}
+use Rattle.chain_check.specs.Chains.{Texts, HasForm, statements_of}
 use Rattle.chain_check.specs.Policies.{ConflictAt, merged_policy}
 use Rattle.chain_check.specs.Metadata.{limited_places}
 use Rattle.chain_check.specs.Validity.{IsWithin, applied}
 
 -- the texts and the statements that were read
-abbrev pub entry_text : Entry → List ℕ
+abbrev pub entry_text : SignedStatement → List ℕ
 entry_text e = e.compact.whole
 
-abbrev pub entry_claims : Entry → Claims
+abbrev pub entry_claims : SignedStatement → Claims
 entry_claims e = told e.statement
 
-abbrev pub texts_in : List Entry → Texts
+abbrev pub texts_in : List SignedStatement → Texts
 texts_in entries = map entry_text entries
 
-abbrev pub claims_in : List Entry → List Claims
+abbrev pub claims_in : List SignedStatement → List Claims
 claims_in entries = map entry_claims entries
 
--- the parts of the entry are those of its text (RFC 7515 section 7.1)
-abbrev pub IsSplit : Entry → Type 0
-IsSplit e = IsCompact e.compact.whole e.compact
-
--- the text is read, or reads as no statement
-abbrev pub IsReading : List ℕ → Option Entry → Type 0
-IsReading text (Some entry) = (statement_of text ≡ Some (entry_claims entry)) × (entry_text entry ≡ text) × IsSplit entry
-IsReading text None = statement_of text ≡ None
-
 -- the entries are the texts, each read
-pub record AreRead (texts : Texts) (entries : List Entry) : Type 0 where
+pub record AreRead (texts : Texts) (entries : List SignedStatement) : Type 0 where
   pub form : HasForm texts
   pub same : texts_in entries ≡ texts
   pub statements : claims_in entries ≡ statements_of texts

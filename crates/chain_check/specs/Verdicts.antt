@@ -1,6 +1,5 @@
 -- What is answered on a chain: what a valid one resolves to, and the first failure of any other.
-use Rattle.std.specs.Prelude.{◌≡◌, ℕ, List, [], ◌∷◌, length, fold, min, Ok, Err, IsTrue, Bool, true, false}
-use Rattle.std.specs.Str.{is_utf8}
+use Rattle.std.specs.Prelude.{◌≡◌, ℕ, List, [], ◌∷◌, length, fold, min, Ok, Err, Bool, true, false}
 use Rattle.fed_json.specs.Forms.{IsWhole}
 use Rattle.chain_limits.specs.Limits.{IsVerdict}
 use Rattle.chain_limits.specs.declared.verdict.LimitVerdict.TheVariants as limit
@@ -8,6 +7,7 @@ use Rattle.policy_merge.specs.Policies.{Types}
 use Rattle.policy_merge.specs.declared.fault.PolicyFault.TheVariants as merge
 use Rattle.policy_apply.specs.declared.fault.ApplyFault.TheVariants as apply
 use Rattle.entity_statement.specs.Claims.{Claims}
+use Rattle.policy_merge.specs.Places.{AreUtf8}
 use Rattle.chain_check.specs.declared.reason.Reason.{Reason}
 use Rattle.chain_check.specs.declared.reason.Reason.TheVariants.{Form, Names, Times, Signature, PathLength, Name, Conflict, Policy}
 use Rattle.chain_check.specs.declared.verdict.Resolved.{Resolved}
@@ -62,8 +62,8 @@ IfValid (Refused place reason) P = Unit {0}
 
 -- the names that a reason tells are UTF-8
 abbrev pub HasUtf8Names : Reason → Type 0
-HasUtf8Names (Conflict t p f s) = IsTrue (is_utf8 t) × IsTrue (is_utf8 p)
-HasUtf8Names (Policy t p o) = IsTrue (is_utf8 t) × IsTrue (is_utf8 p)
+HasUtf8Names (Conflict t p f s) = AreUtf8 t p
+HasUtf8Names (Policy t p o) = AreUtf8 t p
 HasUtf8Names _ = Unit {0}
 
 -- the trees and the names of a verdict have a JSON text

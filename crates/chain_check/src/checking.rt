@@ -1,3 +1,5 @@
+// The check of a chain, rule by rule.
+
 ghost use Rattle.std.specs.Prelude.{◌≡◌, ◌≤◌, ◌↔◌, ℕ, List, IfOk, IsTrue, length};
 ghost use Rattle.jwk_set.specs.declared.jwk.Jwk.{Jwk};
 ghost use Rattle.chain_check.specs.declared.verdict.Resolved.{Resolved};

@@ -1,3 +1,5 @@
+// What the texts of a chain are taken from.
+
 use crate::tried::Tried;
 use fed_ports::Text;
 

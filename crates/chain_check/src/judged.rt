@@ -1,3 +1,5 @@
+// The answer where signatures are known in part.
+
 use crate::verdict::Verdict;
 
 /// The answer on a chain whose signatures are known in part.

@@ -1,3 +1,5 @@
+// Chains whose signatures are known in part.
+
 ghost use Rattle.std.specs.Prelude.{All, IfOk};
 ghost use Rattle.chain_check.specs.declared.judged.Judged.TheVariants.{Told};
 ghost use Rattle.chain_check.specs.declared.verdict.Verdict.TheVariants.{Refused};

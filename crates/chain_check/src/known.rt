@@ -1,14 +1,17 @@
+// Which signatures are known, and the first that isn't.
+
 ghost use Rattle.std.specs.Prelude.{◌≡◌, ◌<◌, ◌≤◌, ◌↔◌, All, Contains, IsTrue, length};
 ghost use Rattle.jws_form.specs.Compact.{IsCompact};
 ghost use Rattle.sealed.specs.Seals.{IsSealed, IsUnsealed};
 ghost use Rattle.chain_check.specs.Judging.{IsOfItsText, pair_of, seal_keys, texts_of};
-ghost use Rattle.chain_check.specs.Stages.{FailsUntried, IsKnown, IsSplit, Passes, TestsFirst, claims_in, texts_in};
+ghost use Rattle.entity_statement.specs.Signed.{IsSplit};
+ghost use Rattle.chain_check.specs.Stages.{FailsUntried, IsKnown, Passes, TestsFirst, claims_in, texts_in};
 
-use crate::entry::Entry;
 use crate::reason::Reason;
 use crate::signatures::superior_keys;
 use crate::stop::Stop;
 use crate::tried::Tried;
+use entity_statement::SignedStatement;
 use jwk_set::JwkSet;
 use jws_form::Compact;
 
@@ -32,7 +35,7 @@ enum Known {
 /// Looks whether each text is known to be signed by a key of its superior, the last by one of the trust anchor's keys, and
 /// the leaf's by a key of its own too. It answers the first test that is wanted before any is known to fail.
 pub(crate) fn first_untried(
-    entries: &[Entry],
+    entries: &[SignedStatement],
     chain: &[Tried],
     keys: &JwkSet,
 ) -> Result<Option<Test>, Stop>
@@ -65,7 +68,7 @@ pub(crate) fn first_untried(
 }
 
 /// The keys by one of which the seal of that number is made: the first is the leaf's own, the next one that of its superior.
-fn keys_for<'a>(entries: &'a [Entry], keys: &'a JwkSet, i: usize) -> &'a JwkSet
+fn keys_for<'a>(entries: &'a [SignedStatement], keys: &'a JwkSet, i: usize) -> &'a JwkSet
     requires some { 0 < length entries.now }
     requires within { i ≤ length entries.now }
     ensures { result.now.keys ≡ seal_keys (claims_in entries.now) keys.now.keys i }

@@ -6,7 +6,6 @@
 #![tactic(auto)]
 
 mod checking;
-mod entry;
 mod holds_text;
 mod judged;
 mod judging;

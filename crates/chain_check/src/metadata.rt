@@ -1,13 +1,16 @@
-ghost use Rattle.std.specs.Prelude.{◌≡◌, ◌<◌, IfOk, IsTrue, Some, length, map};
+// The leaf's metadata before policies.
+
+ghost use Rattle.std.specs.Prelude.{◌≡◌, ◌<◌, [], IfOk, IsTrue, length, map};
+ghost use Rattle.std.specs.Option.{option_map_or};
 ghost use Rattle.fed_json.specs.Forms.{rising};
-ghost use Rattle.fed_json.specs.Trees.{find as find_in};
+ghost use Rattle.fed_json.specs.Trees.{find as find_in, member_name, object_members as members_of};
 ghost use Rattle.policy_merge.specs.Metadata.{IsMetadata};
-ghost use Rattle.chain_check.specs.Metadata.{allowed_metadata as metadata_allowed, limited_places, members_in, name_of, own_metadata as metadata_own, parameters_over as over, put_over as put, type_over as type_put};
+ghost use Rattle.chain_check.specs.Metadata.{allowed_metadata as metadata_allowed, limited_places, own_metadata as metadata_own, parameters_over as over, put_over as put, type_over as type_put};
 ghost use Rattle.chain_check.specs.Stages.{claims_in};
 
-use crate::entry::Entry;
 use chain_limits::{Place, allowed_types};
-use fed_json::{Json, Member, find};
+use entity_statement::SignedStatement;
+use fed_json::{Json, Member, find, object_members};
 use fed_ports::{Duplicate, Memory, Seq};
 use policy_merge::Sides;
 use std::alloc::Global;
@@ -15,7 +18,7 @@ use std::alloc::Global;
 /// The leaf's metadata before policies: with its superior's put over it, and without the types that aren't allowed.
 pub(crate) fn allowed_metadata(
     alloc: Global,
-    entries: &[Entry],
+    entries: &[SignedStatement],
     places: &Seq<Place>,
 ) -> Result<Json, Memory>
     requires some { 0 < length entries.now }
@@ -27,7 +30,7 @@ pub(crate) fn allowed_metadata(
     allowed_types(alloc, places, &metadata)
 }
 
-fn own_metadata(alloc: Global, entries: &[Entry]) -> Result<Json, Memory>
+fn own_metadata(alloc: Global, entries: &[SignedStatement]) -> Result<Json, Memory>
     requires { 0 < length entries.now }
     ensures tree { IfOk result (λ tree. tree ≡ metadata_own (claims_in entries.now)) }
     ensures metadata { IfOk result IsMetadata }
@@ -46,9 +49,9 @@ fn put_over(alloc: Global, upper: &Json, metadata: &Json) -> Result<Json, Memory
     ensures tree { IfOk result (λ tree. tree ≡ put upper.now metadata.now) }
     ensures metadata { IfOk result IsMetadata }
 {
-    let upper = members(upper);
+    let upper = object_members(upper);
     let mut types = Seq::new(alloc);
-    for entity_type in members(metadata) {
+    for entity_type in object_members(metadata) {
         types.push(type_over(alloc, upper, entity_type)?)?;
     }
     Ok(Json::Object(types))
@@ -56,35 +59,25 @@ fn put_over(alloc: Global, upper: &Json, metadata: &Json) -> Result<Json, Memory
 
 /// An entity type with what the superior says of it.
 fn type_over(alloc: Global, upper: &[Member], own: &Member) -> Result<Member, Memory>
-    requires upper { IsTrue (rising (map name_of (members_in (find_in own.now.name upper.now)))) }
-    requires own { IsTrue (rising (map name_of (members_in (Some own.now.value)))) }
+    requires upper { IsTrue (rising (map member_name (option_map_or members_of (find_in own.now.name upper.now) []))) }
+    requires own { IsTrue (rising (map member_name (members_of own.now.value))) }
     ensures { IfOk result (λ m. m ≡ type_put upper.now own.now) }
 {
     let above = match find(upper, own.name.as_slice()) {
-        Some(tree) => members(tree),
+        Some(tree) => object_members(tree),
         None => &[],
     };
-    let parameters = parameters_over(alloc, above, members(&own.value))?;
+    let parameters = parameters_over(alloc, above, object_members(&own.value))?;
     Ok(Member {
         name: own.name.copy(alloc)?,
         value: Json::Object(parameters),
     })
 }
 
-/// The members of an object, and none of any other tree.
-fn members(tree: &Json) -> &[Member]
-    ensures { result.now ≡ members_in (Some tree.now) }
-{
-    match tree {
-        Json::Object(members) => members.as_slice(),
-        _ => &[],
-    }
-}
-
 /// The parameters of both, in byte order of their names; of two with one name the superior's.
 fn parameters_over(alloc: Global, upper: &[Member], own: &[Member]) -> Result<Seq<Member>, Memory>
-    requires upper { IsTrue (rising (map name_of upper.now)) }
-    requires own { IsTrue (rising (map name_of own.now)) }
+    requires upper { IsTrue (rising (map member_name upper.now)) }
+    requires own { IsTrue (rising (map member_name own.now)) }
     ensures { IfOk result (λ all. all ≡ over upper.now own.now) }
 {
     let mut all = Seq::new(alloc);

@@ -1,16 +1,18 @@
+// Issuers and subjects along a chain.
+
 ghost use Rattle.std.specs.Prelude.{◌≡◌, ◌≢◌, ◌<◌, ◌≤◌, ◌+◌, ◌-◌, ◌⊎◌, ◌↔◌, IsTrue, length};
 ghost use Rattle.chain_check.specs.declared.reason.Reason.TheVariants.{Names};
 ghost use Rattle.chain_check.specs.Places.{HoldsBelow};
 ghost use Rattle.chain_check.specs.Names.{HasNames, LosesNames, NamesFit, IsAnchor, IsConfiguration, IsLeaf, issuer_at, subject_at};
 ghost use Rattle.chain_check.specs.Stages.{Passes, claims_in};
 
-use crate::entry::Entry;
 use crate::reason::Reason;
 use crate::stop::Stop;
 use entity_id::EntityId;
+use entity_statement::SignedStatement;
 
 /// Looks whether the statements make a chain to the trust anchor by their issuers and subjects.
-pub(crate) fn check_names(entries: &[Entry], anchor: &EntityId) -> Result<(), Stop>
+pub(crate) fn check_names(entries: &[SignedStatement], anchor: &EntityId) -> Result<(), Stop>
     ensures { Passes result (λ _. HasNames (claims_in entries.now) anchor.now)
         (λ place reason. (reason ≡ Names) × LosesNames (claims_in entries.now) anchor.now place) }
 {
@@ -25,7 +27,7 @@ pub(crate) fn check_names(entries: &[Entry], anchor: &EntityId) -> Result<(), St
     Ok(())
 }
 
-fn names_fit(entries: &[Entry], anchor: &EntityId, j: usize) -> bool
+fn names_fit(entries: &[SignedStatement], anchor: &EntityId, j: usize) -> bool
     requires { j < length entries.now }
     ensures { IsTrue result ↔ NamesFit (claims_in entries.now) anchor.now j }
 {
@@ -36,7 +38,7 @@ fn names_fit(entries: &[Entry], anchor: &EntityId, j: usize) -> bool
         && is_anchored(entries, anchor, j)
 }
 
-fn is_of_kind(entries: &[Entry], j: usize) -> bool
+fn is_of_kind(entries: &[SignedStatement], j: usize) -> bool
     requires { j < length entries.now }
     ensures { IsTrue result
         ↔ (IsConfiguration (claims_in entries.now) j ↔ (IsLeaf j ⊎ IsAnchor (claims_in entries.now) j)) }
@@ -49,7 +51,7 @@ fn is_of_kind(entries: &[Entry], j: usize) -> bool
     }
 }
 
-fn is_linked(entries: &[Entry], j: usize) -> bool
+fn is_linked(entries: &[SignedStatement], j: usize) -> bool
     requires { j < length entries.now }
     ensures { IsTrue result
         ↔ (1 ≤ j → subject_at (claims_in entries.now) j ≡ issuer_at (claims_in entries.now) (j - 1)) }
@@ -57,7 +59,7 @@ fn is_linked(entries: &[Entry], j: usize) -> bool
     j == 0 || entries[j].statement.sub == entries[j - 1].statement.iss
 }
 
-fn is_distinct(entries: &[Entry], j: usize) -> bool
+fn is_distinct(entries: &[SignedStatement], j: usize) -> bool
     requires { j < length entries.now }
     ensures { IsTrue result ↔ (j + 1 < length (claims_in entries.now)
         → HoldsBelow (λ i. issuer_at (claims_in entries.now) i ≢ issuer_at (claims_in entries.now) j) j) }
@@ -74,7 +76,7 @@ fn is_distinct(entries: &[Entry], j: usize) -> bool
     true
 }
 
-fn is_anchored(entries: &[Entry], anchor: &EntityId, j: usize) -> bool
+fn is_anchored(entries: &[SignedStatement], anchor: &EntityId, j: usize) -> bool
     requires { j < length entries.now }
     ensures { IsTrue result
         ↔ (IsAnchor (claims_in entries.now) j → issuer_at (claims_in entries.now) j ≡ anchor.now) }

@@ -1,3 +1,5 @@
+// Why a chain isn't valid.
+
 use fed_ports::{Duplicate, Memory, Text};
 use policy_merge::Operator;
 use std::alloc::Global;

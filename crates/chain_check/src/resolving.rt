@@ -1,3 +1,5 @@
+// Limits, policies, and what a chain resolves to.
+
 ghost use Rattle.std.specs.Prelude.{◌≡◌, ◌<◌, None, Ok, IfOk, drop, fold, length, map, min};
 ghost use Rattle.policy_merge.specs.Metadata.{IsMetadata};
 ghost use Rattle.policy_merge.specs.Combining.{conflict_in};
@@ -11,12 +13,12 @@ ghost use Rattle.chain_check.specs.Validity.{IsWithin};
 ghost use Rattle.chain_check.specs.Verdicts.{HasUtf8Names, IsResolved};
 ghost use Rattle.chain_check.specs.Stages.{FailsToResolve, IsConflict, IsConflictAt, IsLimit, IsRefusal, Passes, claims_in};
 
-use crate::entry::Entry;
 use crate::metadata::allowed_metadata;
 use crate::reason::Reason;
 use crate::stop::Stop;
 use crate::verdict::Resolved;
 use chain_limits::{LimitVerdict, Place, limits_met};
+use entity_statement::SignedStatement;
 use fed_json::Json;
 use fed_ports::{Duplicate, Memory, Seq, Text};
 use policy_apply::{ApplyFault, apply};
@@ -24,7 +26,7 @@ use policy_merge::{Policy, PolicyFault};
 use std::alloc::Global;
 
 /// What the statements of a chain resolve to, within the limits of its superiors and under their policies.
-pub(crate) fn resolve(alloc: Global, entries: &[Entry]) -> Result<Resolved, Stop>
+pub(crate) fn resolve(alloc: Global, entries: &[SignedStatement]) -> Result<Resolved, Stop>
     requires { 0 < length entries.now }
     ensures resolved { Passes result
         (λ resolved. IsWithin (claims_in entries.now) × IsResolved (claims_in entries.now) resolved)
@@ -44,7 +46,7 @@ pub(crate) fn resolve(alloc: Global, entries: &[Entry]) -> Result<Resolved, Stop
     })
 }
 
-fn least_exp(first: u64, entries: &[Entry]) -> u64
+fn least_exp(first: u64, entries: &[SignedStatement]) -> u64
     ensures { result ≡ fold (λ exp s. min exp s.exp) first (claims_in entries.now) }
 {
     entries
@@ -53,7 +55,7 @@ fn least_exp(first: u64, entries: &[Entry]) -> u64
 }
 
 /// What limits speak of, of each statement below the trust anchor's configuration.
-fn limited_places(alloc: Global, below: &[Entry]) -> Result<Seq<Place>, Memory>
+fn limited_places(alloc: Global, below: &[SignedStatement]) -> Result<Seq<Place>, Memory>
     ensures { IfOk result (λ places. places ≡ map place_of (claims_in below.now)) }
 {
     let mut places = Seq::new(alloc);
@@ -85,7 +87,7 @@ fn check_limits(places: &Seq<Place>) -> Result<(), Stop>
 
 /// The policies of the subordinate statements, merged from the trust anchor's down. The first of the statements is the
 /// leaf's configuration, which has none.
-fn merge_policies(alloc: Global, below: &[Entry]) -> Result<Policy, Stop>
+fn merge_policies(alloc: Global, below: &[SignedStatement]) -> Result<Policy, Stop>
     ensures merged { Passes result
         (λ policy. merged_from 1 (map (λ s. s.policy) (drop 1 (claims_in below.now))) ≡ Ok policy)
         (IsConflictAt (merged_from 1 (map (λ s. s.policy) (drop 1 (claims_in below.now))))) }

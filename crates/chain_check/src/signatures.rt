@@ -1,3 +1,5 @@
+// Moments and signatures along a chain.
+
 ghost use Rattle.std.specs.Prelude.{◌≡◌, ◌<◌, ◌≤◌, ◌+◌, ◌↔◌, All, IfOk, IsTrue, Some, length};
 ghost use Rattle.jws_form.specs.Compact.{IsCompact};
 ghost use Rattle.sealed.specs.Seals.{IsSealedBy, named_key};
@@ -5,11 +7,12 @@ ghost use Rattle.chain_check.specs.declared.reason.Reason.TheVariants.{Times, Si
 ghost use Rattle.chain_check.specs.Places.{FailsFirst};
 ghost use Rattle.chain_check.specs.Counts.{CountsBoth, CountsChecks, CountsPlace, CountsTest};
 ghost use Rattle.chain_check.specs.Signatures.{AreCurrent, AreSigned, CurrentAt, NamesOneKey, SignedAt, key_in, superior_keys as keys_above};
-ghost use Rattle.chain_check.specs.Stages.{IsSplit, Passes, claims_in, texts_in};
+ghost use Rattle.entity_statement.specs.Signed.{IsSplit};
+ghost use Rattle.chain_check.specs.Stages.{Passes, claims_in, texts_in};
 
-use crate::entry::Entry;
 use crate::reason::Reason;
 use crate::stop::Stop;
+use entity_statement::SignedStatement;
 use fed_ports::{Ledger, Memory, Steps};
 use jwk_set::JwkSet;
 use jws_form::Compact;
@@ -17,7 +20,7 @@ use sealed::{SealFault, check_sealed};
 use std::alloc::Global;
 
 /// Looks whether each statement is current at the moment.
-pub(crate) fn check_times(entries: &[Entry], t: u64) -> Result<(), Stop>
+pub(crate) fn check_times(entries: &[SignedStatement], t: u64) -> Result<(), Stop>
     ensures { Passes result (λ _. AreCurrent (claims_in entries.now) t)
         (λ place reason. (reason ≡ Times)
         × FailsFirst (CurrentAt (claims_in entries.now) t) (length (claims_in entries.now)) place) }
@@ -37,7 +40,7 @@ pub(crate) fn check_times(entries: &[Entry], t: u64) -> Result<(), Stop>
 /// by a key of its own too. Each pair of a text and a key is tested once.
 pub(crate) fn check_signatures<L: Ledger>(
     alloc: Global,
-    entries: &[Entry],
+    entries: &[SignedStatement],
     keys: &JwkSet,
     steps: &mut Steps<L>,
 ) -> Result<(), Stop>
@@ -63,7 +66,7 @@ pub(crate) fn check_signatures<L: Ledger>(
 
 fn is_signed<L: Ledger>(
     alloc: Global,
-    entries: &[Entry],
+    entries: &[SignedStatement],
     keys: &JwkSet,
     j: usize,
     steps: &mut Steps<L>,
@@ -91,7 +94,11 @@ fn is_signed<L: Ledger>(
 }
 
 /// The keys in the next statement, or the trust anchor's for the last.
-pub(crate) fn superior_keys<'a>(entries: &'a [Entry], keys: &'a JwkSet, j: usize) -> &'a JwkSet
+pub(crate) fn superior_keys<'a>(
+    entries: &'a [SignedStatement],
+    keys: &'a JwkSet,
+    j: usize,
+) -> &'a JwkSet
     requires { j < length entries.now }
     ensures { result.now.keys ≡ keys_above (claims_in entries.now) keys.now.keys j }
 {

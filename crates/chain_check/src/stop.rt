@@ -1,3 +1,5 @@
+// How a check ends early.
+
 use crate::reason::Reason;
 use fed_ports::Memory;
 

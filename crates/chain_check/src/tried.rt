@@ -1,3 +1,5 @@
+// A text with what is known of its signature.
+
 use fed_ports::{Seq, Text};
 use sealed::{Sealed, Unsealed};
 

@@ -1,3 +1,5 @@
+// The answer on a chain.
+
 use crate::reason::Reason;
 use entity_id::EntityId;
 use fed_json::Json;

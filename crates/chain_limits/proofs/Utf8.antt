@@ -9,11 +9,11 @@ use Rattle.std.proofs.lemmas.Str.{IsUtf8-from_is_utf8}
 use Rattle.fed_json.specs.declared.tree.Json.{Json}
 use Rattle.fed_json.specs.declared.tree.Member.{Member}
 use Rattle.fed_json.specs.Forms.{IsWellFormed, well_formed, members_well_formed}
-use Rattle.fed_json.specs.Trees.{find, as_text, as_list, as_object}
+use Rattle.fed_json.specs.Trees.{find, as_text, as_list, as_object, optional, texts_in, texts_of}
 use Rattle.fed_json.proofs.Accessors.{Text-as_text, List-as_list, Object-as_object, well_formed-find}
 use Rattle.fed_json.proofs.Layers.{well_formed-Text, well_formed-List, well_formed-Object}
 use Rattle.chain_limits.specs.declared.constraints.Constraints.{Constraints}
-use Rattle.chain_limits.specs.Reading.{HoldsUtf8, Texts, constraints_in, excluded_in, joined, max_path_in, members_of, naming_in, optional, permitted_in, reading, texts_in, texts_of, types_in}
+use Rattle.chain_limits.specs.Reading.{HoldsUtf8, Texts, constraints_in, excluded_in, max_path_in, members_of, naming_in, permitted_in, reading, together, types_in}
 
 -- ---- what stands behind a result
 
@@ -33,7 +33,7 @@ record Parts (a : Option (Option ℕ)) (b c d : Option (Option Texts)) (limits :
   types : d ≡ Some limits.types
 
 -- constraints come of their parts alone
-parts : (a : Option (Option ℕ)) (b c d : Option (Option Texts)) (limits : Constraints) → joined a b c d ≡ Some limits → Parts a b c d limits
+parts : (a : Option (Option ℕ)) (b c d : Option (Option Texts)) (limits : Constraints) → together a b c d ≡ Some limits → Parts a b c d limits
 parts (Some a) (Some b) (Some c) (Some d) limits e =
     let told : Constraints = record { max_path = a; permitted = b; excluded = unwrap_or c []; types = d } in
     let same : told ≡ limits = cc e in

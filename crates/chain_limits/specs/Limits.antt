@@ -17,26 +17,26 @@ admits limits host = option_map_or (list_any (matches host)) limits.permitted tr
 abbrev pub PathFits : List Place → ℕ → Type 0
 PathFits places j = (place : Place) → slice_get places j ≡ Some place → IfSome place.limits.max_path (λ most. j - 1 ≤ most)
 
--- the names of place j admit the subject of place i
+-- the names of place j admit the subject of place i (section 6.2.2)
 abbrev pub NameFits : List Place → ℕ → ℕ → Type 0
 NameFits places i j = (subject place : Place) → slice_get places i ≡ Some subject → slice_get places j ≡ Some place → IsTrue (admits place.limits subject.host)
 
--- the limits of place j are met by all subjects up to it
+-- the limits of place j are met by all subjects up to it (sections 6.2.1 and 6.2.2)
 pub record Fits (places : List Place) (j : ℕ) : Type 0 where
   pub path : PathFits places j
   pub names : (i : ℕ) → i ≤ j → NameFits places i j
 
--- the limits of each place below n are met; the leaf sets none
+-- the limits of each place below n are met; the leaf sets none (section 6.2)
 abbrev pub FitsBelow : List Place → ℕ → Type 0
 FitsBelow places n = (j : ℕ) → 1 ≤ j → j < n → Fits places j
 
--- place j is a superior's, and all limits of the places before it are met
+-- place j is a superior's, and all limits of the places before it are met (section 6.2)
 pub record IsReached (places : List Place) (j : ℕ) : Type 0 where
   pub superior : 1 ≤ j
   pub within : j < length places
   pub below : FitsBelow places j
 
--- the answer on the places: the least whose limits aren't met, and of its limits the path before the names
+-- the answer on the places: the least whose limits aren't met, and of its limits the path before the names (section 6.2)
 abbrev pub IsVerdict : List Place → LimitVerdict → Type 0
 IsVerdict places Met = FitsBelow places (length places)
 IsVerdict places (PathLength j) = IsReached places j × ¬ PathFits places j

@@ -1,3 +1,5 @@
+// The constraints of a statement.
+
 ghost use Rattle.std.specs.Prelude.{◌≡◌, IfOk};
 
 use crate::reading::{count, naming, object, texts};
@@ -21,7 +23,19 @@ pub struct Constraints {
 
 impl Constraints {
     ghost use Rattle.fed_json.specs.Forms.{IsWellFormed};
-    ghost use Rattle.chain_limits.specs.Reading.{Gives, reading, HoldsUtf8};
+    ghost use Rattle.chain_limits.specs.Reading.{Gives, HoldsUtf8, no_constraints, reading};
+
+    /// What a statement without the claim `constraints` sets: no limit. It takes no memory.
+    pub fn none(alloc: Global) -> Constraints
+        ensures { result ≡ no_constraints }
+    {
+        Constraints {
+            max_path: None,
+            permitted: None,
+            excluded: Seq::new(alloc),
+            types: None,
+        }
+    }
 
     /// Reads the claim `constraints` (OpenID Federation 1.0 section 6.2). `max_path_length` is a whole number below 2^32,
     /// `naming_constraints` an object whose `permitted` and `excluded` are lists of texts, and `allowed_entity_types` a
@@ -47,23 +61,14 @@ impl Constraints {
 
 impl Duplicate for Constraints {
     fn copy(&self, alloc: Global) -> Result<Self, Memory> {
-        let permitted = copied(alloc, &self.permitted)?;
+        let permitted = self.permitted.copy(alloc)?;
         let excluded = self.excluded.copy(alloc)?;
-        let types = copied(alloc, &self.types)?;
+        let types = self.types.copy(alloc)?;
         Ok(Constraints {
             max_path: self.max_path,
             permitted,
             excluded,
             types,
         })
-    }
-}
-
-fn copied(alloc: Global, texts: &Option<Seq<Text>>) -> Result<Option<Seq<Text>>, Memory>
-    ensures { IfOk result (λ copy. copy ≡ texts.now) }
-{
-    match texts {
-        Some(texts) => Ok(Some(texts.copy(alloc)?)),
-        None => Ok(None),
     }
 }

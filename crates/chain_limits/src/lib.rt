@@ -18,7 +18,6 @@ mod verdict;
 pub use constraints::Constraints;
 pub use limits::limits_met;
 pub use place::Place;
-pub use reading::copied_texts;
 pub use shape::LimitShape;
 pub use types::allowed_types;
 pub use verdict::LimitVerdict;

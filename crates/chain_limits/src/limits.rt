@@ -1,3 +1,5 @@
+// The first limit that a chain doesn't meet.
+
 ghost use Rattle.std.specs.Prelude.{◌≡◌, ◌≤◌, ◌-◌, ◌↔◌, IfSome, IsTrue};
 ghost use Rattle.std.specs.List.{list_all, list_any};
 ghost use Rattle.entity_id.specs.Names.{matches};

@@ -1,3 +1,5 @@
+// What limits are about.
+
 use crate::constraints::Constraints;
 use fed_ports::{Duplicate, Memory, Text};
 use std::alloc::Global;
@@ -5,7 +7,9 @@ use std::alloc::Global;
 /// What a statement of a chain says that limits are about: the host of its subject, and its constraints.
 #[derive(Drop)]
 pub struct Place {
+    /// The host of the subject's identifier, without a port.
     pub host: Text,
+    /// What its issuer sets for the subject and those below it; the leaf's own count for nothing.
     pub limits: Constraints,
 }
 

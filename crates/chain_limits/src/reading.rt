@@ -1,13 +1,18 @@
-ghost use Rattle.std.specs.Prelude.{◌≡◌};
-ghost use Rattle.fed_json.specs.Trees.{as_object, find as value_at};
-ghost use Rattle.chain_limits.specs.Reading.{Gives, GivesObject, naming_in, optional, count_of, texts_of, texts_in};
+// The parts of constraints, as their object tells them.
+
+ghost use Rattle.std.specs.Prelude.{◌^◌};
+ghost use Rattle.fed_json.specs.Trees.{as_object, count_below as count_in, find as value_at, optional, texts_of};
+ghost use Rattle.chain_limits.specs.Reading.{Gives, GivesObject, naming_in};
 
 use crate::shape::LimitShape;
-use fed_json::{Json, Member, find};
-use fed_ports::{Duplicate, Seq, Text};
+use fed_json::{Json, Member, copied_texts, count_below, find};
+use fed_ports::{Seq, Text};
 use std::alloc::Global;
 
-// The members of an object.
+/// What a number of entities is below (section 6.2.1).
+const COUNTS: u64 = 1 << 32;
+
+/// The members of an object.
 pub(crate) fn object(tree: &Json) -> Result<&[Member], LimitShape>
     ensures { GivesObject result (as_object tree.now) }
 {
@@ -17,7 +22,7 @@ pub(crate) fn object(tree: &Json) -> Result<&[Member], LimitShape>
     }
 }
 
-// The members of the naming constraints; none where these are missing.
+/// The members of the naming constraints; none where these are missing.
 pub(crate) fn naming(members: &[Member]) -> Result<&[Member], LimitShape>
     ensures { GivesObject result (naming_in members.now) }
 {
@@ -27,18 +32,20 @@ pub(crate) fn naming(members: &[Member]) -> Result<&[Member], LimitShape>
     }
 }
 
-// The whole number below 2^32 under the name, if one is there.
+/// The whole number below 2^32 under the name, if one is there.
 pub(crate) fn count(members: &[Member], name: &[u8]) -> Result<Option<u64>, LimitShape>
-    ensures { Gives result (optional count_of (value_at name.now members.now)) }
+    ensures { Gives result (optional (count_in (2 ^ 32)) (value_at name.now members.now)) }
 {
-    match find(members, name) {
-        None => Ok(None),
-        Some(Json::Int(n)) if 0 <= *n && *n < 1 << 32 => Ok(Some(*n as u64)),
-        Some(_) => Err(LimitShape::Shape),
+    let Some(tree) = find(members, name) else {
+        return Ok(None);
+    };
+    match count_below(tree, COUNTS) {
+        Some(n) => Ok(Some(n)),
+        None => Err(LimitShape::Shape),
     }
 }
 
-// The list of texts under the name, if one is there.
+/// The list of texts under the name, if one is there.
 pub(crate) fn texts(
     alloc: Global,
     members: &[Member],
@@ -46,23 +53,11 @@ pub(crate) fn texts(
 ) -> Result<Option<Seq<Text>>, LimitShape>
     ensures { Gives result (optional texts_of (value_at name.now members.now)) }
 {
-    match find(members, name) {
-        None => Ok(None),
-        Some(Json::List(items)) => Ok(Some(copied_texts(alloc, items.as_slice())?)),
-        Some(_) => Err(LimitShape::Shape),
+    let Some(tree) = find(members, name) else {
+        return Ok(None);
+    };
+    match copied_texts(alloc, tree)? {
+        Some(texts) => Ok(Some(texts)),
+        None => Err(LimitShape::Shape),
     }
-}
-
-/// Copies of the texts that the items are; `Shape` where one isn't a text.
-pub fn copied_texts(alloc: Global, items: &[Json]) -> Result<Seq<Text>, LimitShape>
-    ensures { Gives result (texts_in items.now) }
-{
-    let mut texts = Seq::new(alloc);
-    for item in items {
-        match item {
-            Json::Text(text) => texts.push(text.copy(alloc)?)?,
-            _ => return Err(LimitShape::Shape),
-        }
-    }
-    Ok(texts)
 }

@@ -1,3 +1,5 @@
+// The entity types that are allowed.
+
 ghost use Rattle.std.specs.Prelude.{◌≡◌, bytes_eq, IfOk};
 ghost use Rattle.std.specs.List.{list_all, list_any};
 ghost use Rattle.fed_json.specs.Forms.{IsWellFormed};

@@ -1,5 +1,5 @@
 -- Which texts identify an entity, and the host that each names (OpenID Federation 1.0 section 1.2).
-use Rattle.std.specs.Prelude.{◌≡◌, ◌≤◌, ℕ, ◌==◌, ◌&&◌, ◌||◌, List, [], length, codes, nat_lt, nat_le, nat_eq, Bool, not, IsTrue, IsFalse, Option, Some, None, option_map, unwrap_or, Result, Ok, Err, IsOk, IsErr, is_ok, if◌then◌else◌}
+use Rattle.std.specs.Prelude.{◌≡◌, ◌≤◌, ℕ, ◌==◌, ◌&&◌, ◌||◌, List, [], length, codes, nat_lt, nat_le, nat_eq, Bool, not, IsTrue, IsFalse, Option, Some, None, option_map, unwrap_or, is_none, Result, Ok, Err, IsOk, IsErr, is_ok, if◌then◌else◌}
 use Rattle.std.specs.List.{list_all, list_any, starts_with, All, AllPass}
 use Rattle.std.specs.Result.{result_ok}
 use Rattle.url.specs.Host.{host_text}
@@ -36,6 +36,10 @@ fault_of text =
     else (if not (has_web_scheme text) then Some Scheme
     else (if list_any is_extra text then Some Extra
     else (if is_ok (parse_url None text) then None else Some NotUrl)))
+
+-- the entity that the text identifies, where it has no fault
+abbrev pub identifier_of : List ℕ → Option (List ℕ)
+identifier_of text = if is_none (fault_of text) then Some text else None
 
 -- the answer is the text where it has no fault, else its first fault; of want of memory nothing is said
 abbrev pub Gives : Result (List ℕ) IdFault → List ℕ → Option IdFault → Type 0

@@ -1,3 +1,5 @@
+// Why a text identifies no entity.
+
 use thiserror::Error;
 
 /// Why a text identifies no entity.

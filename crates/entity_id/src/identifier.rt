@@ -1,7 +1,9 @@
+// Identifiers, as texts and as URLs.
+
 ghost use Rattle.std.specs.Prelude.{◌≡◌, None, true, IfOk, OnOk, IsOkUnless, IsAscii, IsUtf8};
 ghost use Rattle.std.specs.List.{list_all, list_any};
 ghost use Rattle.url.specs.Parser.{parse_url};
-ghost use Rattle.entity_id.specs.Identifiers.{is_plain, is_extra, has_web_scheme, fault_of, host_of, Gives, IsIdentifier, ParsesTo};
+ghost use Rattle.entity_id.specs.Identifiers.{is_plain, is_extra, has_web_scheme, fault_of, identifier_of, host_of, Gives, IsIdentifier, ParsesTo};
 ghost use Rattle.entity_id.specs.Urls.{well_known_of};
 
 use crate::fault::IdFault;
@@ -59,6 +61,17 @@ impl EntityId {
         let host = Text::of(alloc, url.host_str().unwrap_or("").as_bytes())?;
         let text = Text::of(alloc, text)?;
         Ok(EntityId { text, host })
+    }
+
+    /// The identifier that the text is, and `None` where it is none.
+    pub fn of(alloc: Global, text: &[u8]) -> Result<Option<EntityId>, Memory>
+        ensures { IfOk result (λ id. id ≡ identifier_of text.now) }
+    {
+        match EntityId::read(alloc, text) {
+            Ok(id) => Ok(Some(id)),
+            Err(IdFault::Memory) => Err(Memory),
+            Err(_) => Ok(None),
+        }
     }
 
     /// The text that was read.

@@ -1,3 +1,5 @@
+// Names that match hosts.
+
 ghost use Rattle.std.specs.Prelude.{◌≡◌, ◌↔◌, IsTrue};
 ghost use Rattle.entity_id.specs.Names.{matches, IsMatch};
 

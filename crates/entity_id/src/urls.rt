@@ -1,3 +1,5 @@
+// Where an entity's documents are asked for.
+
 ghost use Rattle.std.specs.Prelude.{◌≡◌, IfOk};
 ghost use Rattle.entity_id.specs.Urls.{base_of, fetch_url_of};
 

@@ -1,14 +1,17 @@
 -- What stands behind an answer that is `Ok`.
 use Rattle.std.proofs.Common.{◌≡◌, Option, Some, None, Result, Ok, Err, refl, ap, subst}
+use Rattle.std.specs.Option.{ok_or}
+use Rattle.fed_ports.specs.Answers.{◌>>=◌}
 use Rattle.fed_json.specs.declared.tree.Json.{Json}
 use Rattle.entity_statement.specs.declared.fault.StatementFault.{StatementFault}
-use Rattle.entity_statement.specs.Table.{◌>>=◌, or_fault, said}
+use Rattle.entity_statement.specs.Table.{said}
 
-pub or_fault-ok : {X : Type 0} (fault : StatementFault) (o : Option X) (x : X) → or_fault fault o ≡ Ok x → o ≡ Some x
-or_fault-ok fault None x e = cc e
-or_fault-ok fault (Some y) x e = let same : y ≡ x = cc e in ap Some same
+-- a value, and what is made of a value
+pub ok_or-ok : {X E : Type 0} (o : Option X) (fault : E) (x : X) → ok_or o fault ≡ Ok x → o ≡ Some x
+ok_or-ok None fault x e = cc e
+ok_or-ok (Some y) fault x e = let same : y ≡ x = cc e in ap Some same
 
-pub then-ok : {X Y : Type 0} (m : Result X StatementFault) (f : X → Result Y StatementFault) (y : Y) → (m >>= f) ≡ Ok y → (x : X) × (m ≡ Ok x) × (f x ≡ Ok y)
+pub then-ok : {X Y E : Type 0} (m : Result X E) (f : X → Result Y E) (y : Y) → (m >>= f) ≡ Ok y → (x : X) × (m ≡ Ok x) × (f x ≡ Ok y)
 then-ok (Ok x) f y e = (x, refl, e)
 then-ok (Err fault) f y e = cc e
 

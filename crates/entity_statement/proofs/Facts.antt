@@ -1,66 +1,63 @@
 -- Facts that claims have where they are read.
-use Rattle.std.proofs.Common.{◌≡◌, ◌<◌, ◌^◌, ℕ, ℤ, pos, negsuc, List, [], ◌∷◌, map, codes, Bool, true, false, ◌&&◌, not, cond, nat_lt, Option, Some, None, option_map, Result, Ok, refl, sym, ap, ap₂, ◌∙◌, subst, IsTrue}
+use Rattle.std.proofs.Common.{◌≡◌, ◌<◌, ℕ, ℤ, pos, negsuc, List, [], ◌∷◌, map, codes, Bool, true, false, ◌&&◌, not, cond, nat_lt, Option, Some, None, option_map, Ok, refl, sym, ap, ◌∙◌, subst}
 use Rattle.std.specs.List.{list_all}
-use Rattle.std.specs.Option.{option_and_then, option_map_or}
+use Rattle.std.specs.Option.{ok_or, option_and_then, option_map_or}
 use Rattle.std.specs.Str.{is_utf8, IsUtf8}
 use Rattle.std.proofs.lemmas.List.Elements.{All-nil}
 use Rattle.std.proofs.lemmas.Bool.{ltb-true}
+use Rattle.fed_ports.specs.Times.{moment_limit}
 use Rattle.fed_json.specs.declared.tree.Json.{Json}
 use Rattle.fed_json.specs.declared.tree.Member.{Member}
-use Rattle.fed_json.specs.Forms.{IsWellFormed, rising, well_formed, whole, members_well_formed}
-use Rattle.fed_json.specs.Trees.{as_int, as_list, as_object, as_text, find}
-use Rattle.fed_json.proofs.Accessors.{List-as_list, Object-as_object, Text-as_text, as_object-Object, well_formed-find}
+use Rattle.fed_json.specs.Forms.{rising, well_formed, members_well_formed}
+use Rattle.fed_json.specs.Trees.{as_int, as_list, as_object, as_text, each, find, if_below, text_at, texts_in, texts_of}
+use Rattle.fed_json.proofs.Accessors.{List-as_list, Text-as_text, as_object-Object, well_formed-find}
 use Rattle.fed_json.proofs.Booleans.{left_true, right_true, both_true}
-use Rattle.fed_json.proofs.Layers.{well_formed-List, well_formed-Object, well_formed-Text, whole-Object}
-use Rattle.jwk_set.specs.Keys.{text_at}
-use Rattle.jwk_set.specs.KeySets.{reading}
-use Rattle.jwk_set.proofs.Members.{text_is_utf8}
+use Rattle.fed_json.proofs.Layers.{well_formed-List, well_formed-Text, whole-Object}
 use Rattle.policy_merge.specs.Metadata.{is_metadata, is_object_of}
 use Rattle.policy_merge.specs.Policies.{is_null}
 use Rattle.chain_limits.specs.declared.constraints.Constraints.{Constraints}
-use Rattle.chain_limits.specs.Reading.{HoldsUtf8, Texts, reading as limits_in, texts_in, texts_of}
-use Rattle.chain_limits.proofs.Utf8.{HoldsUtf8-reading, and_then-some, map-some}
-use Rattle.entity_statement.specs.declared.fault.StatementFault.{StatementFault}
+use Rattle.chain_limits.specs.Reading.{HoldsUtf8, Texts, no_constraints, reading as limits_in}
+use Rattle.chain_limits.proofs.Utf8.{HoldsUtf8-reading, and_then-some, map-some, members_formed}
 use Rattle.entity_statement.specs.declared.fault.StatementFault.TheVariants.{Missing, Shape}
 use Rattle.entity_statement.specs.declared.marks.MarkEntry.{MarkEntry}
 use Rattle.entity_statement.specs.declared.marks.Issuers.{Issuers}
 use Rattle.entity_statement.specs.declared.marks.Owner.{Owner}
-use Rattle.entity_statement.specs.Claims.{Identifier, OwnerClaims, issuers_utf8, mark_utf8, no_constraints, no_metadata, told_owner}
-use Rattle.entity_statement.specs.Forms.{all_differ, each, hints_of, identifier, issuers_in, issuers_of, mark_in, mark_of, marks_of, metadata_of, moment, moment_in, moments, once, once_after, owner_in, owner_with, owners_of, unless_many}
-use Rattle.entity_statement.specs.Table.{Name, constraints_in, formed, hints_in, in_place, mark_issuers_in, mark_owners_in, marks_in, metadata_in, optional, or_fault, placed, read_where, required, said}
-use Rattle.entity_statement.proofs.Answers.{or_fault-ok, said-fact, then-ok}
+use Rattle.entity_statement.specs.Claims.{Identifier, OwnerClaims, issuers_utf8, mark_utf8, no_metadata, told_owner}
+use Rattle.entity_statement.specs.Forms.{all_differ, hints_of, identifier, issuers_in, issuers_of, mark_in, mark_of, marks_of, metadata_of, moment, once, owner_in, owner_with, owners_of, unless_many}
+use Rattle.entity_statement.specs.Table.{Name, constraints_in, formed, hints_in, in_place, mark_issuers_in, mark_owners_in, marks_in, metadata_in, optional, placed, read_where, required}
+use Rattle.entity_statement.proofs.Answers.{ok_or-ok, said-fact, then-ok}
 use Rattle.entity_statement.proofs.Hints.{once_after-differ}
 
 -- ---- moments are small
 
-below : (b : Bool) (m n : ℕ) → (b ≡ true → m < 2 ^ 62) → cond b (Some m) None ≡ Some n → n < 2 ^ 62
-below true m n less e = let same : m ≡ n = cc e in subst (λ k. k < 2 ^ 62) same (less refl)
+below : (b : Bool) (m n : ℕ) → (b ≡ true → m < moment_limit) → cond b (Some m) None ≡ Some n → n < moment_limit
+below true m n less e = let same : m ≡ n = cc e in subst (λ k. k < moment_limit) same (less refl)
 below false m n less e = cc e
 
-small_in : (o : Option ℤ) (n : ℕ) → moment_in o ≡ Some n → n < 2 ^ 62
+small_in : (o : Option ℤ) (n : ℕ) → if_below moment_limit o ≡ Some n → n < moment_limit
 small_in None n e = cc e
 small_in (Some (negsuc m)) n e = cc e
-small_in (Some (pos m)) n e = below (nat_lt m (2 ^ 62)) m n (ltb-true m (2 ^ 62)) e
+small_in (Some (pos m)) n e = below (nat_lt m moment_limit) m n (ltb-true m moment_limit) e
 
-pub moment-small : (tree : Json) (n : ℕ) → moment tree ≡ Some n → n < 2 ^ 62
+pub moment-small : (tree : Json) (n : ℕ) → moment tree ≡ Some n → n < moment_limit
 unfolding moment
 moment-small tree n e = small_in (as_int tree) n e
 
-pub required-small : (name : Name) (members : List Member) (n : ℕ) → required name (formed moment) members ≡ Ok n → n < 2 ^ 62
+pub required-small : (name : Name) (members : List Member) (n : ℕ) → required name (formed moment) members ≡ Ok n → n < moment_limit
 required-small name members n e =
-    let found = then-ok (or_fault (Missing name) (find name members)) (formed moment name) n e in
-    moment-small found.0 n (or_fault-ok (Shape name) (moment found.0) n found.2)
+    let found = then-ok (ok_or (find name members) (Missing name)) (formed moment name) n e in
+    moment-small found.0 n (ok_or-ok (moment found.0) (Shape name) n found.2)
 
 -- ---- what a claim's form says
 
 placed-ok : {X : Type 0} (here : Bool) (form : Json → Option X) (name : Name) (tree : Json) (x : X) → placed here (formed form) name tree ≡ Ok x → form tree ≡ Some x
-placed-ok here form name tree x e = or_fault-ok (Shape name) (form tree) x (then-ok (in_place here name) (λ is. formed form name tree) x e).2
+placed-ok here form name tree x e = ok_or-ok (form tree) (Shape name) x (then-ok (in_place here name) (λ is. formed form name tree) x e).2
 
 -- a fact of a claim that is read in some statements alone
 read-fact : {X : Type 0} (P : X → Type 0) (here : Bool) (empty : X) (form : Json → Option X) (name : Name) (members : List Member) (x : X)
     → P empty → ((tree : Json) → find name members ≡ Some tree → form tree ≡ Some x → P x) → read_where here empty (optional empty name (formed form) members) ≡ Ok x → P x
 read-fact P true empty form name members x is each e =
-    said-fact P empty (formed form name) (find name members) x is (λ tree found says. each tree found (or_fault-ok (Shape name) (form tree) x says)) e
+    said-fact P empty (formed form name) (find name members) x is (λ tree found says. each tree found (ok_or-ok (form tree) (Shape name) x says)) e
 read-fact P false empty form name members x is each e = let same : empty ≡ x = cc e in subst P same is
 
 -- ---- hints differ
@@ -99,7 +96,7 @@ pub metadata-is : (members : List Member) (m : Json) → metadata_in members ≡
 unfolding metadata_in
 metadata-is members m e =
     said-fact (λ tree. is_metadata tree ≡ true) no_metadata (formed metadata_of (codes "metadata")) (find (codes "metadata") members) m no_metadata-is
-    (λ tree found says. let is = metadata_of-is tree m (or_fault-ok (Shape (codes "metadata")) (metadata_of tree) m says) in subst (λ t. is_metadata t ≡ true) is.1 is.0) e
+    (λ tree found says. let is = metadata_of-is tree m (ok_or-ok (metadata_of tree) (Shape (codes "metadata")) m says) in subst (λ t. is_metadata t ≡ true) is.1 is.0) e
 
 -- ---- names of constraints are UTF-8
 
@@ -124,11 +121,13 @@ each-all form P Q fact (a ∷ parts) xs e all =
 items_formed : (tree : Json) (items : List Json) → as_list tree ≡ Some items → well_formed tree ≡ true → list_all well_formed items ≡ true
 items_formed tree items is well = sym (well_formed-List items) ∙ ap well_formed (sym (List-as_list tree items is)) ∙ well
 
-object_formed : (tree : Json) (members : List Member) → as_object tree ≡ Some members → well_formed tree ≡ true → members_well_formed members ≡ true
-object_formed tree members is well = sym (well_formed-Object members) ∙ ap well_formed (sym (Object-as_object tree members is)) ∙ well
-
 text_utf8 : (tree : Json) (text : List ℕ) → as_text tree ≡ Some text → well_formed tree ≡ true → is_utf8 text ≡ true
 text_utf8 tree text is well = sym (well_formed-Text text) ∙ ap well_formed (sym (Text-as_text tree text is)) ∙ well
+
+text_at-utf8 : (name : List ℕ) (members : List Member) (text : List ℕ) → text_at name members ≡ Some text → members_well_formed members ≡ true → is_utf8 text ≡ true
+text_at-utf8 name members text e well =
+    let tree = and_then-some as_text (find name members) text e in
+    text_utf8 tree.0 text tree.2 (well_formed-find name members tree.0 tree.1 well)
 
 texts_utf8 : (items : List Json) (texts : Texts) → texts_in items ≡ Some texts → list_all well_formed items ≡ true → list_all is_utf8 texts ≡ true
 texts_utf8 [] texts e all = let none : [] ≡ texts = cc e in ap (list_all is_utf8) (sym none)
@@ -145,9 +144,9 @@ mark_of-utf8 tree mark e well =
     let typed = and_then-some (λ (mark_type : List ℕ). option_map (λ (text : List ℕ). let entry : MarkEntry = record { mark_type = mark_type; text = text } in entry) (text_at (codes "trust_mark") object.0))
     (text_at (codes "trust_mark_type") object.0) mark object.2 in
     let text = map-some (λ (text : List ℕ). let entry : MarkEntry = record { mark_type = typed.0; text = text } in entry) (text_at (codes "trust_mark") object.0) mark typed.2 in
-    let formed = object_formed tree object.0 object.1 well in
+    let formed = members_formed tree object.0 object.1 well in
     subst (λ m. mark_utf8 m ≡ true) text.2
-    (both_true (text_is_utf8 _ object.0 typed.0 formed (sym typed.1)) (text_is_utf8 _ object.0 text.0 formed (sym text.1)))
+    (both_true (text_at-utf8 _ object.0 typed.0 typed.1 formed) (text_at-utf8 _ object.0 text.0 text.1 formed))
 
 marks_of-utf8 : (tree : Json) (marks : List MarkEntry) → marks_of tree ≡ Some marks → well_formed tree ≡ true → list_all mark_utf8 marks ≡ true
 unfolding marks_of
@@ -177,7 +176,7 @@ issuers_of-utf8 : (tree : Json) (issuers : List Issuers) → issuers_of tree ≡
 unfolding issuers_of
 issuers_of-utf8 tree issuers e well =
     let object = and_then-some (each issuers_in) (as_object tree) issuers e in
-    each-all issuers_in member_formed issuers_utf8 issuers_in-utf8 object.0 issuers object.2 (right_true (rising (map (λ m. m.name) object.0)) _ (object_formed tree object.0 object.1 well))
+    each-all issuers_in member_formed issuers_utf8 issuers_in-utf8 object.0 issuers object.2 (right_true (rising (map (λ m. m.name) object.0)) _ (members_formed tree object.0 object.1 well))
 
 pub issuers-utf8 : (own : Bool) (members : List Member) (issuers : List Issuers) → mark_issuers_in own members ≡ Ok issuers → members_well_formed members ≡ true → list_all issuers_utf8 issuers ≡ true
 unfolding mark_issuers_in
@@ -200,7 +199,7 @@ owners_of-utf8 : (tree : Json) (owners : List OwnerClaims) → owners_of tree �
 unfolding owners_of
 owners_of-utf8 tree owners e well =
     let object = and_then-some (each owner_in) (as_object tree) owners e in
-    each-all owner_in member_formed type_utf8 owner_in-utf8 object.0 owners object.2 (right_true (rising (map (λ m. m.name) object.0)) _ (object_formed tree object.0 object.1 well))
+    each-all owner_in member_formed type_utf8 owner_in-utf8 object.0 owners object.2 (right_true (rising (map (λ m. m.name) object.0)) _ (members_formed tree object.0 object.1 well))
 
 types_told : (owners : List Owner) → list_all type_utf8 (map told_owner owners) ≡ list_all (λ o. is_utf8 o.mark_type) owners
 types_told [] = refl

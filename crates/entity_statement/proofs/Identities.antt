@@ -1,22 +1,23 @@
 -- Identifiers have no fault, and moments are below their bound.
-use Rattle.std.proofs.Common.{◌≡◌, ◌<◌, ◌≤◌, ◌^◌, ℕ, ℤ, pos, negsuc, List, length, Bool, true, false, ◌||◌, not, cond, nat_lt, Option, Some, None, refl, sym, ap, ap₂, ◌∙◌, subst}
+use Rattle.std.proofs.Common.{◌≡◌, ◌<◌, ℕ, ℤ, pos, negsuc, List, length, Bool, true, false, ◌||◌, not, cond, nat_lt, Option, Some, None, refl, ap, ◌∙◌, subst}
 use Rattle.std.specs.Prelude.{is_ok, is_none}
 use Rattle.std.specs.Option.{option_and_then}
 use Rattle.std.specs.List.{list_all, list_any}
-use Rattle.std.proofs.lemmas.Bool.{le-ltb, lt-ltb, ltb-false, ltb-true}
+use Rattle.std.proofs.lemmas.Bool.{le-ltb, lt-ltb, ltb-false}
 use Rattle.std.proofs.lemmas.List.Sums.{list_all-from_AllPass}
 use Rattle.std.proofs.lemmas.List.Folds.{list_any_none}
 use Rattle.url.specs.Parser.{parse_url}
+use Rattle.fed_ports.specs.Times.{moment_limit}
 use Rattle.fed_json.specs.declared.tree.Json.{Json, Int, Text}
-use Rattle.fed_json.specs.Trees.{as_int, as_text}
+use Rattle.fed_json.specs.Trees.{as_int, as_text, if_below}
 use Rattle.fed_json.proofs.Accessors.{Int-as_int, Text-as_text, as_int-Int, as_text-Text}
 use Rattle.fed_json.proofs.Booleans.{left_false, right_false}
 use Rattle.entity_id.specs.declared.fault.IdFault.{IdFault}
 use Rattle.entity_id.specs.declared.fault.IdFault.TheVariants.{Extra, NotUrl, Scheme}
-use Rattle.entity_id.specs.Identifiers.{IsIdentifier, fault_of, has_web_scheme, is_extra, is_plain}
+use Rattle.entity_id.specs.Identifiers.{IsIdentifier, fault_of, has_web_scheme, identifier_of, is_extra, is_plain}
 use Rattle.entity_id.proofs.Identifying.{IsIdentifier-tests}
 use Rattle.chain_limits.proofs.Utf8.{and_then-some}
-use Rattle.entity_statement.specs.Forms.{identifier, moment, moment_in, unless_faulty}
+use Rattle.entity_statement.specs.Forms.{identifier, moment}
 use Rattle.entity_statement.proofs.Facts.{kept_text}
 
 not_false : (b : Bool) → not b ≡ false → b ≡ true
@@ -55,7 +56,7 @@ no_fault-IsIdentifier text id =
 pub identifier-is : (tree : Json) (id : List ℕ) → identifier tree ≡ Some id → (tree ≡ Text id) × IsIdentifier id
 unfolding identifier
 identifier-is tree id e =
-    let text = and_then-some unless_faulty (as_text tree) id e in
+    let text = and_then-some identifier_of (as_text tree) id e in
     let is = kept_text (is_none (fault_of text.0)) text.0 id text.2 in
     (Text-as_text tree text.0 text.1 ∙ ap Text is.1, subst IsIdentifier is.1 (IsIdentifier-no_fault text.0 (none_from (fault_of text.0) is.0)))
   where
@@ -65,21 +66,21 @@ identifier-is tree id e =
 
 pub identifier-of : (id : List ℕ) → IsIdentifier id → identifier (Text id) ≡ Some id
 unfolding identifier
-identifier-of id is = ap (option_and_then unless_faulty) (as_text-Text id) ∙ ap (λ o. cond (is_none o) (Some id) None) (no_fault-IsIdentifier id is)
+identifier-of id is = ap (option_and_then identifier_of) (as_text-Text id) ∙ ap (λ o. cond (is_none o) (Some id) None) (no_fault-IsIdentifier id is)
 
 in_bounds : (b : Bool) (m n : ℕ) → cond b (Some m) None ≡ Some n → (b ≡ true) × (m ≡ n)
 in_bounds true m n e = (refl, cc e)
 in_bounds false m n e = cc e
 
-moment_in-is : (o : Option ℤ) (n : ℕ) → moment_in o ≡ Some n → o ≡ Some (pos n)
-moment_in-is None n e = cc e
-moment_in-is (Some (negsuc m)) n e = cc e
-moment_in-is (Some (pos m)) n e = ap (λ k. Some (pos k)) (in_bounds (nat_lt m (2 ^ 62)) m n e).1
+if_below-is : (o : Option ℤ) (n : ℕ) → if_below moment_limit o ≡ Some n → o ≡ Some (pos n)
+if_below-is None n e = cc e
+if_below-is (Some (negsuc m)) n e = cc e
+if_below-is (Some (pos m)) n e = ap (λ k. Some (pos k)) (in_bounds (nat_lt m moment_limit) m n e).1
 
 pub moment-is : (tree : Json) (n : ℕ) → moment tree ≡ Some n → tree ≡ Int (pos n)
 unfolding moment
-moment-is tree n e = Int-as_int tree (pos n) (moment_in-is (as_int tree) n e)
+moment-is tree n e = Int-as_int tree (pos n) (if_below-is (as_int tree) n e)
 
-pub moment-of : (n : ℕ) → n < 2 ^ 62 → moment (Int (pos n)) ≡ Some n
+pub moment-of : (n : ℕ) → n < moment_limit → moment (Int (pos n)) ≡ Some n
 unfolding moment
-moment-of n small = ap moment_in (as_int-Int (pos n)) ∙ ap (λ b. cond b (Some n) None) (lt-ltb n (2 ^ 62) small)
+moment-of n small = ap (if_below moment_limit) (as_int-Int (pos n)) ∙ ap (λ b. cond b (Some n) None) (lt-ltb n moment_limit small)

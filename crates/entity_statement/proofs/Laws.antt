@@ -1,35 +1,34 @@
 -- What is read is a statement, and each statement is read as what it says.
-use Rattle.std.proofs.Common.{◌≡◌, ◌≢◌, ◌<◌, ◌^◌, ℕ, pos, List, [], ◌∷◌, codes, Bool, true, false, ◌&&◌, not, cond, bytes_eq, Option, Some, None, Result, Ok, Err, IfOk, refl, sym, ap, ◌∙◌, subst, IsTrue}
+use Rattle.std.proofs.Common.{◌≡◌, ◌≢◌, ℕ, List, [], ◌∷◌, codes, Bool, true, false, not, cond, bytes_eq, Option, Some, None, Result, Ok, Err, IfOk, refl, sym, ap, ◌∙◌, subst}
 use Rattle.std.specs.Prelude.{MatchOption}
-use Rattle.std.specs.Option.{option_and_then, option_map_or}
+use Rattle.std.specs.Option.{ok_or, option_and_then}
 use Rattle.std.specs.List.{list_all, find as first_that}
 use Rattle.std.proofs.lemmas.Bool.{true≢false}
-use Rattle.fed_json.specs.declared.tree.Json.{Json, Int, Object, Text}
+use Rattle.fed_ports.specs.Answers.{◌>>=◌}
+use Rattle.fed_json.specs.declared.tree.Json.{Json}
 use Rattle.fed_json.specs.declared.tree.Member.{Member}
 use Rattle.fed_json.specs.Reading.{reading}
-use Rattle.fed_json.specs.Trees.{as_object, find}
+use Rattle.fed_json.specs.Trees.{as_object, find, texts_of}
 use Rattle.fed_json.proofs.Accessors.{Object-as_object, as_object-Object}
 use Rattle.fed_json.proofs.Booleans.{both_true, left_true, right_true}
-use Rattle.entity_id.specs.Identifiers.{IsIdentifier}
 use Rattle.jws_form.specs.declared.compact.Compact.{Compact}
 use Rattle.jwk_set.specs.declared.jwk.Jwk.{Jwk}
 use Rattle.jwk_set.specs.declared.fault.SetFault.{SetFault}
 use Rattle.jwk_set.specs.KeySets.{reading as keys_in}
 use Rattle.jwk_set.proofs.Sets.{found as set_found, only as set_only}
-use Rattle.policy_merge.specs.Metadata.{IsMetadata, is_metadata}
+use Rattle.policy_merge.specs.Metadata.{IsMetadata}
 use Rattle.policy_merge.specs.Shapes.{policy_shape}
 use Rattle.policy_merge.proofs.Order.{bytes_eq-itself, equal-bytes_eq}
-use Rattle.chain_limits.specs.Reading.{Texts, texts_of, reading as limits_in}
-use Rattle.chain_limits.proofs.Utf8.{and_then-some}
+use Rattle.chain_limits.specs.Reading.{Texts, no_constraints, reading as limits_in}
 use Rattle.entity_statement.specs.declared.fault.StatementFault.{StatementFault}
-use Rattle.entity_statement.specs.declared.fault.StatementFault.TheVariants.{Misplaced, Missing, Shape, Tree, Typ}
+use Rattle.entity_statement.specs.declared.fault.StatementFault.TheVariants.{Missing, Shape, Tree, Typ}
 use Rattle.entity_statement.specs.declared.statement.Statement.{Statement}
-use Rattle.entity_statement.specs.Claims.{Claims, Identifier, no_constraints, no_metadata}
+use Rattle.entity_statement.specs.Claims.{Claims, Identifier, no_metadata}
 use Rattle.entity_statement.specs.Told.{told}
 use Rattle.entity_statement.specs.Forms.{hints_of, identifier, issuers_of, marks_of, metadata_of, moment, owners_of}
-use Rattle.entity_statement.specs.Table.{◌>>=◌, GivesBy, Name, all_understood, claims_in, claims_of, constraints_in, critical, critical_operators, formed, hints_in, in_place, is_operator, is_statement_type, key_set, keyed, mark_issuers_in, mark_owners_in, marks_in, metadata_in, optional, or_fault, placed, policy_crit_in, policy_in, read_where, required, said, statement_type, unless_empty, unless_strange}
+use Rattle.entity_statement.specs.Table.{GivesBy, Name, all_understood, claims_in, claims_of, claims_of_tree, constraints_in, critical, critical_operators, formed, hints_in, in_place, is_operator, is_statement_type, key_set, keyed, mark_issuers_in, mark_owners_in, marks_in, metadata_in, optional, placed, policy_crit_in, policy_in, read_where, required, said, statement_type, unless_empty, unless_strange}
 use Rattle.entity_statement.specs.Grammar.{AreOperators, HoldsKeys, IsStatement, MaySay, NamesEntity, NamesMoment, SaysClaims}
-use Rattle.entity_statement.proofs.Answers.{or_fault-ok, then-ok}
+use Rattle.entity_statement.proofs.Answers.{ok_or-ok, then-ok}
 use Rattle.entity_statement.proofs.Facts.{metadata_of-is, required-small}
 use Rattle.entity_statement.proofs.Identities.{identifier-is, identifier-of, moment-is, moment-of}
 use Rattle.entity_statement.proofs.Rows.{Rows, made, rows}
@@ -38,20 +37,20 @@ use Rattle.entity_statement.proofs.Rows.{Rows, made, rows}
 
 entity-is : (name : Name) (members : List Member) (id : Identifier) → required name (formed identifier) members ≡ Ok id → NamesEntity name members id
 entity-is name members id e =
-    let found = then-ok (or_fault (Missing name) (find name members)) (formed identifier name) id e in
-    let is = identifier-is found.0 id (or_fault-ok (Shape name) (identifier found.0) id found.2) in
-    (or_fault-ok (Missing name) (find name members) found.0 found.1 ∙ ap Some is.0, is.1)
+    let found = then-ok (ok_or (find name members) (Missing name)) (formed identifier name) id e in
+    let is = identifier-is found.0 id (ok_or-ok (identifier found.0) (Shape name) id found.2) in
+    (ok_or-ok (find name members) (Missing name) found.0 found.1 ∙ ap Some is.0, is.1)
 
 entity-of : (name : Name) (members : List Member) (id : Identifier) → NamesEntity name members id → required name (formed identifier) members ≡ Ok id
-entity-of name members id n = ap (λ o. or_fault (Missing name) o >>= formed identifier name) n.0 ∙ ap (or_fault (Shape name)) (identifier-of id n.1)
+entity-of name members id n = ap (λ o. ok_or o (Missing name) >>= formed identifier name) n.0 ∙ ap (λ o. ok_or o (Shape name)) (identifier-of id n.1)
 
 moment_at-is : (name : Name) (members : List Member) (n : ℕ) → required name (formed moment) members ≡ Ok n → NamesMoment name members n
 moment_at-is name members n e =
-    let found = then-ok (or_fault (Missing name) (find name members)) (formed moment name) n e in
-    (or_fault-ok (Missing name) (find name members) found.0 found.1 ∙ ap Some (moment-is found.0 n (or_fault-ok (Shape name) (moment found.0) n found.2)), required-small name members n e)
+    let found = then-ok (ok_or (find name members) (Missing name)) (formed moment name) n e in
+    (ok_or-ok (find name members) (Missing name) found.0 found.1 ∙ ap Some (moment-is found.0 n (ok_or-ok (moment found.0) (Shape name) n found.2)), required-small name members n e)
 
 moment_at-of : (name : Name) (members : List Member) (n : ℕ) → NamesMoment name members n → required name (formed moment) members ≡ Ok n
-moment_at-of name members n m = ap (λ o. or_fault (Missing name) o >>= formed moment name) m.0 ∙ ap (or_fault (Shape name)) (moment-of n m.1)
+moment_at-of name members n m = ap (λ o. ok_or o (Missing name) >>= formed moment name) m.0 ∙ ap (λ o. ok_or o (Shape name)) (moment-of n m.1)
 
 keyed-ok : (r : Result (List Jwk) SetFault) (keys : List Jwk) → keyed r ≡ Ok keys → r ≡ Ok keys
 keyed-ok (Ok ks) keys e = let same : ks ≡ keys = cc e in ap Ok same
@@ -59,11 +58,11 @@ keyed-ok (Err f) keys e = cc e
 
 keys-are : (name : Name) (members : List Member) (keys : List Jwk) → required name key_set members ≡ Ok keys → HoldsKeys name members keys
 keys-are name members keys e =
-    let found = then-ok (or_fault (Missing name) (find name members)) (key_set name) keys e in
-    (found.0, or_fault-ok (Missing name) (find name members) found.0 found.1, set_found found.0 keys (keyed-ok (keys_in found.0) keys found.2))
+    let found = then-ok (ok_or (find name members) (Missing name)) (key_set name) keys e in
+    (found.0, ok_or-ok (find name members) (Missing name) found.0 found.1, set_found found.0 keys (keyed-ok (keys_in found.0) keys found.2))
 
 keys-of : (name : Name) (members : List Member) (keys : List Jwk) → HoldsKeys name members keys → required name key_set members ≡ Ok keys
-keys-of name members keys h = ap (λ o. or_fault (Missing name) o >>= key_set name) h.1 ∙ ap keyed (set_only h.0 keys h.2)
+keys-of name members keys h = ap (λ o. ok_or o (Missing name) >>= key_set name) h.1 ∙ ap keyed (set_only h.0 keys h.2)
 
 -- ---- claims that may be absent
 
@@ -90,8 +89,8 @@ none_empty (Some (t ∷ ts)) e = cc e
 critical-not : (name : Name) (tree : Json) (x : Unit {0}) → critical name tree ≡ Ok x → ⊥
 unfolding critical
 critical-not name tree x e =
-    let names = then-ok (or_fault (Shape name) (option_and_then unless_empty (texts_of tree))) (all_understood (λ claim. false)) x e in
-    none_empty (texts_of tree) (or_fault-ok (Shape name) (option_and_then unless_empty (texts_of tree)) names.0 names.1 ∙ ap Some (some_strange names.0 x names.2))
+    let names = then-ok (ok_or (option_and_then unless_empty (texts_of tree)) (Shape name)) (all_understood (λ claim. false)) x e in
+    none_empty (texts_of tree) (ok_or-ok (option_and_then unless_empty (texts_of tree)) (Shape name) names.0 names.1 ∙ ap Some (some_strange names.0 x names.2))
 
 crit-none : (o : Option Json) → said tt (critical (codes "crit")) o ≡ Ok tt → o ≡ None
 crit-none None e = refl
@@ -119,10 +118,10 @@ in_place-is false name x e = cc e
 placed-is : {X : Type 0} (here : Bool) (form : Json → Option X) (name : Name) (tree : Json) (x : X) → placed here (formed form) name tree ≡ Ok x → (here ≡ true) × (form tree ≡ Some x)
 placed-is here form name tree x e =
     let place = then-ok (in_place here name) (λ is. formed form name tree) x e in
-    (in_place-is here name place.0 place.1, or_fault-ok (Shape name) (form tree) x place.2)
+    (in_place-is here name place.0 place.1, ok_or-ok (form tree) (Shape name) x place.2)
 
 placed-of : {X : Type 0} (here : Bool) (form : Json → Option X) (name : Name) (tree : Json) (x : X) → here ≡ true → form tree ≡ Some x → placed here (formed form) name tree ≡ Ok x
-placed-of here form name tree x place is = ap (λ b. in_place b name >>= λ is. formed form name tree) place ∙ ap (or_fault (Shape name)) is
+placed-of here form name tree x place is = ap (λ b. in_place b name >>= λ is. formed form name tree) place ∙ ap (λ o. ok_or o (Shape name)) is
 
 read-there : {X : Type 0} (own : Bool) (empty : X) (claim : Result X StatementFault) (x : X) → read_where own empty claim ≡ Ok x → own ≡ true → claim ≡ Ok x
 read-there true empty claim x e is = e
@@ -157,12 +156,12 @@ all-understood (name ∷ names) all =
 operators-are : (name : Name) (tree : Json) (x : Unit {0}) → critical_operators name tree ≡ Ok x → AreOperators tree
 unfolding critical_operators
 operators-are name tree x e =
-    let names = then-ok (or_fault (Shape name) (texts_of tree)) (all_understood is_operator) x e in
-    (names.0, or_fault-ok (Shape name) (texts_of tree) names.0 names.1, understood-all names.0 x names.2)
+    let names = then-ok (ok_or (texts_of tree) (Shape name)) (all_understood is_operator) x e in
+    (names.0, ok_or-ok (texts_of tree) (Shape name) names.0 names.1, understood-all names.0 x names.2)
 
 operators-of : (name : Name) (tree : Json) → AreOperators tree → critical_operators name tree ≡ Ok tt
 unfolding critical_operators
-operators-of name tree are = ap (λ o. or_fault (Shape name) o >>= all_understood is_operator) are.1 ∙ all-understood are.0 are.2
+operators-of name tree are = ap (λ o. ok_or o (Shape name) >>= all_understood is_operator) are.1 ∙ all-understood are.0 are.2
 
 -- ---- each row and its claim
 
@@ -184,7 +183,7 @@ metadata-says : (members : List Member) (s : Claims) → Rows members s → MayS
 unfolding metadata_in
 metadata-says members s r =
     may-is (s.metadata ≡ no_metadata) (λ tree. IsMetadata tree × (s.metadata ≡ tree)) no_metadata (formed metadata_of (codes "metadata")) (find (codes "metadata") members) s.metadata sym
-    (λ tree e. let is = metadata_of-is tree s.metadata (or_fault-ok (Shape (codes "metadata")) (metadata_of tree) s.metadata e) in (is.0, sym is.1)) r.metadata
+    (λ tree e. let is = metadata_of-is tree s.metadata (ok_or-ok (metadata_of tree) (Shape (codes "metadata")) s.metadata e) in (is.0, sym is.1)) r.metadata
 
 metadata_of-of : (tree m : Json) → IsMetadata tree × (m ≡ tree) → metadata_of tree ≡ Some m
 unfolding metadata_of
@@ -194,7 +193,7 @@ metadata-row : (members : List Member) (s : Claims) → SaysClaims members s →
 unfolding metadata_in
 metadata-row members s c =
     may-of (s.metadata ≡ no_metadata) (λ tree. IsMetadata tree × (s.metadata ≡ tree)) no_metadata (formed metadata_of (codes "metadata")) (find (codes "metadata") members) s.metadata sym
-    (λ tree is. ap (or_fault (Shape (codes "metadata"))) (metadata_of-of tree s.metadata is)) c.metadata
+    (λ tree is. ap (λ o. ok_or o (Shape (codes "metadata"))) (metadata_of-of tree s.metadata is)) c.metadata
 
 policy-says : (members : List Member) (s : Claims) → Rows members s → MaySay (codes "metadata_policy") members (s.policy ≡ []) (λ tree. (s.iss ≢ s.sub) × (policy_shape tree ≡ Some s.policy))
 unfolding policy_in
@@ -245,14 +244,14 @@ constraints-row members s c =
 listed-says : {X : Type 0} (form : Json → Option (List X)) (name : Name) (members : List Member) (a b : Identifier) (xs : List X)
     → read_where (bytes_eq a b) [] (optional [] name (formed form) members) ≡ Ok xs → a ≡ b → MaySay name members (xs ≡ []) (λ tree. form tree ≡ Some xs)
 listed-says form name members a b xs e same =
-    may-is (xs ≡ []) (λ tree. form tree ≡ Some xs) [] (formed form name) (find name members) xs sym (λ tree is. or_fault-ok (Shape name) (form tree) xs is)
+    may-is (xs ≡ []) (λ tree. form tree ≡ Some xs) [] (formed form name) (find name members) xs sym (λ tree is. ok_or-ok (form tree) (Shape name) xs is)
     (read-there (bytes_eq a b) [] (optional [] name (formed form) members) xs e (own-is a b same))
 
 listed-row : {X : Type 0} (form : Json → Option (List X)) (name : Name) (members : List Member) (a b : Identifier) (xs : List X)
     → (a ≡ b → MaySay name members (xs ≡ []) (λ tree. form tree ≡ Some xs)) → (a ≢ b → xs ≡ []) → read_where (bytes_eq a b) [] (optional [] name (formed form) members) ≡ Ok xs
 listed-row form name members a b xs there elsewhere =
     read-of (bytes_eq a b) [] (optional [] name (formed form) members) xs
-    (λ own. may-of (xs ≡ []) (λ tree. form tree ≡ Some xs) [] (formed form name) (find name members) xs sym (λ tree is. ap (or_fault (Shape name)) is) (there (equal-bytes_eq a b own)))
+    (λ own. may-of (xs ≡ []) (λ tree. form tree ≡ Some xs) [] (formed form name) (find name members) xs sym (λ tree is. ap (λ o. ok_or o (Shape name)) is) (there (equal-bytes_eq a b own)))
     (λ other. elsewhere (others-are a b (ap not other)))
 
 marks-say : (members : List Member) (s : Claims) → Rows members s → s.iss ≡ s.sub → MaySay (codes "trust_marks") members (s.marks ≡ []) (λ tree. marks_of tree ≡ Some s.marks)
@@ -338,26 +337,26 @@ passes true m x e = (refl, e)
 passes false m x e = cc e
 
 pub found : (c : Compact) (s : Claims) → claims_of c ≡ Ok s → IsStatement c s
-unfolding claims_of
+unfolding claims_of claims_of_tree
 found c s e =
-    let test = passes (is_statement_type c.typ) (or_fault Tree (option_and_then as_object (reading c.payload)) >>= claims_in) s e in
-    let object = then-ok (or_fault Tree (option_and_then as_object (reading c.payload))) claims_in s test.1 in
-    let tree = and_then-some as_object (reading c.payload) object.0 (or_fault-ok Tree (option_and_then as_object (reading c.payload)) object.0 object.1) in
+    let test = passes (is_statement_type c.typ) (ok_or (reading c.payload) Tree >>= claims_of_tree) s e in
+    let tree = then-ok (ok_or (reading c.payload) Tree) claims_of_tree s test.1 in
+    let object = then-ok (ok_or (as_object tree.0) Tree) claims_in s tree.2 in
     record {
       typed = typed c.typ test.0;
       members = object.0;
-      object = tree.1 ∙ ap Some (Object-as_object tree.0 object.0 tree.2);
+      object = ok_or-ok (reading c.payload) Tree tree.0 tree.1 ∙ ap Some (Object-as_object tree.0 object.0 (ok_or-ok (as_object tree.0) Tree object.0 object.1));
       says = says object.0 s (rows object.0 s object.2);
     }
 
 pub only : (c : Compact) (s : Claims) → IsStatement c s → claims_of c ≡ Ok s
-unfolding claims_of
+unfolding claims_of claims_of_tree
 only c s is =
-    let claims : Result Claims StatementFault = or_fault Tree (option_and_then as_object (reading c.payload)) >>= claims_in in
-    let object : option_and_then as_object (reading c.payload) ≡ Some is.members = ap (option_and_then as_object) is.object ∙ as_object-Object is.members in
+    let claims : Result Claims StatementFault = ok_or (reading c.payload) Tree >>= claims_of_tree in
     ap (λ t. cond (is_statement_type t) claims (Err Typ)) is.typed
     ∙ ap (λ b. cond b claims (Err Typ)) (bytes_eq-itself statement_type)
-    ∙ ap (λ o. or_fault Tree o >>= claims_in) object
+    ∙ ap (λ o. ok_or o Tree >>= claims_of_tree) is.object
+    ∙ ap (λ o. ok_or o Tree >>= claims_in) (as_object-Object is.members)
     ∙ made is.members s (all_rows is.members s is.says)
 
 pub answer_found : (c : Compact) (r : Result Statement StatementFault) → GivesBy told r (claims_of c) → IfOk r (λ s. IsStatement c (told s))

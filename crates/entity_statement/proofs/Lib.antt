@@ -6,3 +6,4 @@ pub mod Owners
 pub mod Identities
 pub mod Rows
 pub mod Laws
+pub mod SignedTexts

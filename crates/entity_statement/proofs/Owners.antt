@@ -3,9 +3,10 @@ use Rattle.std.proofs.Common.{◌≡◌, ◌<◌, ℕ, suc, ◌+◌, List, [], �
 use Rattle.std.specs.Option.{option_and_then}
 use Rattle.std.proofs.lemmas.List.{map-append}
 use Rattle.fed_json.specs.declared.tree.Member.{Member}
+use Rattle.fed_json.specs.Trees.{each}
 use Rattle.entity_statement.specs.declared.marks.Owner.{Owner}
 use Rattle.entity_statement.specs.Claims.{OwnerClaims, told_owner}
-use Rattle.entity_statement.specs.Forms.{each, owner_in}
+use Rattle.entity_statement.specs.Forms.{owner_in}
 
 abbrev pub Gathered : List Member → List Owner → ℕ → Type 0
 Gathered members owners k = each owner_in members ≡ option_map (λ rest. map told_owner owners ++ rest) (each owner_in (drop k members))

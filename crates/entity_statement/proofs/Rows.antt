@@ -1,5 +1,6 @@
 -- The table of claims, row by row.
 use Rattle.std.proofs.Common.{◌≡◌, ℕ, List, codes, bytes_eq, Result, Ok, Err, refl, ◌∙◌, subst}
+use Rattle.fed_ports.specs.Answers.{◌>>=◌}
 use Rattle.fed_json.specs.declared.tree.Json.{Json}
 use Rattle.fed_json.specs.declared.tree.Member.{Member}
 use Rattle.jwk_set.specs.declared.jwk.Jwk.{Jwk}
@@ -10,7 +11,7 @@ use Rattle.entity_statement.specs.declared.marks.MarkEntry.{MarkEntry}
 use Rattle.entity_statement.specs.declared.marks.Issuers.{Issuers}
 use Rattle.entity_statement.specs.Claims.{Claims, Identifier, OwnerClaims}
 use Rattle.entity_statement.specs.Forms.{identifier, moment}
-use Rattle.entity_statement.specs.Table.{◌>>=◌, CommonClaims, claims_in, common_in, constraints_in, critical, formed, further_in, hints_in, key_set, mark_issuers_in, mark_owners_in, marks_in, metadata_in, optional, policy_crit_in, policy_in, required}
+use Rattle.entity_statement.specs.Table.{CommonClaims, claims_in, common_in, constraints_in, critical, formed, further_in, hints_in, key_set, mark_issuers_in, mark_owners_in, marks_in, metadata_in, optional, policy_crit_in, policy_in, required}
 
 -- what each row gives, where the claims say this
 pub record Rows (members : List Member) (s : Claims) : Type 0 where

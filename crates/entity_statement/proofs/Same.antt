@@ -1,10 +1,11 @@
 -- Statements that say the same are the same.
-use Rattle.std.proofs.Common.{◌≡◌, ◌<◌, ◌^◌, ℕ, Bool, IsTrue}
+use Rattle.std.proofs.Common.{◌≡◌, ◌<◌, ℕ, Bool, IsTrue}
 use Rattle.std.specs.List.{list_all}
 use Rattle.std.specs.Str.{is_utf8}
 use Rattle.std.proofs.Math.Path.{PathP, to_path_p}
 use Rattle.std.proofs.Props.{props}
 use denote.Struct.Props.{props as facts}
+use Rattle.fed_ports.specs.Times.{moment_limit}
 use Rattle.policy_merge.specs.Metadata.{IsMetadata, is_metadata}
 use Rattle.chain_limits.specs.declared.constraints.Constraints.{Constraints}
 use Rattle.chain_limits.specs.Reading.{HoldsUtf8}
@@ -16,7 +17,7 @@ use Rattle.entity_statement.specs.Forms.{all_differ}
 over : {X : Type 0} (P : X → Type 0) → ((x : X) → IsProp (P x)) → {x y : X} (e : x ≡ y) (p : P x) (q : P y) → PathP (λ i. P (e i)) p q
 over P is {y = y} e p q = to_path_p (λ i. P (e i)) (is y _ q)
 
-moments : (n : ℕ) → IsProp (n < 2 ^ 62)
+moments : (n : ℕ) → IsProp (n < moment_limit)
 moments n = hlevel facts
 
 utf8 : (limits : Constraints) → IsProp (HoldsUtf8 limits)
@@ -40,8 +41,8 @@ same_statement a b iss sub iat exp jwks hints metadata policy constraints marks 
   marks = marks i;
   issuers = issuers i;
   owners = owners i;
-  issued = over (λ n. n < 2 ^ 62) moments iat a.issued b.issued i;
-  ends = over (λ n. n < 2 ^ 62) moments exp a.ends b.ends i;
+  issued = over (λ n. n < moment_limit) moments iat a.issued b.issued i;
+  ends = over (λ n. n < moment_limit) moments exp a.ends b.ends i;
   once = over (λ ids. IsTrue (all_differ ids)) (tests all_differ) hints a.once b.once i;
   parameters = over IsMetadata (tests is_metadata) metadata a.parameters b.parameters i;
   names = over HoldsUtf8 utf8 constraints a.names b.names i;

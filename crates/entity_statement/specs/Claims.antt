@@ -1,5 +1,5 @@
 -- What an entity statement says (OpenID Federation 1.0 section 3.1).
-use Rattle.std.specs.Prelude.{ℕ, List, [], map, None, Bool, ◌&&◌}
+use Rattle.std.specs.Prelude.{ℕ, List, [], Bool, ◌&&◌}
 use Rattle.std.specs.List.{list_all}
 use Rattle.std.specs.Str.{is_utf8, bytes_eq}
 use Rattle.fed_json.specs.declared.tree.Json.{Json, Object}
@@ -35,24 +35,22 @@ pub record Claims : Type 0 where
   pub issuers : List Issuers
   pub owners : List OwnerClaims
 
--- what an owner says, its key set by the keys
+-- what an owner says, its key set by the keys (section 3.1.2)
 abbrev pub told_owner : Owner → OwnerClaims
 told_owner o = record { mark_type = o.mark_type; sub = o.sub; keys = o.jwks.keys }
 
--- what absent claims say: no parameter of any type, and no limit
+-- what a statement without the claim `metadata` says: no type (section 3.1.1)
 abbrev pub no_metadata : Json
 no_metadata = Object []
-
-abbrev pub no_constraints : Constraints
-no_constraints = record { max_path = None; permitted = None; excluded = []; types = None }
 
 -- a statement of an entity about itself is its configuration (section 3.1)
 abbrev pub is_configuration : Claims → Bool
 is_configuration s = bytes_eq s.iss s.sub
 
--- the texts of the entries are UTF-8 (RFC 8259 section 8.1)
+-- the texts of a mark's entry are UTF-8 (RFC 8259 section 8.1)
 abbrev pub mark_utf8 : MarkEntry → Bool
 mark_utf8 m = is_utf8 m.mark_type && is_utf8 m.text
 
+-- the type and those who may issue marks of it are UTF-8 (RFC 8259 section 8.1)
 abbrev pub issuers_utf8 : Issuers → Bool
 issuers_utf8 i = is_utf8 i.mark_type && list_all is_utf8 i.who

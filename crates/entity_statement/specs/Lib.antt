@@ -4,3 +4,4 @@ pub mod Forms
 pub mod Table
 pub mod Grammar
 pub mod Use
+pub mod Signed

@@ -8,12 +8,12 @@ ghost use Rattle.entity_statement.specs.Forms.{identifier, moment};
 ghost use Rattle.entity_statement.specs.Table.{Gives, GivesBy, all_understood, constraints_in, critical, formed, hints_in, is_operator, key_set, mark_issuers_in, mark_owners_in, marks_in, metadata_in, optional, policy_crit_in, policy_in, required};
 
 use crate::fault::StatementFault;
-use crate::forms::{hints, identifier, moment, texts};
+use crate::forms::{hints, identifier, moment};
 use crate::marks::{Issuers, MarkEntry, Owner, read_issuers, read_marks, read_owners};
 use crate::table::{formed, in_place, required};
 use chain_limits::{Constraints, LimitShape};
 use entity_id::EntityId;
-use fed_json::{Member, find};
+use fed_json::{Member, copied_texts, find};
 use fed_ports::{Duplicate, Memory, Seq, Text};
 use jwk_set::{JwkSet, SetFault};
 use policy_merge::{Operator, Policy, PolicyShape, is_metadata};
@@ -37,7 +37,7 @@ pub(crate) fn check_critical(alloc: Global, claims: &[Member]) -> Result<(), Sta
     let Some(tree) = find(claims, b"crit") else {
         return Ok(());
     };
-    let names = texts(alloc, tree)?;
+    let names = copied_texts(alloc, tree)?;
     let names = formed(alloc, b"crit", names)?;
     match names.as_slice().first() {
         Some(name) => Err(StatementFault::Critical(name.copy(alloc)?)),
@@ -149,7 +149,7 @@ pub(crate) fn check_policy_crit(
         return Ok(());
     };
     in_place(alloc, b"metadata_policy_crit", !own)?;
-    let names = texts(alloc, tree)?;
+    let names = copied_texts(alloc, tree)?;
     let names = formed(alloc, b"metadata_policy_crit", names)?;
     all_operators(alloc, names.as_slice())
 }
@@ -183,12 +183,7 @@ pub(crate) fn constraints_in(
     ensures { Gives result (constraints_in own claims.now) }
 {
     let Some(tree) = find(claims, b"constraints") else {
-        return Ok(Constraints {
-            max_path: None,
-            permitted: None,
-            excluded: Seq::new(alloc),
-            types: None,
-        });
+        return Ok(Constraints::none(alloc));
     };
     in_place(alloc, b"constraints", !own)?;
     match Constraints::read(alloc, tree) {

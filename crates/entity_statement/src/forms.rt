@@ -1,19 +1,14 @@
 // The form of each claim: what its value says, and `None` where it hasn't the form.
 
-ghost use Rattle.std.specs.Prelude.{◌≡◌, IfOk, IsTrue, option_map};
+ghost use Rattle.std.specs.Prelude.{◌≡◌, IfOk, bytes_eq, option_map};
 ghost use Rattle.std.specs.List.{list_any};
-ghost use Rattle.fed_json.specs.Forms.{IsWellFormed, members_well_formed};
-ghost use Rattle.chain_limits.specs.Reading.{texts_of};
-ghost use Rattle.entity_statement.specs.Forms.{each, hints_of, identifier, is_among, moment, once};
+ghost use Rattle.fed_json.specs.Trees.{each};
+ghost use Rattle.entity_statement.specs.Forms.{hints_of, identifier, moment, once};
 
-use chain_limits::{LimitShape, copied_texts};
-use entity_id::{EntityId, IdFault};
-use fed_json::Json;
-use fed_ports::{Memory, Seq, Text};
+use entity_id::EntityId;
+use fed_json::{Json, count_below};
+use fed_ports::{MOMENT_LIMIT, Memory, Seq};
 use std::alloc::Global;
-
-/// Moments are whole seconds since 1970, below this number.
-const MOMENTS: i128 = 1 << 62;
 
 /// How many hints an entity has at most.
 const MAX_HINTS: usize = 32;
@@ -23,13 +18,9 @@ const MAX_HINTS: usize = 32;
 pub(crate) fn identifier(alloc: Global, tree: &Json) -> Result<Option<EntityId>, Memory>
     ensures { IfOk result (λ id. id ≡ identifier tree.now) }
 {
-    let Json::Text(text) = tree else {
-        return Ok(None);
-    };
-    match EntityId::read(alloc, text.as_slice()) {
-        Ok(id) => Ok(Some(id)),
-        Err(IdFault::Memory) => Err(Memory),
-        Err(_) => Ok(None),
+    match tree {
+        Json::Text(text) => EntityId::of(alloc, text.as_slice()),
+        _ => Ok(None),
     }
 }
 
@@ -38,24 +29,7 @@ pub(crate) fn identifier(alloc: Global, tree: &Json) -> Result<Option<EntityId>,
 pub(crate) fn moment(tree: &Json) -> Option<u64>
     ensures { result ≡ moment tree.now }
 {
-    match tree {
-        Json::Int(n) if 0 <= *n && *n < MOMENTS => Some(*n as u64),
-        _ => None,
-    }
-}
-
-/// The texts that the items of the list are.
-pub(crate) fn texts(alloc: Global, tree: &Json) -> Result<Option<Seq<Text>>, Memory>
-    ensures { IfOk result (λ texts. texts ≡ texts_of tree.now) }
-{
-    let Json::List(items) = tree else {
-        return Ok(None);
-    };
-    match copied_texts(alloc, items.as_slice()) {
-        Ok(texts) => Ok(Some(texts)),
-        Err(LimitShape::Shape) => Ok(None),
-        Err(LimitShape::Memory) => Err(Memory),
-    }
+    count_below(tree, MOMENT_LIMIT)
 }
 
 /// The identifiers of a list of 1 to 32, each once, at its first place.
@@ -80,15 +54,15 @@ fn each_once(alloc: Global, items: &[Json]) -> Result<Option<Seq<EntityId>>, Mem
         let Some(id) = identifier(alloc, item)? else {
             return Ok(None);
         };
-        if !is_among(hints.as_slice(), &id) {
+        if !contains(hints.as_slice(), &id) {
             hints.push(id)?;
         }
     }
     Ok(Some(hints))
 }
 
-fn is_among(ids: &[EntityId], id: &EntityId) -> bool
-    ensures { result ≡ is_among ids.now id.now }
+fn contains(ids: &[EntityId], id: &EntityId) -> bool
+    ensures { result ≡ list_any (bytes_eq id.now) ids.now }
 {
-    ids.iter().any(|other| other == id)
+    ids.iter().any(|other| id == other)
 }

@@ -1,7 +1,7 @@
 //! Entity statements (OpenID Federation 1.0 section 3): what a compact text claims.
 //!
 //! A statement of an entity about itself is its configuration; any other is a superior's about its subordinate. The
-//! crates above read texts by [`Statement::read`], ask whether a statement is current, and where its entity answers
+//! crates above read texts by [`Statement::read`] and trees by [`Statement::of_claims`], ask whether a statement is current, and where its entity answers
 //! statements about its subordinates.
 #![tactic(auto)]
 
@@ -10,9 +10,12 @@ mod fault;
 mod forms;
 mod marks;
 mod reading;
+mod signed;
 mod statement;
 mod table;
 
 pub use fault::StatementFault;
 pub use marks::{Issuers, MarkEntry, Owner};
+pub use reading::STATEMENT_TYPE;
+pub use signed::SignedStatement;
 pub use statement::Statement;

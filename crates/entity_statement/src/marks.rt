@@ -1,16 +1,16 @@
 // What a configuration says of trust marks.
 
 ghost use Rattle.std.specs.Prelude.{◌≡◌, IfOk, IsTrue, map, option_map};
-ghost use Rattle.std.specs.List.{list_all};
-ghost use Rattle.fed_json.specs.Forms.{IsWellFormed, members_well_formed, well_formed};
+ghost use Rattle.fed_json.specs.Forms.{IsWellFormed, members_well_formed};
+ghost use Rattle.fed_json.specs.Trees.{each};
 ghost use Rattle.entity_statement.specs.Claims.{told_owner};
-ghost use Rattle.entity_statement.specs.Forms.{each, issuers_in, issuers_of, mark_of, marks_of, owner_in, owner_with, owners_of};
+ghost use Rattle.entity_statement.specs.Forms.{issuers_in, issuers_of, mark_of, marks_of, owner_in, owner_with, owners_of};
 
-use crate::forms::{identifier, texts};
+use crate::forms::identifier;
 use entity_id::EntityId;
-use fed_json::{Json, Member, find};
+use fed_json::{Json, Member, copied_texts, find, text_at};
 use fed_ports::{Duplicate, Memory, Seq, Text};
-use jwk_set::{JwkSet, SetFault, text_at};
+use jwk_set::{JwkSet, SetFault};
 use std::alloc::Global;
 
 /// A trust mark of an entity, unread, and its type (OpenID Federation 1.0 section 7.1).
@@ -25,7 +25,7 @@ pub struct MarkEntry {
 /// Those who may issue marks of a type; any entity where the list is empty (section 3.1.2).
 #[derive(Drop)]
 pub struct Issuers {
-    /// UTF-8.
+    /// The type, UTF-8.
     pub mark_type: Text,
     /// The texts of the list, UTF-8; they need not identify entities.
     pub who: Seq<Text>,
@@ -34,8 +34,9 @@ pub struct Issuers {
 /// The owner of a type of marks (section 3.1.2).
 #[derive(Drop)]
 pub struct Owner {
-    /// UTF-8.
+    /// The type, UTF-8.
     pub mark_type: Text,
+    /// Who owns the type.
     pub sub: EntityId,
     /// The keys that sign the owner's delegations.
     pub jwks: JwkSet,
@@ -141,7 +142,7 @@ fn each_issuers(alloc: Global, members: &[Member]) -> Result<Option<Seq<Issuers>
 fn issuers_of_type(alloc: Global, member: &Member) -> Result<Option<Issuers>, Memory>
     ensures { IfOk result (λ issuers. issuers ≡ issuers_in member.now) }
 {
-    let Some(who) = texts(alloc, &member.value)? else {
+    let Some(who) = copied_texts(alloc, &member.value)? else {
         return Ok(None);
     };
     let mark_type = member.name.copy(alloc)?;

@@ -1,7 +1,8 @@
 // The table of claims, row by row.
 
-ghost use Rattle.std.specs.Prelude.{◌≡◌, ◌<◌, ◌^◌, codes, unwrap_or, IfOk, IsTrue};
+ghost use Rattle.std.specs.Prelude.{◌≡◌, ◌<◌, codes, unwrap_or, IfOk, IsTrue};
 ghost use Rattle.std.specs.Option.{option_copied};
+ghost use Rattle.fed_ports.specs.Times.{moment_limit};
 ghost use Rattle.fed_json.specs.Forms.{members_well_formed};
 ghost use Rattle.fed_json.specs.Trees.{find as value_at};
 ghost use Rattle.entity_statement.specs.Claims.{no_metadata};
@@ -20,8 +21,8 @@ use fed_ports::{Seq, Text};
 use jwk_set::JwkSet;
 use std::alloc::Global;
 
-/// The `typ` of an entity statement (OpenID Federation 1.0 section 3.1).
-const STATEMENT_TYPE: &[u8] = b"entity-statement+jwt";
+/// The `typ` of the header of an entity statement (OpenID Federation 1.0 section 3.1).
+pub const STATEMENT_TYPE: &[u8] = b"entity-statement+jwt";
 
 /// The claims that every statement has.
 #[derive(Drop)]
@@ -54,8 +55,8 @@ pub(crate) fn read_claims(alloc: Global, members: Seq<Member>) -> Result<Stateme
 fn read_common(alloc: Global, claims: &[Member]) -> Result<Common, StatementFault>
     requires { IsTrue (members_well_formed claims.now) }
     ensures claims { GivesBy told_common result (common_in claims.now) }
-    ensures issued { IfOk result (λ common. common.iat < 2 ^ 62) }
-    ensures ends { IfOk result (λ common. common.exp < 2 ^ 62) }
+    ensures issued { IfOk result (λ common. common.iat < moment_limit) }
+    ensures ends { IfOk result (λ common. common.exp < moment_limit) }
 {
     check_critical(alloc, claims)?;
     let iss = identifier_at(alloc, claims, b"iss")?;
@@ -78,8 +79,8 @@ fn read_further(
     common: Common,
     members: Seq<Member>,
 ) -> Result<Statement, StatementFault>
-    requires issued { common.iat < 2 ^ 62 }
-    requires ends { common.exp < 2 ^ 62 }
+    requires issued { common.iat < moment_limit }
+    requires ends { common.exp < moment_limit }
     requires formed { IsTrue (members_well_formed members) }
     ensures { GivesBy told result (further_in (told_common common) members) }
 {

@@ -1,7 +1,10 @@
-ghost use Rattle.std.specs.Prelude.{◌<◌, ◌^◌, IsTrue};
+// Entity statements.
+
+ghost use Rattle.std.specs.Prelude.{◌<◌, IsTrue};
 ghost use Rattle.std.specs.List.{list_all};
 ghost use Rattle.std.specs.Str.{is_utf8};
 ghost use Rattle.std.proofs.Props.{props};
+ghost use Rattle.fed_ports.specs.Times.{moment_limit};
 ghost use Rattle.policy_merge.specs.Metadata.{IsMetadata};
 ghost use Rattle.chain_limits.specs.Reading.{HoldsUtf8};
 ghost use Rattle.entity_statement.specs.Claims.{mark_utf8 as is_mark_utf8, issuers_utf8 as are_issuers_utf8};
@@ -12,9 +15,9 @@ use crate::marks::{Issuers, MarkEntry, Owner};
 use crate::reading::{is_statement_type, read_claims};
 use chain_limits::Constraints;
 use entity_id::EntityId;
-use fed_json::{Json, TreeFault, find, read_tree};
+use fed_json::{Json, TreeFault, find, read_tree, text_at};
 use fed_ports::{Duplicate, Memory, Seq, Text};
-use jwk_set::{JwkSet, text_at};
+use jwk_set::JwkSet;
 use jws_form::Compact;
 use policy_merge::Policy;
 use std::alloc::Global;
@@ -26,7 +29,9 @@ const LEEWAY: u64 = 60;
 /// a superior's statement about its subordinate where they differ. A claim that is absent reads as empty.
 #[derive(Drop)]
 pub struct Statement {
+    /// Who says it.
     pub iss: EntityId,
+    /// Whom it is about.
     pub sub: EntityId,
     /// Seconds since 1970, below 2^62.
     pub iat: u64,
@@ -47,9 +52,9 @@ pub struct Statement {
     /// In byte order of the types, as the owners.
     pub issuers: Seq<Issuers>,
     pub owners: Seq<Owner>,
-    // Each statement is one that `read` can give.
-    pub ghost issued: { iat < 2 ^ 62 },
-    pub ghost ends: { exp < 2 ^ 62 },
+    // Each statement is one that `read` or `of_claims` can give.
+    pub ghost issued: { iat < moment_limit },
+    pub ghost ends: { exp < moment_limit },
     pub ghost once: { IsTrue (all_differ hints) },
     pub ghost parameters: { IsMetadata metadata },
     pub ghost names: { HoldsUtf8 constraints } by { Prim.hlevel props },
@@ -61,10 +66,11 @@ pub struct Statement {
 impl Statement {
     ghost use Rattle.std.specs.Prelude.{◌≡◌, IfOk, Ok};
     ghost use Rattle.std.specs.Option.{option_copied};
+    ghost use Rattle.fed_json.specs.Forms.{IsWellFormed};
     ghost use Rattle.entity_statement.specs.Claims.{Claims};
     ghost use Rattle.entity_statement.specs.Told.{told};
     ghost use Rattle.entity_statement.specs.Grammar.{IsStatement};
-    ghost use Rattle.entity_statement.specs.Table.{GivesBy, claims_of};
+    ghost use Rattle.entity_statement.specs.Table.{GivesBy, claims_of, claims_of_tree};
     ghost use Rattle.entity_statement.specs.Use.{current_at, fetch_endpoint_in};
 
     /// What a compact text claims as an entity statement, or its first fault, in the order of [`StatementFault`]. Claims
@@ -79,9 +85,22 @@ impl Statement {
             return Err(StatementFault::Typ);
         }
         match read_tree(alloc, compact.payload.as_slice()) {
-            Ok(Json::Object(members)) => read_claims(alloc, members),
-            Ok(_) | Err(TreeFault::Syntax) => Err(StatementFault::Tree),
+            Ok(claims) => Statement::of_claims(alloc, claims),
+            Err(TreeFault::Syntax) => Err(StatementFault::Tree),
             Err(TreeFault::Memory) => Err(StatementFault::Memory),
+        }
+    }
+
+    /// What a tree claims as the payload of an entity statement, or its first fault, in the order of [`StatementFault`]
+    /// from `Tree` on. Claims of other names are left unread.
+    #[tactic(auto, unfolding(crate::specs::Table::claims_of_tree))]
+    pub fn of_claims(alloc: Global, claims: Json) -> Result<Statement, StatementFault>
+        requires { IsWellFormed claims }
+        ensures exact { GivesBy told result (claims_of_tree claims) }
+    {
+        match claims {
+            Json::Object(members) => read_claims(alloc, members),
+            _ => Err(StatementFault::Tree),
         }
     }
 

@@ -1,9 +1,10 @@
 // The columns of the table of claims: a claim that must be there, one that has a form, one that has its place.
 
 ghost use Rattle.std.specs.Prelude.{◌≡◌, IfOk, IsTrue};
+ghost use Rattle.std.specs.Option.{ok_or};
 ghost use Rattle.fed_json.specs.Forms.{IsWellFormed, members_well_formed};
 ghost use Rattle.fed_json.specs.Trees.{find as value_at};
-ghost use Rattle.entity_statement.specs.Table.{Gives, GivesBy, in_place, or_fault};
+ghost use Rattle.entity_statement.specs.Table.{Gives, GivesBy, in_place};
 ghost use Rattle.entity_statement.specs.declared.fault.StatementFault.TheVariants.{Missing, Shape};
 
 use crate::fault::StatementFault;
@@ -17,7 +18,7 @@ pub(crate) fn required<'a>(
     claims: &'a [Member],
     name: &[u8],
 ) -> Result<&'a Json, StatementFault>
-    ensures value { GivesBy (λ tree. tree.now) result (or_fault (Missing name.now) (value_at name.now claims.now)) }
+    ensures value { GivesBy (λ tree. tree.now) result (ok_or (value_at name.now claims.now) (Missing name.now)) }
     ensures well_formed { IsTrue (members_well_formed claims.now) → IfOk result (λ tree. IsWellFormed tree.now) }
 {
     match find(claims, name) {
@@ -28,7 +29,7 @@ pub(crate) fn required<'a>(
 
 /// What the claim's value says, where it has its form.
 pub(crate) fn formed<T>(alloc: Global, name: &[u8], form: Option<T>) -> Result<T, StatementFault>
-    ensures { Gives result (or_fault (Shape name.now) form) }
+    ensures { Gives result (ok_or form (Shape name.now)) }
 {
     match form {
         Some(value) => Ok(value),

@@ -1,13 +1,17 @@
 -- A text has one finding under a key.
 use Rattle.std.proofs.Common.{◌≡◌, ◌≤◌, ℕ, List, refl, sym, ap, ◌∙◌, subst, lit≤}
-use Rattle.std.specs.Prelude.{Ok, Option, Some, None, MatchOption}
+use Rattle.std.specs.Prelude.{Ok, Option, Some, None}
+use Rattle.entity_statement.specs.Signed.{IsReading, statement_of}
 use Rattle.entity_statement.specs.Table.{claims_of}
-use Rattle.fed.specs.Configurations.{IsStatement}
+use Rattle.entity_statement.specs.Told.{told}
+use Rattle.entity_statement.proofs.SignedTexts.{claims_of-read, claims_of-unread}
+use Rattle.fed.specs.Configurations.{IsStatementBy}
 use Rattle.fed.specs.Findings.{IsFinding, status_of}
-use Rattle.fed.specs.declared.configuration.SignedStatement.{SignedStatement}
+use Rattle.entity_statement.specs.declared.signed.SignedStatement.{SignedStatement}
 use Rattle.fed.specs.declared.finding.Finding.{Finding}
 use Rattle.fed.specs.declared.finding.Finding.TheVariants.{Valid, Form, Names, Signature}
 use Rattle.jws_form.specs.declared.compact.Compact.{Compact}
+use Rattle.jws_form.specs.Compact.{IsCompact}
 use Rattle.jws_form.proofs.Laws.{IsCompact-unique}
 use Rattle.slh_dsa.specs.Verifying.{Verifies}
 
@@ -19,7 +23,7 @@ status_small Names = lit≤ tt
 status_small Signature = lit≤ tt
 
 -- the statements of one text agree in their parts and names
-pub statement_once : (text : List ℕ) (c d : Compact) (a b i j : List ℕ) → IsStatement text c a i → IsStatement text d b j → (c ≡ d) × (a ≡ b) × (i ≡ j)
+pub statement_once : (text : List ℕ) (c d : Compact) (a b i j : List ℕ) → IsStatementBy text c a i → IsStatementBy text d b j → (c ≡ d) × (a ≡ b) × (i ≡ j)
 statement_once text c d a b i j p q =
     let same : c ≡ d = IsCompact-unique text c d p.compact q.compact in
     let reads : claims_of d ≡ Ok p.claims = subst (λ z. claims_of z ≡ Ok p.claims) same p.reads in
@@ -57,11 +61,29 @@ finding_once key text Signature Names (c, s, p, fails) (d, i, t, q, other) =
     absurd (other (sym both.1 ∙ both.2))
 finding_once key text Signature Signature p q = refl
 
+-- a text that reads as no statement is none by any issuer about any subject
+unread : (text : List ℕ) (read : Option SignedStatement) → read ≡ None → IsReading text read → (c : Compact) (iss sub : List ℕ) → ¬ IsStatementBy text c iss sub
+unread text read none reading c iss sub is =
+    let unread : statement_of text ≡ None = subst (IsReading text) none reading in
+    claims_of-unread text c is.claims is.compact unread is.reads
+
+none_left : {X : Type 0} (o : Option X) → ((x : X) → o ≡ Some x → ⊥) → o ≡ None
+none_left None not_some = refl
+none_left (Some x) not_some = absurd (not_some x refl)
+
+-- a reading that isn't any statement
+pub none_read : (text : List ℕ) (read : Option SignedStatement) → ((s : SignedStatement) → read ≡ Some s → ⊥) → IsReading text read → (c : Compact) (iss sub : List ℕ) → ¬ IsStatementBy text c iss sub
+none_read text read not_some reading = unread text read (none_left read not_some) reading
+
+-- what was read is a statement by its issuer about its subject
+pub statement_at : (text : List ℕ) (read : Option SignedStatement) (s : SignedStatement) → read ≡ Some s → IsReading text read
+    → IsStatementBy text s.compact s.statement.iss s.statement.sub
+statement_at text read s is reading =
+    let found : IsReading text (Some s) = subst (IsReading text) is reading in
+    let compact : IsCompact text s.compact = subst (λ x. IsCompact x s.compact) found.1 found.2 in
+    record { compact = compact; claims = told s.statement; reads = claims_of-read text s.compact (told s.statement) compact found.0; issuer = refl; subject = refl }
+
 -- what was read by one entity about itself is its configuration
-pub configuration_at : (text : List ℕ) (read : Option SignedStatement) (s : SignedStatement) → read ≡ Some s
-    → MatchOption read ((c : Compact) (iss sub : List ℕ) → ¬ IsStatement text c iss sub) (λ z. IsStatement text z.compact z.statement.iss z.statement.sub)
-    → s.statement.iss ≡ s.statement.sub → IsStatement text s.compact s.statement.sub s.statement.sub
-configuration_at text None s is found same = cc is
-configuration_at text (Some r) s is found same =
-    let one : r ≡ s = cc is in
-    subst (λ z. IsStatement text s.compact z s.statement.sub) same (subst (λ z. IsStatement text z.compact z.statement.iss z.statement.sub) one found)
+pub configuration_at : (text : List ℕ) (read : Option SignedStatement) (s : SignedStatement) → read ≡ Some s → IsReading text read
+    → s.statement.iss ≡ s.statement.sub → IsStatementBy text s.compact s.statement.sub s.statement.sub
+configuration_at text read s is reading same = subst (λ z. IsStatementBy text s.compact z s.statement.sub) same (statement_at text read s is reading)

@@ -6,9 +6,10 @@ use Rattle.fed_ports.specs.Stores.{Files, IsFile, Loads, Counted, file_limit}
 use Rattle.fed_ports.specs.declared.store.StoreFault.{StoreFault}
 use Rattle.fed_ports.specs.declared.store.StoreFault.TheVariants.{TooLong}
 use Rattle.fed.specs.Answers.{named, IsNamed, IsTextRead}
-use Rattle.fed.specs.Streams.{EndsAs, input_limit, without_line_end}
+use Rattle.fed_ports.specs.Inputs.{EndsAs}
+use Rattle.fed.specs.Streams.{without_line_end}
 use Rattle.fed.specs.declared.command.Command.{Command}
-use Rattle.fed.specs.declared.input.ReadEnd.TheVariants as end
+use Rattle.fed_ports.specs.declared.input.ReadEnd.TheVariants as end
 use Rattle.fed.proofs.StreamLaws.{begins}
 
 -- the file that a command names is too long
@@ -28,11 +29,11 @@ long_input old new before now ends =
     let whole = begins old new ends.1.0 ends.1.1 in
     let most = ends.1.2 in
     let least = whole.2 in
-    let longer : input_limit < length whole.0 = omega (arith, most, least) in
+    let longer : file_limit < length whole.0 = omega (arith, most, least) in
     record {
       steady = ends.0;
       input = whole.0;
       is_input = whole.1;
-      is_text = ap (λ b. cond b None (Some (without_line_end whole.0))) (lt-ltb input_limit (length whole.0) longer);
+      is_text = ap (λ b. cond b None (Some (without_line_end whole.0))) (lt-ltb file_limit (length whole.0) longer);
       ended = λ short. absurd (omega (arith, longer, short));
     }

@@ -1,32 +1,33 @@
 -- A ring of one key: it can be written, and what it has is found in it again.
-use Rattle.std.proofs.Common.{◌≡◌, ◌<◌, ◌^◌, ℕ, pos, List, [], ◌∷◌, codes, cond, Some, None, length, refl, sym, ap, ◌∙◌, arith}
+use Rattle.std.proofs.Common.{◌≡◌, ◌<◌, ℕ, pos, List, [], ◌∷◌, codes, cond, Some, None, length, refl, sym, ap, ◌∙◌, arith}
 use Rattle.std.proofs.lemmas.Bool.{lt-ltb}
 use Rattle.std.specs.Option.{option_and_then}
 use Rattle.std.specs.Result.{result_ok}
 use Rattle.hex.specs.Hex.{encode_lower, decode_sized, IsBytes}
 use Rattle.hex.proofs.HexLemmas.{decode_sized-encode_lower}
+use Rattle.fed_ports.specs.Times.{moment_limit}
 use Rattle.fed_json.specs.declared.tree.Json.{Json, Int, Text}
 use Rattle.fed_json.specs.declared.tree.Member.{Member}
 use Rattle.fed_json.specs.Members.{text_member}
 use Rattle.fed_json.specs.Reading.{reading}
-use Rattle.fed_json.specs.Trees.{as_text, as_int}
+use Rattle.fed_json.specs.Trees.{as_text, count_below, if_below}
 use Rattle.fed_json.proofs.Accessors.{as_text-Text, as_int-Int, as_list-List, as_object-Object}
-use Rattle.fed.specs.Rings.{IsRing, number_member, live_key, ring_tree, count_of, key_fields, key_in, fields_in}
+use Rattle.fed.specs.Rings.{IsRing, number_member, live_key, ring_tree, key_fields, key_in, fields_in}
 use Rattle.fed.specs.declared.ring.LiveKey.{LiveKey}
 
 members : LiveKey → List Member
 members key = number_member (codes "exp") key.exp ∷ number_member (codes "iat") key.iat
     ∷ text_member (codes "seeds") (encode_lower key.seeds) ∷ text_member (codes "state") (codes "live") ∷ []
 
-counted : (n : ℕ) → n < 2 ^ 62 → option_and_then count_of (as_int (Int (pos n))) ≡ Some n
-counted n small = ap (option_and_then count_of) (as_int-Int (pos n)) ∙ ap (λ b. cond b (Some n) None) (lt-ltb n (2 ^ 62) small)
+counted : (n : ℕ) → n < moment_limit → count_below moment_limit (Int (pos n)) ≡ Some n
+counted n small = ap (if_below moment_limit) (as_int-Int (pos n)) ∙ ap (λ b. cond b (Some n) None) (lt-ltb n moment_limit small)
 
 seeded : (seeds : List ℕ) → length seeds ≡ 48 → IsBytes seeds → option_and_then (λ text. result_ok (decode_sized text 48)) (as_text (Text (encode_lower seeds))) ≡ Some seeds
 seeded seeds size bytes =
     ap (option_and_then (λ text. result_ok (decode_sized text 48))) (as_text-Text (encode_lower seeds)) ∙ ap result_ok (decode_sized-encode_lower seeds 48 size bytes)
 
 -- what a ring has is found in it
-pub found_again : (key : LiveKey) → key.iat < 2 ^ 62 → key.exp < 2 ^ 62 → length key.seeds ≡ 48 → IsBytes key.seeds → fields_in (ring_tree key) ≡ Some key
+pub found_again : (key : LiveKey) → key.iat < moment_limit → key.exp < moment_limit → length key.seeds ≡ 48 → IsBytes key.seeds → fields_in (ring_tree key) ≡ Some key
 unfolding fields_in key_in key_fields ring_tree live_key
 found_again key iat exp size bytes =
     rw (as_object-Object, as_list-List, as_object-Object, seeded key.seeds size bytes, counted key.iat iat, counted key.exp exp) refl

@@ -3,7 +3,7 @@ use Rattle.std.proofs.Common.{◌≡◌, ◌≤◌, ℕ, List, ◌++◌, length,
 use Rattle.std.specs.Prelude.{Option}
 use Rattle.std.proofs.lemmas.Grind.{common_steps}
 use Rattle.fed.specs.Answers.{MayBe}
-use Rattle.fed.specs.Streams.{Gave, AtEnd}
+use Rattle.fed_ports.specs.Inputs.{Gave, AtEnd}
 
 -- an input that begins with the bytes
 pub begins : (old new : Option (List ℕ)) (bytes : List ℕ) → Gave old bytes new → (input : List ℕ) × MayBe old input × (length bytes ≤ length input)

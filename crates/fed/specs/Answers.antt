@@ -2,7 +2,8 @@
 use Rattle.std.specs.Prelude.{◌≡◌, ◌⊎◌, ◌≤◌, ◌<◌, ℕ, List, length, take, nat_lt, Bool, true, false, IsTrue, Option, Some, None, Result, Ok, Err, IfSome, MatchOption, if◌then◌else◌}
 use Rattle.fed_ports.specs.Bytes.{Appends}
 use Rattle.fed_ports.specs.Causes.{Rose, next_count}
-use Rattle.fed_ports.specs.Stores.{Files, IsFile, Keeps}
+use Rattle.fed_ports.specs.Inputs.{AtEnd}
+use Rattle.fed_ports.specs.Stores.{Files, file_limit, IsFile, Keeps}
 use Rattle.fed_ports.specs.Times.{Told}
 use Rattle.fed_ports.specs.declared.faults.Failed.{Failed}
 use Rattle.fed.specs.declared.answer.Stop.{Stop}
@@ -13,7 +14,7 @@ use Rattle.fed.specs.declared.reply.Reply.{Reply}
 use Rattle.fed.specs.declared.step.Step.{Step}
 use Rattle.fed.specs.declared.step.Step.TheVariants.{Done, Awaits}
 use Rattle.fed.specs.Steps.{IsStep, IsOutcome}
-use Rattle.fed.specs.Streams.{AtEnd, input_limit, without_line_end}
+use Rattle.fed.specs.Streams.{without_line_end}
 
 -- the file that a command names
 abbrev pub named : Command → Option (List ℕ)
@@ -37,7 +38,7 @@ wants_input Faulty = false
 
 -- the text of an input: the bytes without their one line end, and none where they are too long
 abbrev pub text_of : List ℕ → Option (List ℕ)
-text_of input = if nat_lt input_limit (length input) then None else Some (without_line_end input)
+text_of input = if nat_lt file_limit (length input) then None else Some (without_line_end input)
 
 -- what the command answers on the bytes of its file, where there is one, and on an input, at a moment in seconds since 1970: the
 -- outside's faults and want of memory aside
@@ -58,7 +59,7 @@ IsNamed command files file = IfSome (named command) (λ name. IsFile files name 
 -- a step that wants an input reads it to its end, unless it is too long, and no other reads any
 abbrev pub IsRead : Step → List ℕ → Option (List ℕ) → Option (List ℕ) → Type 0
 IsRead (Done reply) input left left' = left' ≡ left
-IsRead (Awaits job) input left left' = length input ≤ input_limit → AtEnd left'
+IsRead (Awaits job) input left left' = length input ≤ file_limit → AtEnd left'
 
 -- the reply is the command's on its file and its input, which was read
 pub record IsReached (command : Command) (moment : ℕ) (files : Option Files) (left left' : Option (List ℕ)) (reply : Reply) : Type 0 where
@@ -152,7 +153,7 @@ pub record Readings : Type 0 where
 -- one reading was made
 pub record IsOneReading (before now : Readings) : Type 0 where
   pub counted : now.count ≡ next_count before.count
-  pub added : Told before.told now.told now.last
+  pub added : Told before.count before.told now.told now.last
 
 -- the clock is read once by a check without a moment of its own, and by nothing else; a check for which memory is wanting may not read it
 abbrev pub UsesClock : Command → Readings → Readings → ℕ → Type 0
@@ -171,7 +172,7 @@ pub record IsTextRead (left left' : Option (List ℕ)) (before now : ℕ) (text 
   pub input : List ℕ
   pub is_input : MayBe left input
   pub is_text : text_of input ≡ text
-  pub ended : length input ≤ input_limit → AtEnd left'
+  pub ended : length input ≤ file_limit → AtEnd left'
 
 -- the moment of a check that has none of its own is the clock's, which is read once; no other command reads it
 abbrev pub IsMomentFor : Command → Readings → Readings → ℕ → Type 0

@@ -8,9 +8,9 @@ use Rattle.chain_check.specs.declared.reason.Reason.{Reason}
 use Rattle.chain_check.specs.declared.reason.Reason.TheVariants.{Form, Names, Times, Signature, PathLength, Name, Conflict, Policy}
 use Rattle.chain_check.specs.declared.verdict.Verdict.{Verdict}
 use Rattle.chain_check.specs.declared.verdict.Verdict.TheVariants.{Valid, Refused}
-use Rattle.chain_limits.specs.Reading.{texts_of}
 use Rattle.fed_json.specs.Compact.{compact, quoted}
 use Rattle.fed_json.specs.Reading.{reading}
+use Rattle.fed_json.specs.Trees.{texts_of}
 use Rattle.jwk_set.specs.KeySets.{reading as set_of}
 use Rattle.jwk_set.specs.declared.jwk.Jwk.{Jwk}
 use Rattle.policy_merge.specs.Names.{operator_name}

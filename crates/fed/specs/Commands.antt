@@ -2,7 +2,9 @@
 use Rattle.std.specs.Prelude.{ℕ, List, [], ◌∷◌, ◌==◌, ◌&&◌, ◌||◌, length, codes, bytes_eq, Option, Some, None, is_some, if◌then◌else◌}
 use Rattle.std.specs.Option.{option_and_then}
 use Rattle.base64url.specs.Base64url.{decoded_32}
-use Rattle.fed.specs.Options.{option_in, moment_in, identifier_of}
+use Rattle.entity_id.specs.Identifiers.{identifier_of}
+use Rattle.entity_statement.specs.Table.{statement_type}
+use Rattle.fed.specs.Options.{option_in, moment_in}
 use Rattle.fed.specs.declared.command.Command.{Command}
 use Rattle.fed.specs.declared.command.Command.TheVariants.{Verify, Keygen, Issue, Check, Help, Version, Faulty}
 
@@ -36,7 +38,7 @@ keygen_of words =
 
 -- the command, where both are there and the type is the one that is issued
 abbrev pub issue_with : Option (List ℕ) → Option (List ℕ) → Command
-issue_with (Some ring) (Some typ) = if bytes_eq typ (codes "entity-statement+jwt") then Issue ring else Faulty
+issue_with (Some ring) (Some typ) = if bytes_eq typ statement_type then Issue ring else Faulty
 issue_with (Some ring) None = Faulty
 issue_with None typ = Faulty
 

@@ -6,7 +6,7 @@ use Rattle.jws_form.specs.Compact.{IsCompact}
 use Rattle.jws_form.specs.declared.compact.Compact.{Compact}
 
 -- the text is an entity statement in compact form, by this issuer about this subject
-pub record IsStatement (text : List ℕ) (c : Compact) (iss sub : List ℕ) : Type 0 where
+pub record IsStatementBy (text : List ℕ) (c : Compact) (iss sub : List ℕ) : Type 0 where
   pub compact : IsCompact text c
   pub claims : Claims
   pub reads : claims_of c ≡ Ok claims

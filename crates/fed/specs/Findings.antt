@@ -1,6 +1,6 @@
 -- What `verify` finds of a text under a public key, and the line that says so.
 use Rattle.std.specs.Prelude.{◌≢◌, ℕ, List, [], ◌∷◌, ◌++◌, codes}
-use Rattle.fed.specs.Configurations.{IsStatement}
+use Rattle.fed.specs.Configurations.{IsStatementBy}
 use Rattle.fed.specs.declared.finding.Finding.{Finding}
 use Rattle.fed.specs.declared.finding.Finding.TheVariants.{Valid, Form, Names, Signature}
 use Rattle.jws_form.specs.declared.compact.Compact.{Compact}
@@ -8,10 +8,10 @@ use Rattle.slh_dsa.specs.Verifying.{Verifies}
 
 -- a configuration has one entity as issuer and subject, and its signature verifies; else the first of these that fails
 abbrev pub IsFinding : List ℕ → List ℕ → Finding → Type 0
-IsFinding key text (Valid sub) = (c : Compact) × IsStatement text c sub sub × Verifies key c.signed c.signature
-IsFinding key text Form = (c : Compact) (iss sub : List ℕ) → ¬ IsStatement text c iss sub
-IsFinding key text Names = (c : Compact) × (iss : List ℕ) × (sub : List ℕ) × IsStatement text c iss sub × (iss ≢ sub)
-IsFinding key text Signature = (c : Compact) × (sub : List ℕ) × IsStatement text c sub sub × ¬ Verifies key c.signed c.signature
+IsFinding key text (Valid sub) = (c : Compact) × IsStatementBy text c sub sub × Verifies key c.signed c.signature
+IsFinding key text Form = (c : Compact) (iss sub : List ℕ) → ¬ IsStatementBy text c iss sub
+IsFinding key text Names = (c : Compact) × (iss : List ℕ) × (sub : List ℕ) × IsStatementBy text c iss sub × (iss ≢ sub)
+IsFinding key text Signature = (c : Compact) × (sub : List ℕ) × IsStatementBy text c sub sub × ¬ Verifies key c.signed c.signature
 
 -- 0 for a valid text, 1 for a refused one
 abbrev pub status_of : Finding → ℕ

@@ -1,34 +1,18 @@
 -- What `issue` makes of claims (OpenID Federation 1.0 section 3).
 use Rattle.std.specs.Prelude.{ℕ, List, [], ◌∷◌, ◌++◌, length, codes, nat_lt, Bool, not, Option, Some, None, is_some, is_ok, if◌then◌else◌}
-use Rattle.entity_statement.specs.Table.{claims_of, statement_type}
+use Rattle.entity_statement.specs.Table.{claims_of_tree, statement_type}
 use Rattle.fed_json.specs.declared.tree.Json.{Json}
 use Rattle.fed_json.specs.Compact.{compact}
 use Rattle.fed_json.specs.Forms.{whole}
 use Rattle.fed_json.specs.Reading.{reading}
 use Rattle.fed_json.specs.Trees.{as_object}
-use Rattle.jws_form.specs.declared.compact.Compact.{Compact}
 use Rattle.sealed.specs.Sealing.{sealed_text}
 use Rattle.fed.specs.Replies.{plain, bad_input, refused}
 use Rattle.fed.specs.declared.reply.Reply.{Reply}
 
--- the parts of a statement's text that its claims are read from, with this payload (section 3.1)
-abbrev pub typed : List ℕ → Compact
-typed payload = record {
-  whole = [];
-  typ = Some statement_type;
-  kid = None;
-  payload = payload;
-  signed = [];
-  signature = [];
-}
-
--- the payload's claims are those of an entity statement (section 3.1.1)
-unfoldable pub payload_read : List ℕ → Bool
-payload_read payload = is_ok (claims_of (typed payload))
-
--- the claims' compact text reads
+-- the claims are those of an entity statement (section 3.1.1)
 abbrev pub claims_read : Json → Bool
-claims_read tree = payload_read (compact tree)
+claims_read tree = is_ok (claims_of_tree tree)
 
 -- the sealed text, on its own line (RFC 7515 section 7.1)
 unfoldable pub sealed_reply : List ℕ → Json → Reply

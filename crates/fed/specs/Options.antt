@@ -1,18 +1,13 @@
 -- Options, their values and numbers among the words.
-use Rattle.std.specs.Prelude.{◌^◌, ◌+◌, ◌-◌, ◌*◌, ℕ, List, [], ◌∷◌, ◌&&◌, Bool, true, false, not, nat_eq, nat_le, nat_lt, bytes_eq, Option, Some, None, if◌then◌else◌}
+use Rattle.std.specs.Prelude.{◌+◌, ◌-◌, ◌*◌, ℕ, List, [], ◌∷◌, ◌&&◌, Bool, true, false, not, nat_eq, nat_le, nat_lt, bytes_eq, Option, Some, None, if◌then◌else◌}
 use Rattle.std.specs.Option.{option_and_then}
-use Rattle.entity_id.specs.declared.fault.IdFault.{IdFault}
-use Rattle.entity_id.specs.Identifiers.{fault_of}
+use Rattle.fed_ports.specs.Times.{moment_limit}
 
 -- the value behind the first option of that name, where the words are pairs of an option and its value
 unfoldable pub option_in : List ℕ → List (List ℕ) → Option (List ℕ)
 option_in name [] = None
 option_in name (option ∷ []) = None
 option_in name (option ∷ value ∷ words) = if bytes_eq option name then Some value else option_in name words
-
--- one more than the greatest moment, in seconds since 1970
-abbrev pub moment_limit : ℕ
-moment_limit = 2 ^ 62
 
 -- the number that the decimal digits make behind those of n, where it is below the limit
 unfoldable pub number_after : ℕ → List ℕ → Option ℕ
@@ -33,12 +28,3 @@ number_of word = if is_led word then number_after 0 word else None
 -- the moment that the option's value gives
 abbrev pub moment_in : List ℕ → List (List ℕ) → Option ℕ
 moment_in name words = option_and_then number_of (option_in name words)
-
--- the word, where it has no fault
-abbrev pub unless_fault : List ℕ → Option IdFault → Option (List ℕ)
-unless_fault word None = Some word
-unless_fault word (Some fault) = None
-
--- the entity that the word identifies
-abbrev pub identifier_of : List ℕ → Option (List ℕ)
-identifier_of word = unless_fault word (fault_of word)

@@ -1,13 +1,14 @@
 -- Ring files of one live key.
-use Rattle.std.specs.Prelude.{◌≡◌, ◌<◌, ◌^◌, ℕ, ℤ, pos, negsuc, List, [], ◌∷◌, length, codes, nat_lt, Option, Some, None, if◌then◌else◌}
+use Rattle.std.specs.Prelude.{◌≡◌, ◌<◌, ℕ, pos, List, [], ◌∷◌, length, codes, Option, Some, None}
 use Rattle.std.specs.Option.{option_and_then}
 use Rattle.std.specs.Result.{result_ok}
 use Rattle.hex.specs.Hex.{IsBytes, encode_lower, decode_sized}
+use Rattle.fed_ports.specs.Times.{moment_limit}
 use Rattle.fed_json.specs.declared.tree.Json.{Json, Int, List as ListOf, Object}
 use Rattle.fed_json.specs.declared.tree.Member.{Member}
 use Rattle.fed_json.specs.Members.{text_member}
 use Rattle.fed_json.specs.Reading.{member_of, reading}
-use Rattle.fed_json.specs.Trees.{as_text, as_int, as_list, as_object, find}
+use Rattle.fed_json.specs.Trees.{as_list, as_object, count_below, find, text_at}
 use Rattle.fed.specs.declared.ring.LiveKey.{LiveKey}
 
 -- a member of that name that is a number
@@ -28,22 +29,17 @@ ring_tree key = Object (member_of (codes "keys") (ListOf (live_key key ∷ [])) 
 pub record IsRing (bytes : List ℕ) (key : LiveKey) : Type 0 where
   pub reads : reading bytes ≡ Some (ring_tree key)
   pub order : key.iat < key.exp
-  pub small : key.exp < 2 ^ 62
+  pub small : key.exp < moment_limit
   pub size : length key.seeds ≡ 48
   pub octets : IsBytes key.seeds
 
--- the number, where it is from 0 to 2^62 - 1
-abbrev pub count_of : ℤ → Option ℕ
-count_of (pos n) = if nat_lt n (2 ^ 62) then Some n else None
-count_of (negsuc n) = None
-
--- such a number under that name
-abbrev pub count_at : List ℕ → List Member → Option ℕ
-count_at name members = option_and_then count_of (option_and_then as_int (find name members))
+-- a moment under that name
+abbrev pub moment_at : List ℕ → List Member → Option ℕ
+moment_at name members = option_and_then (count_below moment_limit) (find name members)
 
 -- the seeds: 48 bytes in hexadecimal digits, here of either case
 abbrev pub seeds_at : List Member → Option (List ℕ)
-seeds_at members = option_and_then (λ text. result_ok (decode_sized text 48)) (option_and_then as_text (find (codes "seeds") members))
+seeds_at members = option_and_then (λ text. result_ok (decode_sized text 48)) (text_at (codes "seeds") members)
 
 -- the key, where all three are there
 abbrev pub fields_with : Option (List ℕ) → Option ℕ → Option ℕ → Option LiveKey
@@ -54,7 +50,7 @@ fields_with None iat exp = None
 
 -- the seeds and the moments among the members of a key
 unfoldable pub key_fields : List Member → Option LiveKey
-key_fields members = fields_with (seeds_at members) (count_at (codes "iat") members) (count_at (codes "exp") members)
+key_fields members = fields_with (seeds_at members) (moment_at (codes "iat") members) (moment_at (codes "exp") members)
 
 -- the same, of the one key of a list
 unfoldable pub key_in : List Json → Option LiveKey

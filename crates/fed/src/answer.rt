@@ -8,10 +8,10 @@ ghost use Rattle.fed.specs.Sealings.{RepliesSealed};
 ghost use Rattle.fed.specs.Steps.{IsFileOf};
 
 use crate::command::Command;
-use crate::input::{ReadEnd, read_all, trimmed};
+use crate::input::without_line_end;
 use crate::reply::Reply;
 use crate::step::{File, Step, finish, first_step};
-use fed_ports::{Failed, Memory, Source, Store, StoreFault, Text};
+use fed_ports::{Failed, Memory, ReadEnd, Source, Store, StoreFault, Text, read_all};
 use std::alloc::Global;
 
 /// Why there is no reply.
@@ -71,8 +71,8 @@ fn read_text<S: Source>(alloc: Global, input: &mut S) -> Result<Option<Text>, St
     ensures stops { IfErr result (λ stop. (store : ℕ) → StopsAs stop (S.read_faults input.old) (S.read_faults input.new) store store) }
 {
     match read_all(alloc, input) {
-        Ok(bytes) => Ok(Some(Text::of(alloc, trimmed(bytes.as_slice()))?)),
-        Err(ReadEnd::Fault) => Err(Stop::Source),
+        Ok(bytes) => Ok(Some(without_line_end(bytes))),
+        Err(ReadEnd::Failed) => Err(Stop::Source),
         Err(ReadEnd::TooLong) => Ok(None),
         Err(ReadEnd::Memory) => Err(Stop::Memory),
     }

@@ -3,8 +3,7 @@
 ghost use Rattle.std.specs.Prelude.{◌≡◌, IfOk};
 ghost use Rattle.fed.specs.Checks.{chain_in};
 
-use chain_limits::{LimitShape, copied_texts};
-use fed_json::{Json, TreeFault, read_tree};
+use fed_json::{TreeFault, copied_texts, read_tree};
 use fed_ports::{Memory, Seq, Text};
 use std::alloc::Global;
 
@@ -12,14 +11,9 @@ use std::alloc::Global;
 pub fn read_chain(alloc: Global, input: &[u8]) -> Result<Option<Seq<Text>>, Memory>
     ensures { IfOk result (λ read. read ≡ chain_in input.now) }
 {
-    let items = match read_tree(alloc, input) {
-        Ok(Json::List(items)) => items,
-        Err(TreeFault::Memory) => return Err(Memory),
-        _ => return Ok(None),
-    };
-    match copied_texts(alloc, items.as_slice()) {
-        Ok(texts) => Ok(Some(texts)),
-        Err(LimitShape::Shape) => Ok(None),
-        Err(LimitShape::Memory) => Err(Memory),
+    match read_tree(alloc, input) {
+        Ok(tree) => copied_texts(alloc, &tree),
+        Err(TreeFault::Syntax) => Ok(None),
+        Err(TreeFault::Memory) => Err(Memory),
     }
 }

@@ -3,9 +3,10 @@
 ghost use Rattle.std.specs.Prelude.{◌≡◌, IfOk};
 ghost use Rattle.fed.specs.Commands.{command_of, verb_of, verify_of, keygen_of, issue_of, check_of, flag_of};
 
-use crate::options::{identifier_of, moment_in, option_in};
+use crate::options::{moment_in, option_in};
 use base64url::decode_32;
 use entity_id::EntityId;
+use entity_statement::STATEMENT_TYPE;
 use fed_ports::{Duplicate, Memory, Text};
 use std::alloc::Global;
 
@@ -123,7 +124,7 @@ fn read_issue(alloc: Global, rest: &[Text]) -> Result<Command, Memory>
         return Ok(Command::Faulty);
     }
     match (option_in(rest, b"--ring"), option_in(rest, b"--typ")) {
-        (Some(ring), Some(typ)) if typ.as_slice() == b"entity-statement+jwt".as_slice() => {
+        (Some(ring), Some(typ)) if typ.as_slice() == STATEMENT_TYPE => {
             Ok(Command::Issue {
                 ring: ring.copy(alloc)?,
             })
@@ -144,7 +145,7 @@ fn read_check(alloc: Global, rest: &[Text]) -> Result<Command, Memory>
     else {
         return Ok(Command::Faulty);
     };
-    match identifier_of(alloc, anchor.as_slice())? {
+    match EntityId::of(alloc, anchor.as_slice())? {
         Some(anchor) => Ok(Command::Check {
             anchor,
             keys: keys.copy(alloc)?,

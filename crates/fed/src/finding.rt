@@ -3,9 +3,8 @@
 ghost use Rattle.std.specs.Prelude.{◌≡◌, ◌↔◌, IfOk, IsTrue};
 ghost use Rattle.fed.specs.Findings.{IsFinding, status_of, line_of};
 
-use crate::configuration::{SignedStatement, read_statement};
 use entity_id::EntityId;
-use entity_statement::Statement;
+use entity_statement::{SignedStatement, Statement};
 use fed_ports::{Memory, Plain, Steps, Text};
 use slh_dsa::verify;
 use std::alloc::Global;
@@ -27,7 +26,7 @@ pub enum Finding {
 pub fn examine(alloc: Global, key: &[u8; 32], text: &[u8]) -> Result<Finding, Memory>
     ensures { IfOk result (IsFinding key.now text.now) }
 {
-    let Some(SignedStatement { compact, statement }) = read_statement(alloc, text)? else {
+    let Some(SignedStatement { compact, statement }) = SignedStatement::read(alloc, text)? else {
         return Ok(Finding::Form);
     };
     if !is_own(&statement) {

@@ -1,21 +1,18 @@
 // The answer of `issue`.
 
 ghost use Rattle.std.specs.Prelude.{◌≡◌, IfOk, IsSome, is_some};
+ghost use Rattle.fed_json.specs.Forms.{IsWellFormed};
 ghost use Rattle.fed_json.specs.Trees.{as_object};
-ghost use Rattle.fed.specs.Issues.{issue_reply, of_object, payload_read};
+ghost use Rattle.fed.specs.Issues.{claims_read, issue_reply, of_object};
 ghost use Rattle.fed.specs.Sealings.{IsSealedReply};
 
 use crate::reply::{Reply, plain};
-use entity_statement::{Statement, StatementFault};
+use entity_statement::{STATEMENT_TYPE, Statement, StatementFault};
 use fed_json::{Json, TreeFault, is_whole, read_tree, write_tree};
 use fed_ports::{Memory, Text};
-use jws_form::Compact;
-use sealed::seal;
+use sealed::seal_payload;
 use slh_dsa::KeyPair;
 use std::alloc::Global;
-
-/// The type of entity statements (OpenID Federation 1.0 section 3.1).
-const STATEMENT_TYPE: &[u8] = b"entity-statement+jwt";
 
 /// The most bytes that claims may have as compact JSON.
 const MOST_CLAIMS: usize = 180_000;
@@ -33,7 +30,7 @@ pub fn issue(alloc: Global, keys: &KeyPair, input: &[u8]) -> Result<Reply, Memor
         Err(TreeFault::Syntax) => return plain(alloc, 2, b"input\n"),
     };
     if is_object(&tree) {
-        seal_claims(alloc, keys, &tree)
+        seal_claims(alloc, keys, tree)
     } else {
         plain(alloc, 2, b"input\n")
     }
@@ -47,23 +44,24 @@ fn is_object(tree: &Json) -> bool
 
 /// The same of claims that are an object.
 #[tactic(auto, unfolding(crate::specs::Issues::of_object, crate::specs::Issues::sealed_reply))]
-fn seal_claims(alloc: Global, keys: &KeyPair, tree: &Json) -> Result<Reply, Memory>
-    requires { IsSome (as_object tree.now) }
-    ensures reply { IfOk result (λ reply. reply ≡ of_object keys.now tree.now) }
+fn seal_claims(alloc: Global, keys: &KeyPair, tree: Json) -> Result<Reply, Memory>
+    requires object { IsSome (as_object tree) }
+    requires formed { IsWellFormed tree }
+    ensures reply { IfOk result (λ reply. reply ≡ of_object keys.now tree) }
     ensures sealed { IfOk result (IsSealedReply keys.now) }
 {
-    if !is_whole(tree) {
+    if !is_whole(&tree) {
         return plain(alloc, 1, b"refused Form\n");
     }
-    let payload = write_tree(alloc, tree)?;
+    let payload = write_tree(alloc, &tree)?;
     if payload.len() > MOST_CLAIMS {
         return plain(alloc, 1, b"refused TooLong\n");
     }
-    if !is_statement(alloc, payload)? {
+    if !is_statement(alloc, tree)? {
         return plain(alloc, 1, b"refused Form\n");
     }
     let typ = Text::of(alloc, STATEMENT_TYPE)?;
-    let mut text = seal(alloc, keys, &typ, tree)?;
+    let mut text = seal_payload(alloc, keys, &typ, payload.as_slice())?;
     text.push(b'\n')?;
     Ok(Reply {
         status: 0,
@@ -72,20 +70,12 @@ fn seal_claims(alloc: Global, keys: &KeyPair, tree: &Json) -> Result<Reply, Memo
     })
 }
 
-/// Whether the payload's claims are those of an entity statement (OpenID Federation 1.0 section 3.1.1).
-#[tactic(auto, unfolding(crate::specs::Issues::payload_read))]
-fn is_statement(alloc: Global, payload: Text) -> Result<bool, Memory>
-    ensures { IfOk result (λ read. read ≡ payload_read payload) }
+/// Whether the claims are those of an entity statement (OpenID Federation 1.0 section 3.1.1).
+fn is_statement(alloc: Global, claims: Json) -> Result<bool, Memory>
+    requires { IsWellFormed claims }
+    ensures { IfOk result (λ read. read ≡ claims_read claims) }
 {
-    let compact = Compact {
-        whole: Text::new(alloc),
-        typ: Some(Text::of(alloc, STATEMENT_TYPE)?),
-        kid: None,
-        payload,
-        signed: Text::new(alloc),
-        signature: Text::new(alloc),
-    };
-    match Statement::read(alloc, &compact) {
+    match Statement::of_claims(alloc, claims) {
         Ok(_) => Ok(true),
         Err(StatementFault::Memory) => Err(Memory),
         Err(_) => Ok(false),

@@ -9,7 +9,6 @@ mod answer;
 mod chain_text;
 mod check;
 mod command;
-mod configuration;
 mod finding;
 mod help;
 mod input;

@@ -1,15 +1,11 @@
 // Options, their values and numbers among the words.
 
-ghost use Rattle.std.specs.Prelude.{◌≡◌, ◌<◌, ◌^◌, IfOk};
+ghost use Rattle.std.specs.Prelude.{◌≡◌, ◌<◌};
 ghost use Rattle.std.specs.Option.{option_copied};
-ghost use Rattle.fed.specs.Options.{option_in, number_after, number_of, moment_in, identifier_of};
+ghost use Rattle.fed_ports.specs.Times.{moment_limit};
+ghost use Rattle.fed.specs.Options.{option_in, number_after, number_of, moment_in};
 
-use entity_id::{EntityId, IdFault};
-use fed_ports::{Memory, Text};
-use std::alloc::Global;
-
-/// One more than the greatest moment, in seconds since 1970.
-const MOMENTS: u128 = 1 << 62;
+use fed_ports::{MOMENT_LIMIT, Text};
 
 /// The value behind the first option of that name, where the words are pairs of an option and its value.
 #[tactic(auto, unfolding(crate::specs::Options::option_in))]
@@ -52,7 +48,7 @@ fn number_of(word: &[u8]) -> Option<u64>
 /// The number that the digits make behind those of `number`.
 #[tactic(auto, unfolding(crate::specs::Options::number_after))]
 fn number_after(number: u64, digits: &[u8]) -> Option<u64>
-    requires { number < 2 ^ 62 }
+    requires { number < moment_limit }
     ensures { result ≡ number_after number digits.now }
 {
     let Some((digit, rest)) = digits.split_first() else {
@@ -62,20 +58,9 @@ fn number_after(number: u64, digits: &[u8]) -> Option<u64>
         return None;
     }
     let longer = u128::from(number) * 10 + u128::from(*digit - b'0');
-    if longer < MOMENTS {
+    if longer < u128::from(MOMENT_LIMIT) {
         number_after(longer as u64, rest)
     } else {
         None
-    }
-}
-
-/// The entity that the word identifies.
-pub fn identifier_of(alloc: Global, word: &[u8]) -> Result<Option<EntityId>, Memory>
-    ensures { IfOk result (λ id. id ≡ identifier_of word.now) }
-{
-    match EntityId::read(alloc, word) {
-        Ok(id) => Ok(Some(id)),
-        Err(IdFault::Memory) => Err(Memory),
-        Err(_) => Ok(None),
     }
 }

@@ -4,10 +4,13 @@ ghost use Rattle.std.specs.Prelude.{◌≡◌, ◌<◌, ◌≤◌, ◌^◌, ◌�
 ghost use Rattle.std.specs.Option.{option_copied};
 ghost use Rattle.fed_json.specs.Forms.{IsWhole, nesting};
 ghost use Rattle.hex.specs.Hex.{IsBytes};
-ghost use Rattle.fed.specs.Rings.{IsRing, fields_in, key_fields, key_in, count_at, seeds_at, ring_tree, live_key, number_member};
+ghost use Rattle.fed_ports.specs.Times.{moment_limit};
+ghost use Rattle.fed.specs.Rings.{IsRing, fields_in, key_fields, key_in, moment_at, seeds_at, ring_tree, live_key, number_member};
 
-use fed_json::{Json, Member, TreeFault, find, json_equal, read_tree, text_member};
-use fed_ports::{Memory, Seq, Text};
+use fed_json::{
+    Json, Member, TreeFault, count_below, find, json_equal, read_tree, text_at, text_member,
+};
+use fed_ports::{MOMENT_LIMIT, Memory, Seq, Text};
 use hex::FromHex;
 use std::alloc::Global;
 
@@ -44,10 +47,10 @@ pub fn read_ring(alloc: Global, bytes: &[u8]) -> Result<Option<LiveKey>, Memory>
 
 /// Whether the key's moments are in their order and below 2^62.
 fn is_timely(key: LiveKey) -> bool
-    ensures timely { IsTrue result ↔ ((key.iat < key.exp) × (key.exp < 2 ^ 62)) }
+    ensures timely { IsTrue result ↔ ((key.iat < key.exp) × (key.exp < moment_limit)) }
     ensures seeds { (length key.seeds ≡ 48) × IsBytes key.seeds }
 {
-    key.iat < key.exp && key.exp < 1 << 62
+    key.iat < key.exp && key.exp < MOMENT_LIMIT
 }
 
 /// The seeds and moments of the one key, whatever else stands in the tree.
@@ -80,29 +83,29 @@ fn key_fields(members: &[Member]) -> Option<LiveKey>
 {
     match (
         seeds_at(members),
-        count_at(members, b"iat"),
-        count_at(members, b"exp"),
+        moment_at(members, b"iat"),
+        moment_at(members, b"exp"),
     ) {
         (Some(seeds), Some(iat), Some(exp)) => Some(LiveKey { seeds, iat, exp }),
         _ => None,
     }
 }
 
-fn count_at(members: &[Member], name: &[u8]) -> Option<u64>
-    ensures { result ≡ count_at name.now members.now }
+fn moment_at(members: &[Member], name: &[u8]) -> Option<u64>
+    ensures { result ≡ moment_at name.now members.now }
 {
     match find(members, name) {
-        Some(Json::Int(n)) if 0 <= *n && *n < 1 << 62 => Some(*n as u64),
-        _ => None,
+        Some(tree) => count_below(tree, MOMENT_LIMIT),
+        None => None,
     }
 }
 
 fn seeds_at(members: &[Member]) -> Option<[u8; 48]>
     ensures { result ≡ seeds_at members.now }
 {
-    match find(members, b"seeds") {
-        Some(Json::Text(text)) => <[u8; 48]>::from_hex(text.as_slice()).ok(),
-        _ => None,
+    match text_at(members, b"seeds") {
+        Some(text) => <[u8; 48]>::from_hex(text.as_slice()).ok(),
+        None => None,
     }
 }
 

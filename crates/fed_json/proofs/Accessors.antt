@@ -1,14 +1,14 @@
 -- A tree that is seen as a text, a number, a list or an object is that text, number, list or object.
-use Rattle.std.proofs.Common.{◌≡◌, ℕ, ℤ, Bool, true, false, ◌&&◌, cond, bytes_eq, List, [], ◌∷◌, Option, Some, sym, ap, ◌∙◌, rules}
+use Rattle.std.proofs.Common.{◌≡◌, ℕ, ℤ, Bool, true, false, ◌&&◌, cond, bytes_eq, List, [], ◌∷◌, Option, Some, None, option_and_then, sym, ap, ◌∙◌, rules}
 use Rattle.std.specs.List.{list_all}
 use Rattle.std.specs.Str.{IsUtf8, is_utf8}
-use Rattle.std.proofs.lemmas.Str.{IsUtf8-from_is_utf8}
+use Rattle.std.proofs.lemmas.Str.{IsUtf8-from_is_utf8, is_utf8-from_IsUtf8}
 use Rattle.fed_json.specs.declared.tree.Json.{Json, Text, Int, List as ListOf, Object, out-Json, the_lemmas}
 use Rattle.fed_json.specs.declared.tree.Json.TheOpen.{Json-F}
 use Rattle.fed_json.specs.declared.tree.Json.TheViews.{roll-Json}
 use Rattle.fed_json.specs.declared.tree.Member.{Member}
 use Rattle.fed_json.specs.Forms.{well_formed, members_well_formed, rising}
-use Rattle.fed_json.specs.Trees.{find, as_text, as_int, as_list, as_object, text_in, int_in, list_in, object_in}
+use Rattle.fed_json.specs.Trees.{find, text_at, as_text, as_int, as_list, as_object, text_in, int_in, list_in, object_in}
 use Rattle.fed_json.proofs.Layers.{well_formed-Text}
 use Rattle.fed_json.proofs.Booleans.{left_true, right_true}
 use Rattle.fed_json.proofs.Names.{names}
@@ -88,3 +88,15 @@ well_formed-find name ms found e formed = found_among name ms found e (right_tru
 
 pub IsUtf8-find : (name : List ℕ) (ms : List Member) (s : List ℕ) → find name ms ≡ Some (Text s) → members_well_formed ms ≡ true → IsUtf8 s
 IsUtf8-find name ms s e formed = IsUtf8-from_is_utf8 s (sym (well_formed-Text s) ∙ well_formed-find name ms (Text s) e formed)
+
+-- ---- the text of a member
+
+text_found : (o : Option Json) (t : List ℕ) → option_and_then as_text o ≡ Some t → o ≡ Some (Text t)
+text_found None t e = cc e
+text_found (Some value) t e = ap Some (Text-as_text value t e)
+
+pub text_at-found : (name : List ℕ) (members : List Member) (t : List ℕ) → text_at name members ≡ Some t → find name members ≡ Some (Text t)
+text_at-found name members t e = text_found (find name members) t e
+
+pub text_is_utf8 : (name : List ℕ) (members : List Member) (t : List ℕ) → members_well_formed members ≡ true → Some t ≡ text_at name members → is_utf8 t ≡ true
+text_is_utf8 name members t formed e = is_utf8-from_IsUtf8 t (IsUtf8-find name members t (text_at-found name members t (sym e)) formed)

@@ -15,6 +15,7 @@ quoted text = compact_text (data_of.string text)
 abbrev pub listed : List (List ℕ) → List ℕ
 listed = join_with_byte 44
 
+-- one level of `compact`, where each part has its text (RFC 8259 sections 3, 5 and 6)
 abbrev pub compact_step : Json-F (List ℕ) (List ℕ) → List ℕ
 compact_step Json-F.Null = codes "null"
 compact_step (Json-F.Bool true) = codes "true"

@@ -1,5 +1,6 @@
 -- What a JSON value holds (RFC 8259 section 3).
-use Rattle.std.specs.Prelude.{ℕ, ℤ, List, [], ◌∷◌, Option, Some, None, bytes_eq, if◌then◌else◌}
+use Rattle.std.specs.Prelude.{ℕ, ℤ, pos, List, [], ◌∷◌, Option, Some, None, option_map, unwrap_or, bytes_eq, nat_lt, if◌then◌else◌}
+use Rattle.std.specs.Option.{option_and_then}
 use Rattle.fed_json.specs.declared.tree.Json.{Json, out-Json}
 use Rattle.fed_json.specs.declared.tree.Json.TheOpen.{Json-F}
 use Rattle.fed_json.specs.declared.tree.Member.{Member}
@@ -29,6 +30,14 @@ as_text tree = text_in (out-Json tree)
 abbrev pub as_int : Json → Option ℤ
 as_int tree = int_in (out-Json tree)
 
+-- a whole number from 0 on and below the limit (RFC 8259 section 6)
+abbrev pub if_below : ℕ → Option ℤ → Option ℕ
+if_below limit (Some (pos n)) = if nat_lt n limit then Some n else None
+if_below limit _ = None
+
+abbrev pub count_below : ℕ → Json → Option ℕ
+count_below limit tree = if_below limit (as_int tree)
+
 -- the items of a list (RFC 8259 section 5)
 abbrev pub as_list : Json → Option (List Json)
 as_list tree = list_in (out-Json tree)
@@ -41,3 +50,32 @@ as_object tree = object_in (out-Json tree)
 abbrev pub find : List ℕ → List Member → Option Json
 find name [] = None
 find name (m ∷ ms) = if bytes_eq m.name name then Some m.value else find name ms
+
+-- the text under a name (RFC 8259 sections 4 and 7)
+abbrev pub text_at : List ℕ → List Member → Option (List ℕ)
+text_at name members = option_and_then as_text (find name members)
+
+-- the members of an object; any other tree has none (RFC 8259 section 4)
+abbrev pub object_members : Json → List Member
+object_members tree = unwrap_or (as_object tree) []
+
+-- the name of a member (RFC 8259 section 4)
+abbrev pub member_name : Member → List ℕ
+member_name m = m.name
+
+-- what may be absent, in its form where it is there
+abbrev pub optional : {X : Type 0} → (Json → Option X) → Option Json → Option (Option X)
+optional form None = Some None
+optional form (Some tree) = option_map Some (form tree)
+
+-- what the parts of a list are, where each part has the form (RFC 8259 section 5)
+abbrev pub each : {A X : Type 0} → (A → Option X) → List A → Option (List X)
+each form [] = Some []
+each form (part ∷ parts) = option_and_then (λ x. option_map (λ xs. x ∷ xs) (each form parts)) (form part)
+
+-- the texts of a list that has no other items (RFC 8259 sections 5 and 7)
+abbrev pub texts_in : List Json → Option (List (List ℕ))
+texts_in items = each as_text items
+
+abbrev pub texts_of : Json → Option (List (List ℕ))
+texts_of tree = option_and_then texts_in (as_list tree)

@@ -1,3 +1,5 @@
+// Copies of trees.
+
 ghost use Rattle.std.specs.Prelude.{◌≡◌, IfOk};
 
 use crate::tree::{Json, Member};

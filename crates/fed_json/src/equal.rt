@@ -1,3 +1,5 @@
+// Equality of trees.
+
 ghost use Rattle.std.specs.Prelude.{◌≡◌, ◌↔◌, List, ℕ, IsTrue};
 ghost use Rattle.fed_json.specs.declared.tree.Json.{Object};
 ghost use Rattle.fed_json.specs.declared.tree.Member.{Member as Entry};

@@ -1,3 +1,5 @@
+// Why a text gives no tree.
+
 use thiserror::Error;
 
 /// Why a text gives no tree.

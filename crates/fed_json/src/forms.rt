@@ -1,3 +1,5 @@
+// Which trees have a text.
+
 ghost use Rattle.std.specs.Prelude.{◌≡◌, ◌↔◌, ◌&&◌, IsTrue, map};
 ghost use Rattle.std.specs.Str.{is_utf8 as is_text};
 ghost use Rattle.std.specs.List.{list_all};

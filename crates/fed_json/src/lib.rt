@@ -21,7 +21,7 @@ mod write;
 pub use equal::json_equal;
 pub use fault::TreeFault;
 pub use forms::is_whole;
-pub use lookup::find;
+pub use lookup::{copied_texts, count_below, find, object_members, text_at};
 pub use members::text_member;
 pub use read::read_tree;
 pub use sets::{includes, intersect, union};

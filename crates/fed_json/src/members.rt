@@ -1,3 +1,5 @@
+// Members of one form.
+
 ghost use Rattle.std.specs.Prelude.{◌≡◌, IfOk};
 ghost use Rattle.fed_json.specs.Members.{text_member};
 

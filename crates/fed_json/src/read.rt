@@ -1,3 +1,5 @@
+// Trees from texts.
+
 ghost use Rattle.std.specs.Prelude.{◌≡◌, ◌≤◌, ◌↔◌, IfOk, IsTrue};
 ghost use Rattle.std.specs.List.{list_all};
 ghost use Rattle.fed_json.specs.Forms.{IsWellFormed, IsWhole, HasOdd, nesting, well_formed, members_well_formed};

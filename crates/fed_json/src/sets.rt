@@ -1,3 +1,5 @@
+// Lists as sets.
+
 ghost use Rattle.std.specs.Prelude.{◌≡◌, ◌≢◌, ◌↔◌, ◌⊎◌, ◌++◌, ◌∷◌, [], List, IfOk, OnOk, IsTrue, All, AllPairs, Contains};
 ghost use Rattle.fed_json.specs.declared.tree.Json.{Json as Tree};
 ghost use Rattle.fed_json.specs.Forms.{IsWellFormed};

@@ -1,3 +1,5 @@
+// The values of JSON.
+
 use fed_ports::{Seq, Text};
 
 /// A JSON value (RFC 8259 section 3).

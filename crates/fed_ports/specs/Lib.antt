@@ -1,5 +1,7 @@
+pub mod Answers
 pub mod Bytes
 pub mod Causes
+pub mod Inputs
 pub mod Ledgers
 pub mod MemoryClocks
 pub mod MemoryStores

@@ -1,11 +1,12 @@
 -- The readings of a clock of given moments.
-use Rattle.std.specs.Prelude.{◌^◌, ◌-◌, ℕ, zero, suc, List, [], ◌∷◌, ◌++◌, length, slice_index, Option, Some, None, cond, nat_lt, min}
+use Rattle.std.specs.Prelude.{◌-◌, ℕ, zero, suc, List, [], ◌∷◌, ◌++◌, length, slice_index, Option, Some, None, cond, nat_lt, min}
 use Rattle.fed_ports.specs.Causes.{last_count}
+use Rattle.fed_ports.specs.Times.{moment_limit}
 use Rattle.fed_ports.specs.declared.memory_clock.MemoryClock.{MemoryClock}
 
--- a moment below 2^62, or 0
+-- a moment below the limit, or 0
 abbrev pub if_small : ℕ → ℕ
-if_small moment = cond (nat_lt moment (2 ^ 62)) moment 0
+if_small moment = cond (nat_lt moment moment_limit) moment 0
 
 -- the moment of the reading of that number: past the last one the last again, and 0 where there is none
 abbrev pub moment_at : List ℕ → ℕ → ℕ
@@ -27,3 +28,7 @@ clock_moments clock = clock.moments.items
 -- how many readings there were
 abbrev pub clock_readings : MemoryClock → ℕ
 clock_readings clock = clock.readings
+
+-- the last reading
+abbrev pub clock_last : MemoryClock → ℕ
+clock_last clock = clock.last

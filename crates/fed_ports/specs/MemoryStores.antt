@@ -1,5 +1,5 @@
 -- What a store in memory holds.
-use Rattle.std.specs.Prelude.{ℕ, List, [], ◌∷◌, Option, Some, None, if◌then◌else◌, bytes_eq}
+use Rattle.std.specs.Prelude.{ℕ, List, Bool, [], ◌∷◌, Option, Some, None, if◌then◌else◌, bytes_eq}
 use Rattle.fed_ports.specs.Plans.{Plan, plan_of}
 use Rattle.fed_ports.specs.Stores.{Files}
 use Rattle.fed_ports.specs.declared.memory_store.MemoryStore.{MemoryStore}
@@ -26,3 +26,11 @@ store_plan store = plan_of store.plan
 -- how often a call has failed
 abbrev pub store_faults : MemoryStore → ℕ
 store_faults store = store.faults
+
+-- how many bytes can still be kept
+abbrev pub store_room : MemoryStore → ℕ
+store_room store = store.room
+
+-- a call that is to fail leaves the new file
+abbrev pub store_leaves_new : MemoryStore → Bool
+store_leaves_new store = store.leaves_new

@@ -24,8 +24,10 @@ sink_held sink = sink.bytes.items
 abbrev pub sink_room : MemorySink → ℕ
 sink_room sink = sink.room
 
+-- the calls that are to fail
 abbrev pub sink_plan : MemorySink → Plan
 sink_plan sink = plan_of sink.plan
 
+-- how often a call has failed
 abbrev pub sink_faults : MemorySink → ℕ
 sink_faults sink = sink.faults

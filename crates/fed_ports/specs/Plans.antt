@@ -9,6 +9,7 @@ pub record Plan : Type 0 where
   pub room : ℕ
   pub made : ℕ
 
+-- the plan that an object in memory keeps
 abbrev pub plan_of : CallPlan → Plan
 plan_of plan = record { failing = plan.failing.items; room = plan.room; made = plan.made }
 

@@ -8,7 +8,7 @@ use Rattle.fed_ports.specs.declared.store.StoreFault.TheVariants.{Failed, TooLon
 abbrev pub Files : Type 0
 Files = List ℕ → Option (List ℕ)
 
--- the most bytes that a file may have
+-- the most bytes that a file or an input may have
 abbrev pub file_limit : ℕ
 file_limit = 4194304
 
@@ -23,13 +23,6 @@ Loads files name (Ok file) = IsFile files name file × IfSome file (λ bytes. le
 Loads files name (Err TooLong) = (bytes : List ℕ) × IsFile files name (Some bytes) × (file_limit < length bytes)
 Loads files name (Err Failed) = Unit {0}
 Loads files name (Err Memory) = Unit {0}
-
--- what a reading of a whole file gives: bytes within the limit, or more than may be
-abbrev pub IsWhole : Result (List ℕ) StoreFault → Type 0
-IsWhole (Ok bytes) = length bytes ≤ file_limit
-IsWhole (Err TooLong) = (bytes : List ℕ) × (file_limit < length bytes)
-IsWhole (Err Failed) = Unit {0}
-IsWhole (Err Memory) = Unit {0}
 
 -- the whole file is the new one, or after a failure maybe still the old one, and every other file is as before
 pub record IsKept {E : Type 0} (old new : Files) (name bytes : List ℕ) (result : Result Unit E) : Type 0 where

@@ -1,7 +1,13 @@
--- What a clock has told.
-use Rattle.std.specs.Prelude.{◌≡◌, ℕ, List, [], ◌∷◌, ◌++◌, Option, Some, None}
+-- Moments, and what a clock has told.
+use Rattle.std.specs.Prelude.{◌≡◌, ◌⊎◌, ◌^◌, ℕ, List, [], ◌∷◌, ◌++◌, Option, Some, None}
+use Rattle.fed_ports.specs.Causes.{next_count, last_count}
 
--- where the readings are told, they are those from before and the new one
-abbrev pub Told : Option (List ℕ) → Option (List ℕ) → ℕ → Type 0
-Told old None moment = Unit {0}
-Told old (Some after) moment = (before : List ℕ) × (old ≡ Some before) × (after ≡ before ++ moment ∷ [])
+-- what every moment is below, in whole seconds since 1970
+abbrev pub moment_limit : ℕ
+moment_limit = 2 ^ 62
+
+-- where the readings are told, they are those from before and the new one; a clock that told them stops only where their
+-- count, from `before` on, comes to its last value
+abbrev pub Told : ℕ → Option (List ℕ) → Option (List ℕ) → ℕ → Type 0
+Told before old None moment = (old ≡ None) ⊎ (next_count before ≡ last_count)
+Told before old (Some after) moment = (earlier : List ℕ) × (old ≡ Some earlier) × (after ≡ earlier ++ moment ∷ [])

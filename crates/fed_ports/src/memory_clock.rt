@@ -1,9 +1,10 @@
 // A clock of given moments, which tells its readings.
 
-ghost use Rattle.std.specs.Prelude.{◌≡◌, ◌<◌, ◌^◌, IfOk};
+ghost use Rattle.std.specs.Prelude.{◌≡◌, ◌<◌, IfOk};
 ghost use Rattle.fed_ports.specs.MemoryClocks.{told_of, moment_at};
+ghost use Rattle.fed_ports.specs.Times.{moment_limit};
 
-use crate::clock::Clock;
+use crate::clock::{Clock, MOMENT_LIMIT};
 use crate::faults::Memory;
 use std::alloc::Global;
 
@@ -35,7 +36,7 @@ impl MemoryClock {
 /// The moment of the reading of that number.
 fn moment(moments: &[u64], reading: u64) -> u64
     ensures value { result ≡ moment_at moments.now reading }
-    ensures small { result < 2 ^ 62 }
+    ensures small { result < moment_limit }
 {
     if moments.is_empty() {
         return 0;
@@ -46,12 +47,12 @@ fn moment(moments: &[u64], reading: u64) -> u64
     } else {
         moments[last]
     };
-    if moment < 1 << 62 { moment } else { 0 }
+    if moment < MOMENT_LIMIT { moment } else { 0 }
 }
 
 impl Clock for MemoryClock {
     ghost use Rattle.fed_ports.specs.Causes.{next_count};
-    ghost use Rattle.fed_ports.specs.MemoryClocks.{moment_at, clock_moments, clock_readings};
+    ghost use Rattle.fed_ports.specs.MemoryClocks.{moment_at, clock_moments, clock_readings, clock_last};
     ghost use Rattle.fed_ports.specs.Times.{Told};
 
     ghost readings = { λ clock. clock.readings };
@@ -60,14 +61,25 @@ impl Clock for MemoryClock {
 
     ghost told = { λ clock. told_of clock.moments.items clock.readings };
 
-    fn now(&mut self) -> u64 {
+    fn now(&mut self) -> u64
+        ensures small { result < moment_limit }
+        ensures counted { clock_readings self.new ≡ next_count (clock_readings self.old) }
+        ensures last { clock_last self.new ≡ result }
+        ensures told { Told (clock_readings self.old) (told_of (clock_moments self.old) (clock_readings self.old))
+            (told_of (clock_moments self.new) (clock_readings self.new)) result }
+        ensures moment { result ≡ moment_at (clock_moments self.old) (clock_readings self.old) }
+        ensures moments { clock_moments self.new ≡ clock_moments self.old }
+    {
         let moment = moment(&self.moments, self.readings);
         self.last = moment;
         self.readings = self.readings.saturating_add(1);
         moment
     }
 
-    fn another(&self, alloc: Global) -> Result<Self, Memory> {
+    fn another(&self, alloc: Global) -> Result<Self, Memory>
+        ensures readings { IfOk result (λ clock. clock_readings clock ≡ 0) }
+        ensures moments { IfOk result (λ clock. clock_moments clock ≡ clock_moments self.now) }
+    {
         MemoryClock::new(alloc, self.moments.as_slice())
     }
 }

@@ -1,6 +1,6 @@
 // A store in memory, which tells its files.
 
-ghost use Rattle.std.specs.Prelude.{◌≡◌, ◌↔◌, Some, Err, IfOk, OnErr, IsErr};
+ghost use Rattle.std.specs.Prelude.{◌≡◌, ◌↔◌, ◌+◌, ◌<◌, ◌≤◌, false, length, Some, Err, IfOk, OnOk, OnErr, IsErr};
 ghost use Rattle.std.specs.Option.{option_copied};
 ghost use Rattle.fed_ports.specs.Causes.{HasCause};
 ghost use Rattle.fed_ports.specs.Plans.{after_call, IsDue};
@@ -66,7 +66,7 @@ fn put(alloc: Global, files: &mut Seq<NamedFile>, name: &Text, bytes: &[u8]) -> 
 }
 
 impl MemoryStore {
-    ghost use Rattle.fed_ports.specs.MemoryStores.{file_of, store_files, store_plan, store_faults};
+    ghost use Rattle.fed_ports.specs.MemoryStores.{file_of, store_files, store_plan, store_faults, store_room, store_leaves_new};
 
     /// A store of these files, in which as many bytes can be kept as `room` says. The calls whose numbers are listed fail, the first
     /// having the number 0, and so does every call from the number `calls` on. A `keep` that fails as planned leaves the new file where
@@ -82,6 +82,8 @@ impl MemoryStore {
         ensures files { IfOk result (λ store. store_files store ≡ file_of files) }
         ensures plan { IfOk result (λ store. store_plan store ≡ record { failing = failing.now; room = calls; made = 0 }) }
         ensures faults { IfOk result (λ store. store_faults store ≡ 0) }
+        ensures room { IfOk result (λ store. store_room store ≡ room) }
+        ensures leaves_new { IfOk result (λ store. store_leaves_new store ≡ leaves_new) }
     {
         let plan = CallPlan::new(alloc, failing, calls)?;
         Ok(MemoryStore {
@@ -103,7 +105,7 @@ impl MemoryStore {
 }
 
 impl Store for MemoryStore {
-    ghost use Rattle.fed_ports.specs.MemoryStores.{file_of, store_files, store_plan, store_faults};
+    ghost use Rattle.fed_ports.specs.MemoryStores.{file_of, store_files, store_plan, store_faults, store_room, store_leaves_new};
 
     ghost files = { λ store. Some (file_of store.files) };
 
@@ -116,6 +118,8 @@ impl Store for MemoryStore {
         // It fails exactly where the call is to fail.
         ensures planned { (result ≡ Err StoreFault.Failed) ↔ IsDue (store_plan self.old) }
         ensures counted { store_plan self.new ≡ after_call (store_plan self.old) }
+        ensures room { store_room self.new ≡ store_room self.old }
+        ensures leaves_new { store_leaves_new self.new ≡ store_leaves_new self.old }
     {
         if self.plan.next_fails() {
             self.faults = self.faults.saturating_add(1);
@@ -134,6 +138,13 @@ impl Store for MemoryStore {
         // It fails where the call is to fail, and where there is no room or no memory.
         ensures planned { IsDue (store_plan self.old) → IsErr result }
         ensures counted { store_plan self.new ≡ after_call (store_plan self.old) }
+        // Where it is to fail and doesn't leave the new file, or where there is no room, all files stay.
+        ensures stays { IsDue (store_plan self.old) → store_leaves_new self.old ≡ false
+            → store_files self.new ≡ store_files self.old }
+        ensures full { store_room self.old < length bytes.now → store_files self.new ≡ store_files self.old }
+        ensures room { OnOk result (store_room self.new + length bytes.now ≡ store_room self.old) }
+        ensures less { store_room self.new ≤ store_room self.old }
+        ensures leaves_new { store_leaves_new self.new ≡ store_leaves_new self.old }
     {
         let fails = self.plan.next_fails();
         if bytes.len() > self.room || (fails && !self.leaves_new) {

@@ -1,8 +1,9 @@
 // The system's clock. It tells no readings.
 
-ghost use Rattle.std.specs.Prelude.{◌≡◌, ◌<◌, ◌^◌, None};
+ghost use Rattle.std.specs.Prelude.{◌≡◌, ◌<◌, None};
+ghost use Rattle.fed_ports.specs.Times.{moment_limit};
 
-use crate::clock::Clock;
+use crate::clock::{Clock, MOMENT_LIMIT};
 use crate::faults::Memory;
 use std::alloc::Global;
 use std::time::{Clock as SystemClock, SystemTime, UNIX_EPOCH};
@@ -13,7 +14,7 @@ pub struct RealClock<'a, R: SystemClock> {
     rt: &'a R,
     readings: u64,
     last: u64,
-    ghost small: { last < 2 ^ 62 },
+    ghost small: { last < moment_limit },
 }
 
 impl<'a, R: SystemClock + Sync> RealClock<'a, R> {
@@ -45,7 +46,7 @@ impl<'a, R: SystemClock + Sync> Clock for RealClock<'a, R> {
 
     fn now(&mut self) -> u64 {
         match moment(self.rt) {
-            Some(moment) if moment < 1 << 62 => self.last = moment,
+            Some(moment) if moment < MOMENT_LIMIT => self.last = moment,
             _ => {}
         }
         self.readings = self.readings.saturating_add(1);

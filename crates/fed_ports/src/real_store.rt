@@ -1,15 +1,17 @@
 // The files of the system. It tells none of them.
 
 ghost use Rattle.std.specs.Prelude.{◌≡◌, None};
-ghost use Rattle.fed_ports.specs.Stores.{Loads, IsWhole};
+ghost use Rattle.fed_ports.specs.Stores.{Loads};
 
 use crate::duplicate::Duplicate;
 use crate::faults::Failed;
-use crate::store::{FILE_LIMIT, Store, StoreFault};
+use crate::input::{ReadEnd, read_all};
+use crate::real::RealSource;
+use crate::store::{Store, StoreFault};
 use crate::text::Text;
 use std::alloc::Global;
 use std::fs::{OpenFile, OpenOptions};
-use std::io::{ErrorKind, Read, Write};
+use std::io::{ErrorKind, Write};
 use std::os::unix::fs::OpenOptionsExt;
 use std::rt::Files;
 use std::{fs, io, str};
@@ -38,34 +40,18 @@ fn load_file<R: Files>(rt: &R, alloc: Global, name: &Text) -> Result<Option<Text
         return Err(StoreFault::Failed);
     };
     match fs::open(rt, path) {
-        Ok(mut file) => Ok(Some(read_whole(alloc, &mut file)?)),
+        Ok(file) => match read_all(alloc, &mut RealSource::new(file)) {
+            Ok(bytes) => Ok(Some(bytes)),
+            Err(ReadEnd::TooLong) => Err(StoreFault::TooLong),
+            Err(ReadEnd::Memory) => Err(StoreFault::Memory),
+            Err(ReadEnd::Failed) => Err(StoreFault::Failed),
+        },
         Err(error) => match error.kind() {
             ErrorKind::NotFound | ErrorKind::NotADirectory => Ok(None),
             ErrorKind::OutOfMemory => Err(StoreFault::Memory),
             _ => Err(StoreFault::Failed),
         },
     }
-}
-
-/// All bytes of a file, read to its end.
-fn read_whole<F: Read>(alloc: Global, file: &mut F) -> Result<Text, StoreFault>
-    ensures { IsWhole result }
-{
-    let mut bytes = Text::new(alloc);
-    let mut piece = [0u8; 8192];
-    for _ in 0..u64::MAX {
-        if bytes.len() > FILE_LIMIT {
-            return Err(StoreFault::TooLong);
-        }
-        let Ok(n) = file.read(&mut piece) else {
-            return Err(StoreFault::Failed);
-        };
-        if n == 0 {
-            return Ok(bytes);
-        }
-        bytes.append(&piece[..n])?;
-    }
-    Err(StoreFault::Failed)
 }
 
 /// How many names for the new file are tried, where files of these names are there already.

@@ -9,7 +9,7 @@ use crate::text::Text;
 use std::alloc::Global;
 use thiserror::Error;
 
-/// The most bytes that a file may have.
+/// The most bytes that a file or an input may have.
 pub const FILE_LIMIT: usize = 4_194_304;
 
 /// Why a file wasn't loaded.

@@ -1,30 +1,18 @@
 -- Members of an object, and what is found among them.
 use Rattle.std.proofs.Common.{◌≡◌, ◌≢◌, ℕ, List, [], ◌∷◌, length, Bool, true, false, ◌&&◌, nat_lt, Option, Some, None, is_some, Bor, refl, sym, ap, ◌∙◌, subst, arith}
 use Rattle.std.specs.List.{list_all}
-use Rattle.std.specs.Option.{option_and_then, option_copied}
-use Rattle.std.specs.Str.{is_utf8}
+use Rattle.std.specs.Option.{option_copied}
+use Rattle.std.specs.Str.{IsUtf8, is_utf8}
 use Rattle.std.proofs.lemmas.Str.{is_utf8-from_IsUtf8}
 use Rattle.std.proofs.lemmas.Bool.{lt-ltb}
-use Rattle.fed_json.specs.declared.tree.Json.{Json, List as ListOf, Object, Text}
+use Rattle.fed_json.specs.declared.tree.Json.{Json, List as ListOf, Object}
 use Rattle.fed_json.specs.declared.tree.Member.{Member}
-use Rattle.fed_json.specs.Forms.{well_formed, members_well_formed, whole}
-use Rattle.fed_json.specs.Trees.{as_text, as_object, find}
+use Rattle.fed_json.specs.Forms.{well_formed, whole}
+use Rattle.fed_json.specs.Trees.{as_object, find, text_at}
 use Rattle.fed_json.proofs.Booleans.{left_true, right_true, both_true}
 use Rattle.fed_json.proofs.Layers.{well_formed-List, well_formed-Object}
-use Rattle.fed_json.proofs.Accessors.{Text-as_text, as_object-Object, well_formed-find, IsUtf8-find}
-use Rattle.jwk_set.specs.Keys.{text_at, is_own, is_foreign}
-
--- ---- what is found in a tree of the form that every tree has
-
-text_found : (o : Option Json) (t : List ℕ) → option_and_then as_text o ≡ Some t → o ≡ Some (Text t)
-text_found None t e = cc e
-text_found (Some v) t e = ap Some (Text-as_text v t e)
-
-pub text_at-found : (name : List ℕ) (ms : List Member) (t : List ℕ) → text_at name ms ≡ Some t → find name ms ≡ Some (Text t)
-text_at-found name ms t e = text_found (find name ms) t e
-
-pub text_is_utf8 : (name : List ℕ) (ms : List Member) (t : List ℕ) → members_well_formed ms ≡ true → Some t ≡ text_at name ms → is_utf8 t ≡ true
-text_is_utf8 name ms t formed e = is_utf8-from_IsUtf8 t (IsUtf8-find name ms t (text_at-found name ms t (sym e)) formed)
+use Rattle.fed_json.proofs.Accessors.{as_object-Object, well_formed-find}
+use Rattle.jwk_set.specs.Keys.{is_own, is_foreign}
 
 -- ---- the two forms of a key
 
@@ -33,11 +21,10 @@ not_empty [] some = absurd (some refl)
 not_empty (x ∷ t) some = lt-ltb 0 (length (x ∷ t)) (omega arith)
 
 -- a name that isn't empty, and that a tree gave
-pub own_formed : (ms : List Member) (kid copy : List ℕ) (empty : Bool) → members_well_formed ms ≡ true → Some kid ≡ text_at (107 ∷ 105 ∷ 100 ∷ []) ms
-    → empty ≡ false → (kid ≡ [] → empty ≡ true) → copy ≡ kid → (nat_lt 0 (length copy) && is_utf8 copy) ≡ true
-own_formed ms kid copy empty formed is not_empty_said empty_if same =
+pub own_formed : (kid copy : List ℕ) (empty : Bool) → IsUtf8 kid → empty ≡ false → (kid ≡ [] → empty ≡ true) → copy ≡ kid → (nat_lt 0 (length copy) && is_utf8 copy) ≡ true
+own_formed kid copy empty utf8 not_empty_said empty_if same =
     let some : kid ≢ [] = λ e. let bad = sym not_empty_said ∙ empty_if e in cc bad in
-    subst (λ k. (nat_lt 0 (length k) && is_utf8 k) ≡ true) (sym same) (both_true (not_empty kid some) (text_is_utf8 _ ms kid formed is))
+    subst (λ k. (nat_lt 0 (length k) && is_utf8 k) ≡ true) (sym same) (both_true (not_empty kid some) (is_utf8-from_IsUtf8 kid utf8))
 
 pub was_some : (o : Option (Bor (List ℕ))) (p : Option (List ℕ)) → option_copied o ≡ p → is_some o ≡ true → is_some p ≡ true
 was_some None p e some = cc some

@@ -1,6 +1,7 @@
 -- A tree gives exactly the keys that it is a set of.
-use Rattle.std.proofs.Common.{◌≡◌, ◌<◌, ◌≤◌, ℕ, ◌+◌, List, [], ◌∷◌, ◌++◌, length, map, drop, Bool, true, false, not, cond, get_or, drop-cons, drop_of_length-le, add-one, length-append, IfSome, Option, Some, None, Ok, Err, refl, sym, ap, ap₂, ◌∙◌, subst, append_assoc, append-nil, arith}
+use Rattle.std.proofs.Common.{◌≡◌, ◌<◌, ◌≤◌, ℕ, ◌+◌, List, [], ◌∷◌, ◌++◌, length, map, drop, Bool, true, false, not, cond, get_or, drop-cons, drop_of_length-le, add-one, length-append, IfSome, Option, Some, None, ok_or, Ok, Err, refl, sym, ap, ap₂, ◌∙◌, subst, append_assoc, append-nil, arith}
 use Rattle.fed_json.specs.declared.tree.Json.{Json}
+use Rattle.fed_ports.specs.Answers.{◌>>=◌}
 use Rattle.fed_json.proofs.Booleans.{left_true, right_true, both_true}
 use Rattle.jwk_set.specs.declared.jwk.Jwk.{Jwk}
 use Rattle.jwk_set.specs.declared.fault.SetFault.TheVariants.{NotSet, Shape, DoubleKid}
@@ -8,7 +9,7 @@ use Rattle.std.specs.List.{list_all}
 use Rattle.std.proofs.lemmas.List.Folds.{list_all-append}
 use Rattle.jwk_set.specs.Keys.{key_in, is_key}
 use Rattle.jwk_set.proofs.Names.{are_distinct-snoc}
-use Rattle.jwk_set.specs.KeySets.{repeats_kid, distinct_after, are_distinct, listed_in, IsKeySet, ◌>>=◌, or_fault, keys_after, reading}
+use Rattle.jwk_set.specs.KeySets.{repeats_kid, distinct_after, are_distinct, listed_in, IsKeySet, keys_after, reading}
 
 -- ---- the keys of a set are answered
 
@@ -32,7 +33,7 @@ keys_after-is earlier (k ∷ keys) (m ∷ members) each distinct =
 
 pub only : (tree : Json) (keys : List Jwk) → IsKeySet tree keys → reading tree ≡ Ok keys
 unfolding reading are_distinct
-only tree keys is = ap (λ o. or_fault NotSet o >>= keys_after []) is.listed ∙ keys_after-is [] keys is.members is.each is.distinct
+only tree keys is = ap (λ o. ok_or o NotSet >>= keys_after []) is.listed ∙ keys_after-is [] keys is.members is.each is.distinct
 
 -- ---- what is answered are the keys of a set
 
@@ -58,7 +59,7 @@ follows_key earlier all key m members false is read rest e =
 
 follows_member : (earlier all : List Jwk) (m : Json) (members : List Json) (o : Option Jwk) → key_in m ≡ o
     → ((key : Jwk) → keys_after (earlier ++ key ∷ []) members ≡ Ok all → Follows (earlier ++ key ∷ []) all members)
-    → (or_fault (Shape (length earlier)) o >>= (λ key. cond (repeats_kid earlier key) (Err (DoubleKid (length earlier))) (keys_after (earlier ++ key ∷ []) members))) ≡ Ok all
+    → (ok_or o (Shape (length earlier)) >>= (λ key. cond (repeats_kid earlier key) (Err (DoubleKid (length earlier))) (keys_after (earlier ++ key ∷ []) members))) ≡ Ok all
     → Follows earlier all (m ∷ members)
 follows_member earlier all m members None read rest e = cc e
 follows_member earlier all m members (Some key) read rest e = follows_key earlier all key m members (repeats_kid earlier key) refl read (rest key) e
@@ -68,7 +69,7 @@ unfolding keys_after
 follows earlier all [] e = record { keys = []; joined = sym (cc e) ∙ sym (append-nil earlier); each = refl; distinct = refl }
 follows earlier all (m ∷ members) e = follows_member earlier all m members (key_in m) refl (λ key. follows (earlier ++ key ∷ []) all members) e
 
-set_of : (tree : Json) (keys : List Jwk) (o : Option (List Json)) → listed_in tree ≡ o → (or_fault NotSet o >>= keys_after []) ≡ Ok keys → IsKeySet tree keys
+set_of : (tree : Json) (keys : List Jwk) (o : Option (List Json)) → listed_in tree ≡ o → (ok_or o NotSet >>= keys_after []) ≡ Ok keys → IsKeySet tree keys
 unfolding are_distinct
 set_of tree keys None listed e = cc e
 set_of tree keys (Some members) listed e =

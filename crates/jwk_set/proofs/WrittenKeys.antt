@@ -11,12 +11,13 @@ use Rattle.fed_json.specs.declared.tree.Json.{Json, Text, the_lemmas}
 use Rattle.fed_json.specs.declared.tree.Member.{Member}
 use Rattle.fed_ports.specs.declared.faults.Memory.{Memory}
 use Rattle.fed_json.specs.Forms.{has_odd, well_formed, whole, IsWhole}
-use Rattle.fed_json.specs.Trees.{as_object}
+use Rattle.fed_json.specs.Trees.{as_object, text_at}
+use Rattle.jws_form.specs.Header.{algorithm}
 use Rattle.fed_json.proofs.Booleans.{both_true, left_true, right_true}
 use Rattle.fed_json.proofs.Layers.{has_odd-Object, whole-Object, well_formed-Text}
 use Rattle.jwk_set.specs.declared.jwk.Jwk.{Jwk}
 use Rattle.jwk_set.specs.declared.jwk.Jwk.TheVariants.{Own, Foreign}
-use Rattle.jwk_set.specs.Keys.{key_type, algorithm, text_at, is_own, own_key, key_of, key_in, is_foreign, is_key}
+use Rattle.jwk_set.specs.Keys.{key_type, is_own, own_key, key_of, key_in, is_foreign, is_key}
 use Rattle.jwk_set.specs.Trees.{own_tree}
 use Rattle.fed_json.specs.Members.{text_member}
 use Rattle.fed_json.proofs.Accessors.{as_object-Object, as_text-Text}

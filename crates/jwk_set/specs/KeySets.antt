@@ -1,14 +1,15 @@
 -- A set of keys (RFC 7517 section 5), and the keys that a tree gives.
-use Rattle.std.specs.Prelude.{◌≡◌, ℕ, List, [], ◌∷◌, ◌++◌, length, map, codes, bytes_eq, Bool, true, false, ◌&&◌, not, nat_le, IsTrue, Option, Some, None, Result, Ok, Err, if◌then◌else◌}
+use Rattle.std.specs.Prelude.{◌≡◌, ℕ, List, [], ◌∷◌, ◌++◌, length, map, codes, bytes_eq, Bool, true, false, ◌&&◌, not, nat_le, IsTrue, Option, Some, None, ok_or, Result, Ok, Err, if◌then◌else◌}
 use Rattle.std.specs.Option.{option_and_then}
 use Rattle.std.specs.List.{list_any}
 use Rattle.fed_json.specs.declared.tree.Json.{Json}
-use Rattle.fed_json.specs.Trees.{as_object, as_list, find}
+use Rattle.fed_json.specs.Trees.{as_object, as_list, find, text_at}
+use Rattle.fed_ports.specs.Answers.{◌>>=◌}
 use Rattle.jwk_set.specs.declared.jwk.Jwk.{Jwk}
 use Rattle.jwk_set.specs.declared.jwk.Jwk.TheVariants.{Own, Foreign}
 use Rattle.jwk_set.specs.declared.fault.SetFault.{SetFault}
 use Rattle.jwk_set.specs.declared.fault.SetFault.TheVariants.{NotSet, Shape, DoubleKid, Memory}
-use Rattle.jwk_set.specs.Keys.{text_at, key_in}
+use Rattle.jwk_set.specs.Keys.{key_in}
 
 -- the name of a key, where it is a text (RFC 7517 section 4.5)
 abbrev pub kid_of : Jwk → Option (List ℕ)
@@ -30,7 +31,7 @@ abbrev pub distinct_after : List Jwk → List Jwk → Bool
 distinct_after earlier [] = true
 distinct_after earlier (key ∷ keys) = not (repeats_kid earlier key) && distinct_after (earlier ++ key ∷ []) keys
 
--- no two keys have one kid
+-- no two keys have one kid (RFC 7517 section 4.5)
 unfoldable pub are_distinct : List Jwk → Bool
 are_distinct keys = distinct_after [] keys
 
@@ -44,10 +45,11 @@ key_named kid (Foreign tree ∷ keys) = key_named kid keys
 abbrev pub max_keys : ℕ
 max_keys = 64
 
+-- the list, where it has at most so many members
 abbrev pub unless_many : List Json → Option (List Json)
 unless_many list = if nat_le (length list) max_keys then Some list else None
 
--- the list `keys` of an object
+-- the list `keys` of an object (RFC 7517 section 5.1)
 unfoldable pub listed_in : Json → Option (List Json)
 listed_in tree =
     option_and_then unless_many (option_and_then as_list (option_and_then (find (codes "keys")) (as_object tree)))
@@ -65,24 +67,14 @@ GivesBy view (Ok x) expected = expected ≡ Ok (view x)
 GivesBy view (Err Memory) expected = Unit {0}
 GivesBy view (Err fault) expected = expected ≡ Err fault
 
-infixl 10 ◌>>=◌
-abbrev pub ◌>>=◌ : {X Y : Type 0} → Result X SetFault → (X → Result Y SetFault) → Result Y SetFault
-(Ok x) >>= f = f x
-(Err fault) >>= f = Err fault
-
--- the value, or a fault where there is none
-abbrev pub or_fault : {X : Type 0} → SetFault → Option X → Result X SetFault
-or_fault fault None = Err fault
-or_fault fault (Some x) = Ok x
-
 -- the keys that the members are, after the earlier keys, or the fault of the first member that has one: its
 -- form is looked at first, then its kid
 unfoldable pub keys_after : List Jwk → List Json → Result (List Jwk) SetFault
 keys_after earlier [] = Ok earlier
 keys_after earlier (member ∷ members) = do
-  key ← or_fault (Shape (length earlier)) (key_in member)
+  key ← ok_or (key_in member) (Shape (length earlier))
   if repeats_kid earlier key then Err (DoubleKid (length earlier)) else keys_after (earlier ++ key ∷ []) members
 
 -- the keys that the tree is a set of, or its first fault
 unfoldable pub reading : Json → Result (List Jwk) SetFault
-reading tree = or_fault NotSet (listed_in tree) >>= keys_after []
+reading tree = ok_or (listed_in tree) NotSet >>= keys_after []

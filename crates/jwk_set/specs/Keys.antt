@@ -5,8 +5,9 @@ use Rattle.std.specs.Str.{is_utf8}
 use Rattle.base64url.specs.Base64url.{decoded_32}
 use Rattle.fed_json.specs.declared.tree.Json.{Json}
 use Rattle.fed_json.specs.declared.tree.Member.{Member}
-use Rattle.fed_json.specs.Trees.{as_object, as_text, find}
+use Rattle.fed_json.specs.Trees.{as_object, find, text_at}
 use Rattle.fed_json.specs.Forms.{has_odd, well_formed}
+use Rattle.jws_form.specs.Header.{algorithm}
 use Rattle.jwk_set.specs.declared.jwk.Jwk.{Jwk}
 use Rattle.jwk_set.specs.declared.jwk.Jwk.TheVariants.{Own, Foreign}
 
@@ -14,15 +15,7 @@ use Rattle.jwk_set.specs.declared.jwk.Jwk.TheVariants.{Own, Foreign}
 abbrev pub key_type : List ℕ
 key_type = codes "AKP"
 
--- the `alg` of this project's keys, the parameter set of FIPS 205 that they sign with
-abbrev pub algorithm : List ℕ
-algorithm = codes "SLH-DSA-SHA2-128s"
-
--- the text that the member of that name is
-abbrev pub text_at : List ℕ → List Member → Option (List ℕ)
-text_at name members = option_and_then as_text (find name members)
-
--- the member of that name is that text
+-- the member of that name is that text (RFC 7517 section 4)
 abbrev pub is_text_at : List ℕ → List ℕ → List Member → Bool
 is_text_at name text members = option_map_or (λ t. bytes_eq t text) (text_at name members) false
 
@@ -30,14 +23,15 @@ is_text_at name text members = option_map_or (λ t. bytes_eq t text) (text_at na
 unfoldable pub is_own : List Member → Bool
 is_own members = is_text_at (codes "kty") key_type members && is_text_at (codes "alg") algorithm members
 
--- the name of a key: a text that isn't empty (RFC 7517 section 4.5)
+-- the text, where it isn't empty
 abbrev pub unless_empty : List ℕ → Option (List ℕ)
 unless_empty text = if nat_lt 0 (length text) then Some text else None
 
+-- the name of a key: a text that isn't empty (RFC 7517 section 4.5)
 abbrev pub name_at : List Member → Option (List ℕ)
 name_at members = option_and_then unless_empty (text_at (codes "kid") members)
 
--- the public key: 32 bytes in base64url
+-- the public key: 32 bytes in base64url (FIPS 205 section 9.1)
 abbrev pub public_at : List Member → Option (List ℕ)
 public_at members = option_and_then decoded_32 (text_at (codes "pub") members)
 

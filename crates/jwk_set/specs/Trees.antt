@@ -6,7 +6,8 @@ use Rattle.fed_json.specs.Members.{text_member}
 use Rattle.fed_json.specs.Reading.{member_of}
 use Rattle.jwk_set.specs.declared.jwk.Jwk.{Jwk}
 use Rattle.jwk_set.specs.declared.jwk.Jwk.TheVariants.{Own, Foreign}
-use Rattle.jwk_set.specs.Keys.{key_type, algorithm}
+use Rattle.jws_form.specs.Header.{algorithm}
+use Rattle.jwk_set.specs.Keys.{key_type}
 
 -- an own key, with its members in byte order
 abbrev pub own_tree : List ℕ → List ℕ → Json

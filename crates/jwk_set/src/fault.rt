@@ -1,16 +1,24 @@
+// Why a tree is no key set.
+
+use thiserror::Error;
+
 /// Why a tree is no key set. A tree with several faults is refused for the first in this order: `NotSet`, then member
 /// by member, `Shape` before `DoubleKid`. Members are counted from 0.
-#[derive(Clone, Copy, Debug, PartialEq, Eq, Drop)]
+#[derive(Clone, Copy, Debug, PartialEq, Eq, Drop, Error)]
 pub enum SetFault {
     /// The tree isn't an object whose `keys` is a list of at most 64 members.
+    #[error("the value is not a set of at most 64 keys")]
     NotSet,
     /// The member at this place isn't an object, has no text `kty`, or holds a number that isn't kept; or it is of the
     /// type AKP and the algorithm SLH-DSA-SHA2-128s, and has no text `kid` or an empty one, no `pub` of 32 bytes in
     /// base64url, or a member `priv`.
+    #[error("member {0} of the set is not a key")]
     Shape(u64),
     /// The member at this place has the text `kid` of an earlier one.
+    #[error("member {0} of the set has the `kid` of an earlier one")]
     DoubleKid(u64),
     /// Memory was wanting.
+    #[error("out of memory")]
     Memory,
 }
 

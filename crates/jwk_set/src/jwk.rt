@@ -1,20 +1,21 @@
+// One key.
+
 ghost use Rattle.std.specs.Prelude.{◌≡◌, IfOk, IfSome, IsTrue, Some};
 ghost use Rattle.std.specs.Option.{option_copied};
 ghost use Rattle.std.specs.Str.{IsUtf8};
 ghost use Rattle.fed_json.specs.Forms.{IsWellFormed, IsWhole, members_well_formed};
 ghost use Rattle.jwk_set.specs.declared.jwk.Jwk.TheVariants.{Own};
-ghost use Rattle.jwk_set.specs.Keys.{text_at as text_of, is_text_at, is_own, own_key, key_of, key_in, is_key};
+ghost use Rattle.jwk_set.specs.Keys.{is_text_at, is_own, own_key, key_of, key_in, is_key};
 ghost use Rattle.jwk_set.specs.Trees.{key_tree, own_tree};
 
 use base64url::{decode_32, encode_32};
-use fed_json::{Json, Member, find, is_whole, text_member};
+use fed_json::{Json, Member, find, is_whole, text_at, text_member};
 use fed_ports::{Duplicate, Memory, Seq, Text};
+use jws_form::ALGORITHM;
 use std::alloc::Global;
 
-const KEY_TYPE: &[u8] = b"AKP";
-
-/// The `alg` of keys and texts that verify: the parameter set of FIPS 205.
-pub const ALGORITHM: &[u8] = b"SLH-DSA-SHA2-128s";
+/// The `kty` of this project's keys (RFC 7517 section 4.1).
+pub(crate) const KEY_TYPE: &[u8] = b"AKP";
 
 /// A public key (RFC 7517 section 4).
 #[derive(Drop)]
@@ -66,6 +67,7 @@ pub(crate) fn read_key(alloc: Global, tree: &Json) -> Result<Option<Jwk>, Memory
     }
 }
 
+/// The key of such members, which has a name, 32 bytes of public key and no private part.
 #[tactic(auto, unfolding(crate::specs::Keys::own_key))]
 fn read_own(alloc: Global, members: &[Member]) -> Result<Option<Jwk>, Memory>
     requires { IsTrue (members_well_formed members.now) }
@@ -88,6 +90,7 @@ fn read_own(alloc: Global, members: &[Member]) -> Result<Option<Jwk>, Memory>
     Ok(Some(Jwk::Own { kid, public }))
 }
 
+/// Whether the members are of this project's key type and algorithm (RFC 7517 sections 4.1 and 4.4).
 #[tactic(auto, unfolding(crate::specs::Keys::is_own))]
 fn is_own(members: &[Member]) -> bool
     ensures { result ≡ is_own members.now }
@@ -95,16 +98,7 @@ fn is_own(members: &[Member]) -> bool
     is_text_at(members, b"kty", KEY_TYPE) && is_text_at(members, b"alg", ALGORITHM)
 }
 
-/// The text that the member of that name is.
-pub fn text_at<'a>(members: &'a [Member], name: &[u8]) -> Option<&'a Text>
-    ensures { option_copied result ≡ text_of name.now members.now }
-{
-    match find(members, name) {
-        Some(Json::Text(text)) => Some(text),
-        _ => None,
-    }
-}
-
+/// Whether the member of that name is that text.
 fn is_text_at(members: &[Member], name: &[u8], text: &[u8]) -> bool
     ensures { result ≡ is_text_at name.now text.now members.now }
 {
@@ -128,6 +122,7 @@ pub fn write_key(alloc: Global, key: &Jwk) -> Result<Json, Memory>
     }
 }
 
+/// The tree of an own key, with its members in byte order.
 fn write_own(alloc: Global, kid: &Text, public: &[u8; 32]) -> Result<Json, Memory>
     requires { IsTrue (is_key (Own kid.now public.now)) }
     ensures tree { IfOk result (λ tree. tree ≡ own_tree kid.now public.now) }

@@ -1,3 +1,5 @@
+// The keys of a list, in their order.
+
 ghost use Rattle.std.specs.Prelude.{◌≡◌, ◌≤◌, [], IfOk, IfSome, IsTrue, length};
 ghost use Rattle.std.specs.Option.{option_copied};
 ghost use Rattle.std.specs.List.{list_all};
@@ -6,11 +8,12 @@ ghost use Rattle.jwk_set.specs.Keys.{is_key};
 ghost use Rattle.jwk_set.specs.KeySets.{GivesBy, are_distinct, keys_after, kid_of, listed_in, max_keys, repeats_kid};
 
 use crate::fault::SetFault;
-use crate::jwk::{Jwk, read_key, text_at};
-use fed_json::{Json, find};
+use crate::jwk::{Jwk, read_key};
+use fed_json::{Json, find, text_at};
 use fed_ports::{Seq, Text};
 use std::alloc::Global;
 
+/// How many keys a set has at most.
 const MAX_KEYS: usize = 64;
 
 /// The members of a set: the list `keys` of its object.

@@ -1,3 +1,5 @@
+// Sets of keys.
+
 ghost use Rattle.std.specs.Prelude.{◌≤◌, length, IsTrue};
 ghost use Rattle.std.specs.List.{list_all};
 ghost use Rattle.jwk_set.specs.Keys.{is_key};
@@ -61,8 +63,8 @@ impl JwkSet {
         None
     }
 
-    /// The set's tree: own keys with `alg`, `kid`, `kty` and `pub`, foreign keys as they were read. It reads as
-    /// this set.
+    /// The set's tree: own keys with `alg`, `kid`, `kty` and `pub`, foreign keys as they were read. It reads as this
+    /// set.
     pub fn write(&self, alloc: Global) -> Result<Json, Memory>
         ensures tree { IfOk result (λ tree. tree ≡ set_tree self.now.keys) }
         ensures whole { IfOk result IsWhole }

@@ -1,3 +1,5 @@
+// Key sets of other implementations, faults in their order, and a thumbprint.
+
 use super::*;
 use fed_json::{TreeFault, read_tree, write_tree};
 use fed_ports::{Duplicate, Text};

@@ -1,8 +1,12 @@
+// Thumbprints of keys.
+
 ghost use Rattle.std.specs.Prelude.{◌≡◌, IfOk};
 ghost use Rattle.jwk_set.specs.Thumbprints.{thumbprint_of};
 
+use crate::jwk::KEY_TYPE;
 use base64url::{encode, encode_32};
 use fed_ports::{Memory, Text};
+use jws_form::ALGORITHM;
 use sha2::{Digest, Sha256};
 use std::alloc::Global;
 
@@ -12,7 +16,11 @@ pub fn thumbprint(alloc: Global, public: &[u8; 32]) -> Result<Text, Memory>
     ensures { IfOk result (λ text. text ≡ thumbprint_of public.now) }
 {
     let mut hasher = Sha256::new();
-    hasher.update(b"{\"alg\":\"SLH-DSA-SHA2-128s\",\"kty\":\"AKP\",\"pub\":\"");
+    hasher.update(b"{\"alg\":\"");
+    hasher.update(ALGORITHM);
+    hasher.update(b"\",\"kty\":\"");
+    hasher.update(KEY_TYPE);
+    hasher.update(b"\",\"pub\":\"");
     hasher.update(encode_32(public).as_slice());
     hasher.update(b"\"}");
     encode(alloc, &hasher.finalize())

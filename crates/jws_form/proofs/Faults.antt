@@ -1,5 +1,5 @@
 -- Each fault that is told is there.
-use Rattle.std.proofs.Common.{◌≡◌, ◌≢◌, ◌<◌, ◌+◌, ℕ, Bool, true, false, cond, nat_lt, List, [], ◌∷◌, ◌++◌, length, count_by, slice_index_or, Option, Some, None, option_map, option_and_then, is_some, Result, Ok, Err, IfErr, codes, refl, sym, ap, ◌∙◌, subst, arith, true≢false}
+use Rattle.std.proofs.Common.{◌≡◌, ◌≢◌, ◌<◌, ◌+◌, ℕ, Bool, true, false, cond, nat_lt, List, [], ◌∷◌, ◌++◌, length, count_by, slice_index_or, Option, Some, None, option_map, option_and_then, is_some, ok_or, Result, Ok, Err, IfErr, codes, refl, sym, ap, ◌∙◌, subst, arith, true≢false}
 use Rattle.std.proofs.lemmas.Bool.Decides.{nat_tests}
 use Rattle.std.proofs.lemmas.List.Splits.{length-slice_split}
 use Rattle.base64.specs.GeneralPurpose.{IsBytes}
@@ -8,16 +8,17 @@ use Rattle.fed_json.specs.declared.tree.Member.{Member}
 use Rattle.fed_json.specs.Trees.{find, as_text, as_object}
 use Rattle.fed_json.specs.Reading.{reading}
 use Rattle.jws_form.specs.declared.compact.Compact.{Compact}
+use Rattle.fed_ports.specs.Answers.{◌>>=◌}
 use Rattle.jws_form.specs.declared.fault.FormFault.{FormFault}
 use Rattle.jws_form.specs.declared.fault.FormFault.TheVariants.{TooLong, Parts, Base64, Header, Crit, Algorithm, Memory}
 use Rattle.base64url.specs.Base64url.{base64url, decoded}
 use Rattle.jws_form.specs.Compact.{max_bytes, stop}
 use Rattle.jws_form.specs.Faults.{part, HasHeader, HasTexts, IsTextWhere, HasFault}
 use Rattle.jws_form.specs.Header.{algorithm}
-use Rattle.jws_form.specs.Splitting.{Gives, ◌>>=◌, or_fault, is_stop, parts_of, three_of, text_of, is_ours, names_of, names_in, bytes_of, compact_of, splitting}
+use Rattle.jws_form.specs.Splitting.{Gives, is_stop, parts_of, three_of, text_of, is_ours, names_of, names_in, bytes_of, compact_of, splitting}
 use Rattle.base64url.proofs.Canonical.{decoded-base64url, base64url-decoded}
 use Rattle.jws_form.proofs.Headers.{text_of-Text, was_read, read_bytes}
-use Rattle.jws_form.proofs.Laws.{or_fault_ok, three_of_some, part_bytes}
+use Rattle.jws_form.proofs.Laws.{ok_or_ok, three_of_some, part_bytes}
 use Rattle.jws_form.proofs.Stops.{joined_parts}
 use Rattle.fed_json.proofs.Accessors.{as_object-Object}
 
@@ -34,7 +35,7 @@ text_fault : (o : Option Json) (fault : FormFault) → text_of o ≡ Err fault �
 text_fault None fault e = cc e
 text_fault (Some value) fault e = at (as_text value) e
   where
-    at : (seen : Option (List ℕ)) → or_fault Header (option_map Some seen) ≡ Err fault → Header ≡ fault
+    at : (seen : Option (List ℕ)) → ok_or (option_map Some seen) Header ≡ Err fault → Header ≡ fault
     at None is = cc is
     at (Some s) is = cc is
 
@@ -97,7 +98,7 @@ members_refused x header members fault spelled is reads e =
     e
 
 object_refused : (x header : List ℕ) (o : Option (List Member)) (fault : FormFault) → part x 0 ≡ base64url header → decoded (part x 0) ≡ Some header
-    → option_and_then as_object (reading header) ≡ o → (or_fault Header o >>= names_of) ≡ Err fault → HasFault x fault
+    → option_and_then as_object (reading header) ≡ o → (ok_or o Header >>= names_of) ≡ Err fault → HasFault x fault
 object_refused x header None fault spelled is object e =
     let told : Header ≡ fault = cc e in
     subst (HasFault x) told (λ ms has are. let clash = sym object ∙ ap (λ r. option_and_then as_object r) (one_header x header ms is has) ∙ as_object-Object ms in cc clash)
@@ -128,14 +129,14 @@ part_refused : (x s : List ℕ) (number : ℕ) (fault : FormFault) → part x nu
 unfolding bytes_of
 part_refused x s number fault is e = at (decoded s) refl e
   where
-    at : (o : Option (List ℕ)) → decoded s ≡ o → or_fault (Base64 number) o ≡ Err fault → HasFault x fault
+    at : (o : Option (List ℕ)) → decoded s ≡ o → ok_or o (Base64 number) ≡ Err fault → HasFault x fault
     at (Some b) decodes told = cc told
     at None decodes told = let same : Base64 number ≡ fault = cc told in
         subst (HasFault x) same (λ bytes are spelled. let clash = sym decodes ∙ ap decoded (sym is ∙ spelled) ∙ decoded-base64url bytes are in cc clash)
 
 decoded_ok : (number : ℕ) (s b : List ℕ) → bytes_of number s ≡ Ok b → decoded s ≡ Some b
 unfolding bytes_of
-decoded_ok number s b e = or_fault_ok _ _ b e
+decoded_ok number s b e = ok_or_ok _ _ b e
 
 parts_refused : (x : List ℕ) (p : List ℕ × List ℕ × List ℕ) (fault : FormFault) → IsBytes x → parts_of x ≡ p.0 ∷ p.1 ∷ p.2 ∷ [] → compact_of x p ≡ Err fault → HasFault x fault
 unfolding compact_of
@@ -165,7 +166,7 @@ unfolding parts_of
 not_two x none = λ two. three_of_none (parts_of x) (length-slice_split is_stop x ∙ ap (λ n. n + 1) two) none
 
 text_refused : (x : List ℕ) (fault : FormFault) (long : Bool) (o : Option (List ℕ × List ℕ × List ℕ)) → IsBytes x → nat_lt max_bytes (length x) ≡ long → three_of (parts_of x) ≡ o
-    → cond long (Err TooLong) (or_fault Parts o >>= compact_of x) ≡ Err fault → HasFault x fault
+    → cond long (Err TooLong) (ok_or o Parts >>= compact_of x) ≡ Err fault → HasFault x fault
 text_refused x fault true o bytes long three e =
     let told : TooLong ≡ fault = cc e in
     let over : max_bytes < length x = grind (arith, nat_tests, long) in

@@ -1,5 +1,5 @@
 -- What a header's members give is what `IsHeader` says of them, and nothing else.
-use Rattle.std.proofs.Common.{◌≡◌, ℕ, Bool, true, false, cond, ◌&&◌, not, List, Option, Some, None, option_map, option_and_then, is_some, IfSome, Result, Ok, Err, codes, refl, sym, ap, ◌∙◌}
+use Rattle.std.proofs.Common.{◌≡◌, ℕ, Bool, true, false, cond, ◌&&◌, not, List, Option, Some, None, option_map, option_and_then, is_some, IfSome, ok_or, Result, Ok, Err, codes, refl, sym, ap, ◌∙◌}
 use Rattle.std.specs.Str.{IsUtf8, is_utf8}
 use Rattle.std.proofs.lemmas.Slice.Eq.{bytes_eq-Decides}
 use Rattle.std.proofs.lemmas.Str.{IsUtf8-from_is_utf8}
@@ -10,10 +10,11 @@ use Rattle.fed_json.specs.Trees.{find, as_text, as_object}
 use Rattle.fed_json.specs.Forms.{IsWhole, well_formed, has_odd, members_well_formed}
 use Rattle.fed_json.specs.Reading.{reading}
 use Rattle.fed_json.proofs.Layers.{well_formed-Object}
+use Rattle.fed_ports.specs.Answers.{◌>>=◌}
 use Rattle.jws_form.specs.declared.fault.FormFault.{FormFault}
 use Rattle.jws_form.specs.declared.fault.FormFault.TheVariants.{Header, Crit, Algorithm}
 use Rattle.jws_form.specs.Header.{algorithm, IsHeader, IsHeaderText}
-use Rattle.jws_form.specs.Splitting.{◌>>=◌, or_fault, text_of, is_ours, names_of, names_in}
+use Rattle.jws_form.specs.Splitting.{text_of, is_ours, names_of, names_in}
 use Rattle.jws_form.proofs.Bytes.{IsBytes-from_IsUtf8}
 use Rattle.fed_json.proofs.Accessors.{Text-as_text, as_text-Text, Object-as_object, as_object-Object, IsUtf8-find}
 
@@ -21,7 +22,7 @@ use Rattle.fed_json.proofs.Accessors.{Text-as_text, as_text-Text, Object-as_obje
 
 pub text_of-Text : (o : Option (List ℕ)) → text_of (option_map Text o) ≡ Ok o
 text_of-Text None = refl
-text_of-Text (Some s) = ap (λ t. or_fault Header (option_map Some t)) (as_text-Text s)
+text_of-Text (Some s) = ap (λ t. ok_or (option_map Some t) Header) (as_text-Text s)
 
 names_of-IsHeader : (tree : Json) (typ kid : Option (List ℕ)) (says : IsHeader tree typ kid) → names_of says.members ≡ Ok ((typ, kid))
 unfolding names_of
@@ -31,8 +32,8 @@ pub names_in-IsHeaderText : (bytes : List ℕ) (typ kid : Option (List ℕ)) →
 unfolding names_in
 names_in-IsHeaderText bytes typ kid is =
     let says = is.says in
-    ap (λ o. or_fault Header (option_and_then as_object o) >>= names_of) (is.reads ∙ ap Some says.object_is)
-    ∙ ap (λ o. or_fault Header o >>= names_of) (as_object-Object says.members)
+    ap (λ o. ok_or (option_and_then as_object o) Header >>= names_of) (is.reads ∙ ap Some says.object_is)
+    ∙ ap (λ o. ok_or o Header >>= names_of) (as_object-Object says.members)
     ∙ names_of-IsHeader is.tree typ kid says
 
 was_utf8 : (b : Bool) (o : Option Json) (tree : Json) → cond b o None ≡ Some tree → b ≡ true
@@ -49,7 +50,7 @@ header_bytes bytes typ kid is = read_bytes bytes _ is.reads
 
 -- ---- what is read is a header
 
-text_seen : (value : Json) (seen : Option (List ℕ)) (t : Option (List ℕ)) → as_text value ≡ seen → or_fault Header (option_map Some seen) ≡ Ok t → Some value ≡ option_map Text t
+text_seen : (value : Json) (seen : Option (List ℕ)) (t : Option (List ℕ)) → as_text value ≡ seen → ok_or (option_map Some seen) Header ≡ Ok t → Some value ≡ option_map Text t
 text_seen value None t is e = cc e
 text_seen value (Some s) t is e = let same : Some s ≡ t = cc e in ap Some (Text-as_text value s is) ∙ ap (option_map Text) same
 
@@ -102,7 +103,7 @@ names_of_ok members names e =
       kid_is = text_of_ok _ _ got.kid_ok;
     }
 
-object_seen : (o : Option (List Member)) (names : Option (List ℕ) × Option (List ℕ)) → (or_fault Header o >>= names_of) ≡ Ok names → (members : List Member) × (o ≡ Some members) × (names_of members ≡ Ok names)
+object_seen : (o : Option (List Member)) (names : Option (List ℕ) × Option (List ℕ)) → (ok_or o Header >>= names_of) ≡ Ok names → (members : List Member) × (o ≡ Some members) × (names_of members ≡ Ok names)
 object_seen None names e = cc e
 object_seen (Some members) names e = (members, refl, e)
 

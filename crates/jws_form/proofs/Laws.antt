@@ -1,5 +1,5 @@
 -- The parts that a text gives are those of which it is the compact text, and no others.
-use Rattle.std.proofs.Common.{◌≡◌, ◌≤◌, ℕ, suc, Bool, true, false, List, [], ◌∷◌, ◌++◌, length, Option, Some, None, cond, nat_lt, Result, Ok, Err, IfOk, refl, sym, ap, ap₂, ◌∙◌, subst, append_assoc, arith}
+use Rattle.std.proofs.Common.{◌≡◌, ◌≤◌, ℕ, suc, Bool, true, false, List, [], ◌∷◌, ◌++◌, length, Option, Some, None, cond, nat_lt, ok_or, Result, Ok, Err, IfOk, refl, sym, ap, ap₂, ◌∙◌, subst, append_assoc, arith}
 use Rattle.std.specs.List.{slice_split}
 use Rattle.std.proofs.lemmas.Bool.{le-ltb}
 use Rattle.std.proofs.lemmas.Bool.Decides.{nat_tests}
@@ -7,13 +7,14 @@ use Rattle.std.proofs.lemmas.List.Splits.{slice_split_none, slice_split_at}
 use Rattle.base64.specs.GeneralPurpose.{IsBytes}
 use Rattle.base64.proofs.EngineFacts.{front_bytes}
 use Rattle.jws_form.specs.declared.compact.Compact.{Compact}
+use Rattle.fed_ports.specs.Answers.{◌>>=◌}
 use Rattle.jws_form.specs.declared.fault.FormFault.{FormFault}
 use Rattle.jws_form.specs.declared.fault.FormFault.TheVariants.{TooLong, Parts, Base64}
 use Rattle.base64url.specs.Base64url.{base64url}
 use Rattle.fed_ports.specs.declared.faults.Memory.{Memory}
 use Rattle.jws_form.specs.Header.{IsHeaderText}
 use Rattle.jws_form.specs.Compact.{IsCompact, IsSigningInput, max_bytes, stop, signing_input_of, joined}
-use Rattle.jws_form.specs.Splitting.{Gives, HasForms, ◌>>=◌, or_fault, is_stop, parts_of, three_of, names_in, bytes_of, compact_of, splitting}
+use Rattle.jws_form.specs.Splitting.{Gives, HasForms, is_stop, parts_of, three_of, names_in, bytes_of, compact_of, splitting}
 use Rattle.base64url.proofs.Canonical.{decoded-base64url, base64url-decoded}
 use Rattle.jws_form.proofs.Alphabet.{no_stop}
 use Rattle.jws_form.proofs.Bytes.{IsBytes-back}
@@ -31,7 +32,7 @@ parts_of-joined a b c =
 
 bytes_of-base64url : (i : ℕ) (b : List ℕ) → IsBytes b → bytes_of i (base64url b) ≡ Ok b
 unfolding bytes_of
-bytes_of-base64url i b bytes = ap (or_fault (Base64 i)) (decoded-base64url b bytes)
+bytes_of-base64url i b bytes = ap (λ o. ok_or o (Base64 i)) (decoded-base64url b bytes)
 
 pub only : (x : List ℕ) (c : Compact) → IsCompact x c → splitting x ≡ Ok c
 unfolding splitting compact_of
@@ -55,13 +56,13 @@ IsCompact-whole x c is = subst (λ text. IsCompact text c) (sym is.whole_is) is
 
 -- ---- what is answered is a compact text
 
-pub or_fault_ok : {X : Type 0} (fault : FormFault) (o : Option X) (x : X) → or_fault fault o ≡ Ok x → o ≡ Some x
-or_fault_ok fault (Some y) x e = cc e
-or_fault_ok fault None x e = cc e
+pub ok_or_ok : {X : Type 0} (fault : FormFault) (o : Option X) (x : X) → ok_or o fault ≡ Ok x → o ≡ Some x
+ok_or_ok fault (Some y) x e = cc e
+ok_or_ok fault None x e = cc e
 
 bytes_of_ok : (i : ℕ) (s b : List ℕ) → IsBytes s → bytes_of i s ≡ Ok b → s ≡ base64url b
 unfolding bytes_of
-bytes_of_ok i s b bytes e = base64url-decoded s b bytes (or_fault_ok _ _ b e)
+bytes_of_ok i s b bytes e = base64url-decoded s b bytes (ok_or_ok _ _ b e)
 
 pub three_of_some : (ps : List (List ℕ)) (p : List ℕ × List ℕ × List ℕ) → three_of ps ≡ Some p → ps ≡ p.0 ∷ p.1 ∷ p.2 ∷ []
 three_of_some [] p e = cc e
@@ -140,7 +141,7 @@ compact_of_ok x p c is bytes short forms e =
       text_is = is ∙ ap₂ (λ a b. a ++ stop ∷ b) got.signed_is third;
     }
 
-short_of_ok : (x : List ℕ) (long : Bool) (o : Option (List ℕ × List ℕ × List ℕ)) (c : Compact) → cond long (Err TooLong) (or_fault Parts o >>= compact_of x) ≡ Ok c
+short_of_ok : (x : List ℕ) (long : Bool) (o : Option (List ℕ × List ℕ × List ℕ)) (c : Compact) → cond long (Err TooLong) (ok_or o Parts >>= compact_of x) ≡ Ok c
     → (long ≡ false) × ((p : List ℕ × List ℕ × List ℕ) × (o ≡ Some p) × (compact_of x p ≡ Ok c))
 short_of_ok x true o c e = cc e
 short_of_ok x false None c e = cc e

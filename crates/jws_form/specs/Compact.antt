@@ -9,7 +9,7 @@ use Rattle.jws_form.specs.Header.{IsHeaderText}
 abbrev pub max_bytes : ℕ
 max_bytes = 262144
 
--- a full stop
+-- a full stop, which stands between the parts (RFC 7515 section 7.1)
 abbrev pub stop : ℕ
 stop = 46
 

@@ -16,17 +16,17 @@ use Rattle.jws_form.specs.Splitting.{is_stop, parts_of}
 abbrev pub part : List ℕ → ℕ → List ℕ
 part x number = slice_index_or (parts_of x) number []
 
--- the text's header is an object of these members
+-- the text's header is an object of these members (RFC 7515 section 4)
 pub record HasHeader (x : List ℕ) (members : List Member) : Type 0 where
   pub bytes : List ℕ
   pub part_is : part x 0 ≡ base64url bytes
   pub reads : reading bytes ≡ Some (Object members)
 
--- the member of that name is absent or a text
+-- the member of that name is absent or a text (RFC 7515 section 4)
 abbrev pub IsTextWhere : List ℕ → List Member → Type 0
 IsTextWhere name members = (value : Option (List ℕ)) × (find name members ≡ option_map Text value)
 
--- the members that are looked at are texts where they are there
+-- the members that are looked at are texts where they are there (RFC 7515 sections 4.1.9, 4.1.4 and 4.1.1)
 pub record HasTexts (members : List Member) : Type 0 where
   pub typ : IsTextWhere (codes "typ") members
   pub kid : IsTextWhere (codes "kid") members

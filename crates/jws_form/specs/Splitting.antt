@@ -1,12 +1,13 @@
 -- What taking a text apart answers: its parts, or the first fault.
-use Rattle.std.specs.Prelude.{◌≡◌, ℕ, ◌==◌, List, [], ◌∷◌, ◌++◌, length, codes, bytes_eq, nat_lt, Bool, false, is_some, Option, Some, None, option_map, option_and_then, IfSome, Result, Ok, Err, if◌then◌else◌}
+use Rattle.std.specs.Prelude.{◌≡◌, ℕ, ◌==◌, List, [], ◌∷◌, ◌++◌, length, codes, bytes_eq, nat_lt, Bool, false, is_some, Option, Some, None, option_and_then, ok_or, IfSome, Result, Ok, Err, if◌then◌else◌}
 use Rattle.std.specs.List.{slice_split}
 use Rattle.std.specs.Str.{IsUtf8}
 use Rattle.base64.specs.GeneralPurpose.{IsBytes}
 use Rattle.fed_json.specs.declared.tree.Json.{Json}
 use Rattle.fed_json.specs.declared.tree.Member.{Member}
-use Rattle.fed_json.specs.Trees.{find, as_text, as_object}
+use Rattle.fed_json.specs.Trees.{find, as_text, as_object, optional}
 use Rattle.fed_json.specs.Reading.{reading}
+use Rattle.fed_ports.specs.Answers.{◌>>=◌}
 use Rattle.jws_form.specs.declared.compact.Compact.{Compact}
 use Rattle.jws_form.specs.declared.fault.FormFault.{FormFault}
 use Rattle.jws_form.specs.declared.fault.FormFault.TheVariants.{TooLong, Parts, Base64, Header, Crit, Algorithm, Memory}
@@ -20,27 +21,19 @@ GivesBy view (Ok x) expected = expected ≡ Ok (view x)
 GivesBy view (Err Memory) expected = Unit {0}
 GivesBy view (Err fault) expected = expected ≡ Err fault
 
+-- the same of an answer that is seen as it stands
 abbrev pub Gives : {X : Type 0} → Result X FormFault → Result X FormFault → Type 0
 Gives = GivesBy (λ x. x)
 
-infixl 10 ◌>>=◌
-abbrev pub ◌>>=◌ : {X Y : Type 0} → Result X FormFault → (X → Result Y FormFault) → Result Y FormFault
-(Ok x) >>= f = f x
-(Err fault) >>= f = Err fault
-
--- the value, or a fault where there is none
-abbrev pub or_fault : {X : Type 0} → FormFault → Option X → Result X FormFault
-or_fault fault None = Err fault
-or_fault fault (Some x) = Ok x
-
+-- the byte ends a part (RFC 7515 section 7.1)
 abbrev pub is_stop : ℕ → Bool
 is_stop byte = byte == stop
 
--- the text of a member that may be absent
+-- the text of a member that may be absent (RFC 7515 section 4)
 abbrev pub text_of : Option Json → Result (Option (List ℕ)) FormFault
-text_of None = Ok None
-text_of (Some value) = or_fault Header (option_map Some (as_text value))
+text_of value = ok_or (optional as_text value) Header
 
+-- the value of `alg` is there, and names the algorithm (RFC 7515 section 4.1.1)
 abbrev pub is_ours : Option (List ℕ) → Bool
 is_ours None = false
 is_ours (Some alg) = bytes_eq alg algorithm
@@ -55,19 +48,19 @@ names_of members = do
       else if is_ours alg then Ok (typ, kid)
       else Err Algorithm
 
--- the same of a JSON text
+-- the same of a JSON text (RFC 7515 section 5.2, steps 3 to 5)
 unfoldable pub names_in : List ℕ → Result (Option (List ℕ) × Option (List ℕ)) FormFault
-names_in bytes = or_fault Header (option_and_then as_object (reading bytes)) >>= names_of
+names_in bytes = ok_or (option_and_then as_object (reading bytes)) Header >>= names_of
 
--- the bytes of a part, by its number
+-- the bytes of a part, by its number (RFC 7515 section 2)
 unfoldable pub bytes_of : ℕ → List ℕ → Result (List ℕ) FormFault
-bytes_of number part = or_fault (Base64 number) (decoded part)
+bytes_of number part = ok_or (decoded part) (Base64 number)
 
--- the parts of a text between its full stops
+-- the parts of a text between its full stops (RFC 7515 section 7.1)
 unfoldable pub parts_of : List ℕ → List (List ℕ)
 parts_of x = slice_split is_stop x
 
--- the three parts, where there are three
+-- the three parts, where there are three (RFC 7515 section 7.1)
 abbrev pub three_of : List (List ℕ) → Option (List ℕ × List ℕ × List ℕ)
 three_of [] = None
 three_of (first ∷ []) = None
@@ -95,7 +88,7 @@ compact_of x parts = do
 unfoldable pub splitting : List ℕ → Result Compact FormFault
 splitting x =
     if nat_lt max_bytes (length x) then Err TooLong
-    else (or_fault Parts (three_of (parts_of x)) >>= compact_of x)
+    else (ok_or (three_of (parts_of x)) Parts >>= compact_of x)
 
 -- what the types of the code say of an answer's parts
 pub record HasForms (c : Compact) : Type 0 where

@@ -1,5 +1,4 @@
-ghost use Rattle.std.specs.Prelude.{◌≡◌, IfOk};
-ghost use Rattle.std.specs.Option.{option_copied};
+// The parts of a compact text.
 
 use fed_ports::{Duplicate, Memory, Text};
 use std::alloc::Global;
@@ -25,21 +24,11 @@ impl Duplicate for Compact {
     fn copy(&self, alloc: Global) -> Result<Self, Memory> {
         Ok(Compact {
             whole: self.whole.copy(alloc)?,
-            typ: copied(alloc, self.typ.as_ref())?,
-            kid: copied(alloc, self.kid.as_ref())?,
+            typ: self.typ.copy(alloc)?,
+            kid: self.kid.copy(alloc)?,
             payload: self.payload.copy(alloc)?,
             signed: self.signed.copy(alloc)?,
             signature: self.signature.copy(alloc)?,
         })
-    }
-}
-
-/// A copy of a text that may be absent.
-pub(crate) fn copied(alloc: Global, text: Option<&Text>) -> Result<Option<Text>, Memory>
-    ensures { IfOk result (λ copy. copy ≡ option_copied text.entry) }
-{
-    match text {
-        Some(text) => Ok(Some(text.copy(alloc)?)),
-        None => Ok(None),
     }
 }

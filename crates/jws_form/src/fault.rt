@@ -1,3 +1,5 @@
+// Why a text is refused.
+
 ghost use Rattle.std.specs.Prelude.{◌≡◌};
 
 use thiserror::Error;
@@ -11,8 +13,8 @@ pub enum FormFault {
     /// It has fewer or more than two full stops.
     #[error("the text has not three parts")]
     Parts,
-    /// A part isn't the base64url of any bytes (RFC 7515 section 2). The first such part is named:
-    /// 0 for the header, 1 for the payload, 2 for the signature.
+    /// A part isn't the base64url of any bytes (RFC 7515 section 2). The first such part is named: 0 for the header, 1
+    /// for the payload, 2 for the signature.
     #[error("part {0} is not base64url")]
     Base64(u8),
     /// The header isn't a JSON object, or its `typ`, `kid` or `alg` isn't a text.

@@ -1,3 +1,5 @@
+// The header of a text.
+
 ghost use Rattle.std.specs.Prelude.{◌≡◌, IfOk, IfSome, IsTrue};
 ghost use Rattle.std.specs.Option.{option_copied};
 ghost use Rattle.std.specs.Str.{IsUtf8};
@@ -6,13 +8,12 @@ ghost use Rattle.fed_json.specs.Trees.{find as found};
 ghost use Rattle.jws_form.specs.Splitting.{Gives, GivesBy, text_of, names_of, names_in};
 
 use crate::FormFault;
-use crate::compact::copied;
 use fed_json::{Json, Member, TreeFault, find, read_tree};
-use fed_ports::Text;
+use fed_ports::{Duplicate, Memory, Text};
 use std::alloc::Global;
 
-/// The `alg` of every text (RFC 7515 section 4.1.1).
-const ALGORITHM: &[u8] = b"SLH-DSA-SHA2-128s";
+/// The `alg` of every text and key that verifies: the parameter set of FIPS 205 (RFC 7515 section 4.1.1).
+pub const ALGORITHM: &[u8] = b"SLH-DSA-SHA2-128s";
 
 /// The `typ` and `kid` of a header (RFC 7515 sections 4.1.9 and 4.1.4).
 #[tactic(auto, unfolding(crate::specs::Splitting::names_in))]
@@ -42,9 +43,9 @@ fn read_members(
     ensures typ { IfOk result (λ names. IfSome names.0 IsUtf8) }
     ensures kid { IfOk result (λ names. IfSome names.1 IsUtf8) }
 {
-    let typ = text_at(members, b"typ")?;
-    let kid = text_at(members, b"kid")?;
-    let alg = text_at(members, b"alg")?;
+    let typ = optional_text(members, b"typ")?;
+    let kid = optional_text(members, b"kid")?;
+    let alg = optional_text(members, b"alg")?;
     if find(members, b"crit").is_some() {
         return Err(FormFault::Crit);
     }
@@ -54,8 +55,8 @@ fn read_members(
     }
 }
 
-/// The text under a name, where the name is there.
-fn text_at<'a>(members: &'a [Member], name: &[u8]) -> Result<Option<&'a Text>, FormFault>
+/// The text under a name, where the name is there (RFC 7515 section 4).
+fn optional_text<'a>(members: &'a [Member], name: &[u8]) -> Result<Option<&'a Text>, FormFault>
     requires { IsTrue (members_well_formed members.now) }
     ensures exact { GivesBy option_copied result (text_of (found name.now members.now)) }
     ensures utf8 { IfOk result (λ found. IfSome found (λ text. IsUtf8 text.now)) }
@@ -64,5 +65,15 @@ fn text_at<'a>(members: &'a [Member], name: &[u8]) -> Result<Option<&'a Text>, F
         None => Ok(None),
         Some(Json::Text(text)) => Ok(Some(text)),
         Some(_) => Err(FormFault::Header),
+    }
+}
+
+/// A copy of a text that may be absent.
+fn copied(alloc: Global, text: Option<&Text>) -> Result<Option<Text>, Memory>
+    ensures { IfOk result (λ copy. copy ≡ option_copied text.entry) }
+{
+    match text {
+        Some(text) => Ok(Some(text.copy(alloc)?)),
+        None => Ok(None),
     }
 }

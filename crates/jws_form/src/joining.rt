@@ -1,3 +1,5 @@
+// Texts put together.
+
 ghost use Rattle.std.specs.Prelude.{◌≡◌, ◌≤◌, List, ℕ, Option, IfOk, length};
 ghost use Rattle.fed_json.specs.Compact.{compact};
 ghost use Rattle.fed_json.specs.Forms.{IsWhole, nesting};
@@ -11,9 +13,9 @@ use fed_json::{Json, write_tree};
 use fed_ports::{Memory, Text};
 use std::alloc::Global;
 
-/// What the signature of a text with this header and payload is over (RFC 7515 section 5.1): the
-/// base64url of the header's compact text, a full stop, and the base64url of the payload. A header
-/// of the right form that nests at most 127 deep is read again from it.
+/// What the signature of a text with this header and payload is over (RFC 7515 section 5.1): the base64url of the
+/// header's compact text, a full stop, and the base64url of the payload. A header of the right form that nests at most
+/// 127 deep is read again from it.
 pub fn signing_input(alloc: Global, header: &Json, payload: &[u8]) -> Result<Text, Memory>
     requires { IsWhole header.now }
     ensures text { IfOk result (λ text. text ≡ signing_input_of (compact header.now) payload.now) }
@@ -24,7 +26,8 @@ pub fn signing_input(alloc: Global, header: &Json, payload: &[u8]) -> Result<Tex
     encoded_parts(alloc, header.as_slice(), payload)
 }
 
-/// The first two parts of a text, joined by a full stop.
+/// The first two parts of a text, joined by a full stop. Both are encoded into the one text, where `base64url::encode`
+/// would make a text of each and copy the payload's once more.
 #[tactic(auto, unfolding(base64url::specs::Base64url::base64url))]
 fn encoded_parts(alloc: Global, header: &[u8], payload: &[u8]) -> Result<Text, Memory>
     ensures { IfOk result (λ text. text ≡ signing_input_of header.now payload.now) }
@@ -36,9 +39,9 @@ fn encoded_parts(alloc: Global, header: &[u8], payload: &[u8]) -> Result<Text, M
     Ok(Text::from_vec(text.into_bytes()))
 }
 
-/// The compact text of a signing input and its signature (RFC 7515 section 7.1): the input, a full
-/// stop, and the base64url of the signature. [`split`](crate::split) takes it apart into these where
-/// it has at most 262,144 bytes, and what that takes apart is joined again to the same text.
+/// The compact text of a signing input and its signature (RFC 7515 section 7.1): the input, a full stop, and the
+/// base64url of the signature. [`split`](crate::split) takes it apart into these where it has at most 262,144 bytes,
+/// and what that takes apart is joined again to the same text.
 pub fn join(alloc: Global, signed: &Text, signature: &[u8]) -> Result<Text, Memory>
     ensures text { IfOk result (λ text. text ≡ joined signed.now signature.now) }
     ensures splits { (payload : List ℕ) (typ kid : Option (List ℕ))

@@ -1,10 +1,9 @@
-//! Texts in the compact serialization of JSON Web Signature, as OpenID Federation 1.0 sends them
-//! (RFC 7515 sections 3 and 7.1): three base64url parts between full stops, which are a header, a
-//! payload and a signature.
+//! Texts in the compact serialization of JSON Web Signature, as OpenID Federation 1.0 sends them (RFC 7515 sections 3
+//! and 7.1): three base64url parts between full stops, which are a header, a payload and a signature.
 //!
-//! [`split`] takes a text apart and says what is wrong with one that it refuses. [`signing_input`]
-//! and [`join`] put one together. The crates above look at the parts of a [`Compact`], check its
-//! signature over `signed`, and read its payload.
+//! [`split`] takes a text apart and says what is wrong with one that it refuses. [`signing_input`] and [`join`] put one
+//! together. The crates above look at the parts of a [`Compact`], check its signature over `signed`, and read its
+//! payload.
 #![tactic(auto)]
 
 mod compact;
@@ -18,5 +17,6 @@ mod tests;
 
 pub use compact::Compact;
 pub use fault::FormFault;
+pub use header::ALGORITHM;
 pub use joining::{join, signing_input};
 pub use splitting::split;

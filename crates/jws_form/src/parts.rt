@@ -1,3 +1,5 @@
+// The parts between full stops.
+
 ghost use Rattle.std.specs.Prelude.{◌≡◌, ◌∷◌, ◌++◌, [], IfOk, IfSome, MatchOption, option_map};
 ghost use Rattle.base64.specs.GeneralPurpose.{IsBytes};
 ghost use Rattle.jws_form.specs.Compact.{stop};
@@ -7,6 +9,7 @@ use crate::FormFault;
 use fed_ports::Text;
 use std::alloc::Global;
 
+/// The full stop between the parts (RFC 7515 section 7.1).
 pub(crate) const STOP: u8 = b'.';
 
 /// The three parts of a text, as they stand in it.

@@ -1,3 +1,5 @@
+// Texts taken apart.
+
 ghost use Rattle.std.specs.Prelude.{◌≡◌, ◌∷◌, ◌++◌, IfErr, IfOk, Ok};
 ghost use Rattle.jws_form.specs.declared.compact.Compact.{Compact};
 ghost use Rattle.jws_form.specs.Compact.{IsCompact, stop};
@@ -13,8 +15,8 @@ use std::alloc::Global;
 /// How many bytes a text has at most.
 const MAX_BYTES: usize = 262_144;
 
-/// Takes a compact text apart (RFC 7515 section 5.2). It answers the parts exactly where the text
-/// is one, and otherwise its first fault, in the order of [`FormFault`].
+/// Takes a compact text apart (RFC 7515 section 5.2). It answers the parts exactly where the text is one, and otherwise
+/// its first fault, in the order of [`FormFault`].
 #[tactic(auto, unfolding(crate::specs::Splitting::splitting))]
 pub fn split(alloc: Global, text: &[u8]) -> Result<Compact, FormFault>
     ensures exact { Gives result (splitting text.now) }

@@ -1,3 +1,5 @@
+// Texts of other implementations, and faults in their order.
+
 use super::*;
 use fed_json::{is_whole, read_tree};
 use fed_ports::{Duplicate, Text};
@@ -94,8 +96,8 @@ fn a_text_has_at_most_262144_bytes(rt: HostRuntime) -> Result<(), Fail> {
     Ok(())
 }
 
-/// The header and payload of an entity configuration that another implementation made, and the
-/// first 30 bytes of its signature.
+/// The header and payload of an entity configuration that another implementation made, and the first 30 bytes of its
+/// signature.
 #[test]
 fn a_statement_is_taken_apart(rt: HostRuntime) -> Result<(), Fail> {
     let alloc = rt.alloc();

@@ -1,13 +1,14 @@
 -- The seven actions, one by one.
 use Rattle.std.proofs.Common.{◌≡◌, Option, Ok, Err, Bool, true, false, refl, sym, ap, ◌∙◌}
 use Rattle.std.specs.Option.{option_map_or, option_or}
+use Rattle.fed_ports.specs.Answers.{◌>>=◌}
 use Rattle.fed_json.specs.declared.tree.Json.{Json}
 use Rattle.policy_merge.specs.declared.operator.Operator.{Operator}
 use Rattle.policy_merge.specs.declared.operator.Operator.TheVariants.{OneOf, SupersetOf, Essential}
 use Rattle.policy_merge.specs.declared.operators.Operators.{Operators}
 use Rattle.policy_merge.specs.Tables.{Name}
 use Rattle.policy_merge.specs.Shapes.{as_default}
-use Rattle.policy_apply.specs.Acting.{Outcome, ◌>>=◌, if_passes, by_value, by_add, by_default, by_one_of, by_subset_of, by_superset_of, by_essential, is_one_of, is_superset_of, is_enough, acted}
+use Rattle.policy_apply.specs.Acting.{Outcome, if_passes, by_value, by_add, by_default, by_one_of, by_subset_of, by_superset_of, by_essential, is_one_of, is_superset_of, is_enough, acted}
 
 -- the value that the parameter starts with
 abbrev pub set_first : Operators → Option Json → Option Json

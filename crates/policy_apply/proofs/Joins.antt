@@ -3,9 +3,8 @@ use Rattle.std.proofs.Common.{◌≡◌, ◌≤◌, ◌<◌, ◌+◌, ℕ, List,
 use Rattle.std.specs.Option.{option_and_then}
 use Rattle.std.specs.List.{join_with_byte}
 use Rattle.std.proofs.lemmas.List.{drop_more, drop_all}
-use Rattle.fed_json.specs.Trees.{as_text}
+use Rattle.fed_json.specs.Trees.{as_text, texts_in}
 use Rattle.fed_json.specs.declared.tree.Json.{Json}
-use Rattle.policy_apply.specs.Acting.{texts_of}
 
 -- each word with a space behind it
 abbrev pub ended : List (List ℕ) → List ℕ
@@ -14,7 +13,7 @@ ended (word ∷ words) = word ++ 32 ∷ ended words
 
 -- what is left to do makes the whole of what was made
 abbrev pub Joining : List Json → List ℕ → List Json → Type 0
-Joining list text rest = option_map ended (texts_of list) ≡ option_map (λ more. text ++ ended more) (texts_of rest)
+Joining list text rest = option_map ended (texts_in list) ≡ option_map (λ more. text ++ ended more) (texts_in rest)
 
 pub joining-start : (list : List Json) → Joining list [] list
 joining-start list = refl
@@ -28,9 +27,9 @@ with_word word text (Some rest) = ap Some (sym (append_assoc (text ++ word) (32 
 pub joining-more : (list : List Json) (text : List ℕ) (i : ℕ) (x : Json) (word : List ℕ) → i < length list → x ≡ get_or list i x → as_text x ≡ Some word
     → Joining list text (drop i list) → Joining list ((text ++ word) ++ 32 ∷ []) (drop (i + 1) list)
 joining-more list text i x word lt is word_is joining =
-    joining ∙ ap (λ xs. option_map (λ more. text ++ ended more) (texts_of xs)) (drop_more list i x lt ∙ ap (λ y. y ∷ drop (i + 1) list) (sym is))
-    ∙ ap (λ o. option_map (λ more. text ++ ended more) (option_and_then (λ w. option_map (λ rest. w ∷ rest) (texts_of (drop (i + 1) list))) o)) word_is
-    ∙ with_word word text (texts_of (drop (i + 1) list))
+    joining ∙ ap (λ xs. option_map (λ more. text ++ ended more) (texts_in xs)) (drop_more list i x lt ∙ ap (λ y. y ∷ drop (i + 1) list) (sym is))
+    ∙ ap (λ o. option_map (λ more. text ++ ended more) (option_and_then (λ w. option_map (λ rest. w ∷ rest) (texts_in (drop (i + 1) list))) o)) word_is
+    ∙ with_word word text (texts_in (drop (i + 1) list))
 
 none_of : {X Y : Type 0} (f : X → Y) (o : Option X) → option_map f o ≡ None → o ≡ None
 none_of f None e = refl
@@ -42,10 +41,10 @@ some_of f (Some x) y e = (x, refl, (cc))
 
 -- a value that isn't a text
 pub joining-broken : (list : List Json) (text : List ℕ) (i : ℕ) (x : Json) → i < length list → x ≡ get_or list i x → as_text x ≡ None
-    → Joining list text (drop i list) → option_map (join_with_byte 32) (texts_of list) ≡ None
+    → Joining list text (drop i list) → option_map (join_with_byte 32) (texts_in list) ≡ None
 joining-broken list text i x lt is other joining =
-    let none : texts_of list ≡ None = none_of ended (texts_of list) (joining ∙ ap (λ xs. option_map (λ more. text ++ ended more) (texts_of xs)) (drop_more list i x lt ∙ ap (λ y. y ∷ drop (i + 1) list) (sym is))
-    ∙ ap (λ o. option_map (λ more. text ++ ended more) (option_and_then (λ w. option_map (λ rest. w ∷ rest) (texts_of (drop (i + 1) list))) o)) other) in
+    let none : texts_in list ≡ None = none_of ended (texts_in list) (joining ∙ ap (λ xs. option_map (λ more. text ++ ended more) (texts_in xs)) (drop_more list i x lt ∙ ap (λ y. y ∷ drop (i + 1) list) (sym is))
+    ∙ ap (λ o. option_map (λ more. text ++ ended more) (option_and_then (λ w. option_map (λ rest. w ∷ rest) (texts_in (drop (i + 1) list))) o)) other) in
     ap (option_map (join_with_byte 32)) none
 
 ended-join : (word : List ℕ) (words : List (List ℕ)) → ended (word ∷ words) ≡ join_with_byte 32 (word ∷ words) ++ 32 ∷ []
@@ -54,10 +53,10 @@ ended-join word (next ∷ words) = ap (λ rest. word ++ 32 ∷ rest) (ended-join
 
 -- the last space is taken off
 pub joining-end : (list : List Json) (text : List ℕ) (i : ℕ) → length list ≤ i → Joining list text (drop i list)
-    → (words : List (List ℕ)) × (texts_of list ≡ Some words) × (ended words ≡ text)
+    → (words : List (List ℕ)) × (texts_in list ≡ Some words) × (ended words ≡ text)
 joining-end list text i done joining =
-    let all : option_map ended (texts_of list) ≡ Some text = joining ∙ ap (λ xs. option_map (λ more. text ++ ended more) (texts_of xs)) (drop_all i list done) ∙ ap Some (append-nil text) in
-    some_of ended (texts_of list) text all
+    let all : option_map ended (texts_in list) ≡ Some text = joining ∙ ap (λ xs. option_map (λ more. text ++ ended more) (texts_in xs)) (drop_all i list done) ∙ ap Some (append-nil text) in
+    some_of ended (texts_in list) text all
 
 snoc_same : (xs ys : List ℕ) (x y : ℕ) → xs ++ x ∷ [] ≡ ys ++ y ∷ [] → xs ≡ ys
 snoc_same [] [] x y e = refl

@@ -2,12 +2,13 @@
 use Rattle.std.proofs.Common.{◌≡◌, List, None, Ok, sym, ap, ◌∙◌}
 use Rattle.fed_json.specs.declared.tree.Json.{Json, Object}
 use Rattle.fed_json.specs.declared.tree.Member.{Member}
+use Rattle.fed_json.specs.Trees.{object_members}
 use Rattle.policy_merge.specs.Tables.{Name}
 use Rattle.policy_merge.specs.Policies.{Types, no_operators, operators_at}
 use Rattle.policy_merge.specs.Combining.{conflict_in}
 use Rattle.policy_merge.proofs.Lookups.{clash-at}
 use Rattle.policy_apply.specs.Acting.{acted}
-use Rattle.policy_apply.specs.Applying.{object_members, HasType, parameter_at, outcome_in, applied_types, types_refusal}
+use Rattle.policy_apply.specs.Applying.{HasType, parameter_at, outcome_in, applied_types, types_refusal}
 use Rattle.policy_apply.specs.Keeping.{KeepsWithin, AddsWords}
 use Rattle.policy_apply.proofs.Places.{acted-at, acted-nothing}
 use Rattle.policy_apply.proofs.Keeps.{keeps, again}

@@ -2,7 +2,7 @@
 use Rattle.std.proofs.Common.{◌≡◌, ◌⊎◌, inl, inr, ◌==◌, ℕ, List, [], ◌∷◌, ◌++◌, Option, Some, None, option_map, Ok, Err, Bool, true, false, ◌&&◌, not, cond, map, filter, refl, sym, ap, ap₂, ◌∙◌, rules}
 use Rattle.std.specs.Option.{option_and_then, option_map_or, option_or}
 use Rattle.std.specs.List.{list_all, slice_split, onto_first, join_with_byte}
-use Rattle.fed_json.specs.Trees.{as_text, as_list}
+use Rattle.fed_json.specs.Trees.{as_text, as_list, texts_in}
 use Rattle.fed_json.specs.Sets.{union_of, intersection_of}
 use Rattle.fed_json.specs.declared.tree.Json.{Json, Text, List as ListOf, the_lemmas}
 use Rattle.policy_merge.specs.declared.operator.Operator.{Operator}
@@ -14,7 +14,7 @@ use Rattle.policy_merge.specs.Scope.{is_scope, is_empty, words, word_members, me
 use Rattle.policy_merge.proofs.Order.{left_true, right_true, both_true}
 use Rattle.policy_merge.proofs.Trees.{text_is, as_text-Text, as_list-List}
 use Rattle.policy_merge.proofs.MergedTables.{all-union, all-intersection}
-use Rattle.policy_apply.specs.Acting.{texts_of, joined_words, is_text, stays_text, made, with_added, by_add, with_kept, by_subset_of}
+use Rattle.policy_apply.specs.Acting.{joined_words, is_text, stays_text, made, with_added, by_add, with_kept, by_subset_of}
 use Rattle.policy_apply.specs.Keeping.{is_word, AddsWords}
 
 -- ---- words that are joined are there again
@@ -94,12 +94,12 @@ word_members-words text = all_words (slice_split is_space text) (split_spaceless
 
 -- ---- texts of a list
 
-pub texts-list : (list : List Json) (ws : List (List ℕ)) → texts_of list ≡ Some ws → map Text ws ≡ list
+pub texts-list : (list : List Json) (ws : List (List ℕ)) → texts_in list ≡ Some ws → map Text ws ≡ list
 texts-list [] ws e = let is : ◌≡◌ {A = List (List ℕ)} [] ws = (cc) in ap (map Text) (sym is)
-texts-list (x ∷ xs) ws e = by (as_text x) refl (texts_of xs) refl e (texts-list xs)
+texts-list (x ∷ xs) ws e = by (as_text x) refl (texts_in xs) refl e (texts-list xs)
   where
-    by : (o : Option (List ℕ)) → as_text x ≡ o → (r : Option (List (List ℕ))) → texts_of xs ≡ r → option_and_then (λ word. option_map (λ rest. word ∷ rest) r) o ≡ Some ws
-        → ((vs : List (List ℕ)) → texts_of xs ≡ Some vs → map Text vs ≡ xs) → map Text ws ≡ x ∷ xs
+    by : (o : Option (List ℕ)) → as_text x ≡ o → (r : Option (List (List ℕ))) → texts_in xs ≡ r → option_and_then (λ word. option_map (λ rest. word ∷ rest) r) o ≡ Some ws
+        → ((vs : List (List ℕ)) → texts_in xs ≡ Some vs → map Text vs ≡ xs) → map Text ws ≡ x ∷ xs
     by None is_o r is_r e later = absurd (cc)
     by (Some w) is_o None is_r e later = absurd (cc)
     by (Some w) is_o (Some vs) is_r e later =
@@ -130,13 +130,13 @@ members-Text p text scope =
 -- how a value was made: a list, or a text of words
 abbrev pub Made : Name → Option Json → List Json → Option Json → Type 0
 Made p before list y =
-    (y ≡ Some (ListOf list)) ⊎ ((stays_text p before ≡ true) × (ws : List (List ℕ)) × (texts_of list ≡ Some ws) × (y ≡ Some (joined_words ws)))
+    (y ≡ Some (ListOf list)) ⊎ ((stays_text p before ≡ true) × (ws : List (List ℕ)) × (texts_in list ≡ Some ws) × (y ≡ Some (joined_words ws)))
 
 pub made-ok : (p : Name) (operator : Operator) (before : Option Json) (list : List Json) (y : Option Json) → made p operator before list ≡ Ok y → Made p before list y
 unfolding made
-made-ok p operator before list y e = by (stays_text p before) refl (texts_of list) refl e
+made-ok p operator before list y e = by (stays_text p before) refl (texts_in list) refl e
   where
-    by : (b : Bool) → stays_text p before ≡ b → (o : Option (List (List ℕ))) → texts_of list ≡ o
+    by : (b : Bool) → stays_text p before ≡ b → (o : Option (List (List ℕ))) → texts_in list ≡ o
         → cond b (option_map_or (λ ws. Ok (Some (joined_words ws))) o (Err operator)) (Ok (Some (ListOf list))) ≡ Ok y → Made p before list y
     by false is o is_o e = let same : Some (ListOf list) ≡ y = (cc) in inl (sym same)
     by true is None is_o e = absurd (cc)
@@ -178,7 +178,7 @@ pub made-again : (p : Name) (operator : Operator) (before : Option Json) (list :
 unfolding made
 made-again p operator before list w (inl is) =
     let same : w ≡ ListOf list = (cc) in
-    ap (λ b. cond b (option_map_or (λ ws. Ok (Some (joined_words ws))) (texts_of list) (Err operator)) (Ok (Some (ListOf list)))) (ap (λ v. is_scope p && is_text v) same ∙ ap (λ b. is_scope p && b) (is_text-List list) ∙ and_false (is_scope p))
+    ap (λ b. cond b (option_map_or (λ ws. Ok (Some (joined_words ws))) (texts_in list) (Err operator)) (Ok (Some (ListOf list)))) (ap (λ v. is_scope p && is_text v) same ∙ ap (λ b. is_scope p && b) (is_text-List list) ∙ and_false (is_scope p))
     ∙ ap Ok (sym is)
 made-again p operator before list w (inr m) =
     let same : w ≡ joined_words m.1 = (cc) in

@@ -1,11 +1,12 @@
 -- What is left, and what is refused, at each entity type and parameter.
 use Rattle.std.proofs.Common.{◌≡◌, inl, inr, List, [], ◌∷◌, Option, Some, None, option_map, unwrap_or, Ok, Err, Bool, true, false, ◌||◌, cond, map, bytes_eq, refl, sym, ap, ap₂, ◌∙◌, subst}
-use Rattle.std.specs.Option.{option_and_then, option_map_or}
-use Rattle.std.specs.List.{list_all, list_any}
+use Rattle.std.specs.Option.{option_and_then}
+use Rattle.std.specs.List.{list_all, list_any, filter_map, cons_option}
 use Rattle.std.specs.Str.{is_utf8}
+use Rattle.fed_ports.specs.Answers.{unless}
 use Rattle.fed_json.specs.Forms.{is_before, rising, whole}
 use Rattle.fed_json.specs.Reading.{member_of}
-use Rattle.fed_json.specs.Trees.{find}
+use Rattle.fed_json.specs.Trees.{find, object_members, member_name}
 use Rattle.fed_json.specs.declared.tree.Json.{Json, Object}
 use Rattle.fed_json.specs.declared.tree.Member.{Member}
 use Rattle.policy_merge.specs.declared.named.Named.{Named}
@@ -19,11 +20,12 @@ use Rattle.policy_merge.proofs.Lookups.{is_name, side_at-absent, none_at}
 use Rattle.policy_merge.proofs.Least.{LeastSide, least_side}
 use Rattle.policy_merge.proofs.MergedTables.{table-names, table-values, item_of-passes}
 use Rattle.policy_merge.proofs.Trees.{as_object-Object}
+use Rattle.policy_merge.proofs.Firsts.{unless_ok, unless_err}
 use Rattle.policy_apply.specs.declared.fault.ApplyFault.{ApplyFault}
 use Rattle.policy_apply.specs.declared.fault.ApplyFault.TheVariants.{Refused, Memory}
 use Rattle.policy_apply.specs.Acting.{Outcome, acted, by_value, by_add, by_default, by_one_of, by_subset_of, by_superset_of, by_essential, is_there}
-use Rattle.policy_apply.specs.Applying.{object_members, member_name, beside_members, left_of, refuser, given, outcome_at, parameter_refusal, applied_parameters, parameters_refusal, type_left, type_refusal, applied_types, types_refusal, unless, applying_types, applying, Gives, value_at, parameter_at, HasType, outcome_in, IsFirstRefusal, NamesUtf8}
-use Rattle.policy_apply.proofs.Walking.{unless_ok, unless_err, gives_on, members-rise, members-split, object_members-whole}
+use Rattle.policy_apply.specs.Applying.{beside_members, left_of, refuser, outcome_at, parameter_refusal, applied_parameters, parameters_refusal, type_left, type_refusal, applied_types, types_refusal, applying_types, applying, Gives, value_at, parameter_at, HasType, outcome_in, IsFirstRefusal, NamesUtf8}
+use Rattle.policy_apply.proofs.Walking.{gives_on, members-rise, members-split, object_members-whole}
 
 -- a parameter without operators stays
 pub acted-nothing : (p : Name) (x : Option Json) → acted p no_operators x ≡ Ok x
@@ -73,7 +75,7 @@ place us t ty p m is =
 -- ---- what is given at a name
 
 found-given : {U : Type 0} (us : List U) (u : U → Name) (ms : List Member) (g : Side U Member → Option Json) (n : Name) (names : List Name)
-    → find n (given (λ s. option_map (member_of s.name) (g s)) (map (side_at u member_name us ms) names)) ≡ cond (is_name n names) (g (side_at u member_name us ms n)) None
+    → find n (filter_map (λ s. option_map (member_of s.name) (g s)) (map (side_at u member_name us ms) names)) ≡ cond (is_name n names) (g (side_at u member_name us ms n)) None
 unfolding is_name
 found-given us u ms g n [] = refl
 found-given {U} us u ms g n (m ∷ names) = by (bytes_eq m n) refl (g (side_at u member_name us ms m)) refl (found-given us u ms g n names)
@@ -92,10 +94,10 @@ found-given {U} us u ms g n (m ∷ names) = by (bytes_eq m n) refl (g (side_at u
         by true is = let both : true ≡ false = sym (ap (bytes_eq m) (equal-bytes_eq n m is) ∙ bytes_eq-itself m) ∙ e in absurd (cc)
         by false is = is
 
-    by : (b : Bool) → bytes_eq m n ≡ b → (o : Option Json) → g (at m) ≡ o → find n (given answer (map at names)) ≡ cond (list_any (bytes_eq n) names) (g (at n)) None
-        → find n (option_map_or (λ y. y ∷ given answer (map at names)) (option_map (member_of m) o) (given answer (map at names))) ≡ cond (bytes_eq n m || list_any (bytes_eq n) names) (g (at n)) None
+    by : (b : Bool) → bytes_eq m n ≡ b → (o : Option Json) → g (at m) ≡ o → find n (filter_map answer (map at names)) ≡ cond (list_any (bytes_eq n) names) (g (at n)) None
+        → find n (cons_option (option_map (member_of m) o) (filter_map answer (map at names))) ≡ cond (bytes_eq n m || list_any (bytes_eq n) names) (g (at n)) None
     by true is_b (Some v) is_o rest =
-        ap (λ b. cond b (Some v) (find n (given answer (map at names)))) is_b
+        ap (λ b. cond b (Some v) (find n (filter_map answer (map at names)))) is_b
         ∙ sym (ap (λ b. cond (b || list_any (bytes_eq n) names) (g (at n)) None) (back true is_b) ∙ ap (λ x. g (at x)) (sym (equal-bytes_eq m n is_b)) ∙ is_o)
     by true is_b None is_o rest =
         let none : g (at n) ≡ None = ap (λ x. g (at x)) (sym (equal-bytes_eq m n is_b)) ∙ is_o in
@@ -105,11 +107,11 @@ found-given {U} us u ms g n (m ∷ names) = by (bytes_eq m n) refl (g (side_at u
         cond_none true none = none
         cond_none false none = refl
     by false is_b (Some v) is_o rest =
-        ap (λ b. cond b (Some v) (find n (given answer (map at names)))) is_b ∙ rest ∙ sym (ap (λ b. cond (b || list_any (bytes_eq n) names) (g (at n)) None) (back false is_b))
+        ap (λ b. cond b (Some v) (find n (filter_map answer (map at names)))) is_b ∙ rest ∙ sym (ap (λ b. cond (b || list_any (bytes_eq n) names) (g (at n)) None) (back false is_b))
     by false is_b None is_o rest = rest ∙ sym (ap (λ b. cond (b || list_any (bytes_eq n) names) (g (at n)) None) (back false is_b))
 
 found-beside : {U : Type 0} (us : List U) (u : U → Name) (ms : List Member) (g : Side U Member → Option Json) (n : Name) → g (record { name = n; upper = None; lower = None }) ≡ None
-    → find n (given (λ s. option_map (member_of s.name) (g s)) (sides u member_name us ms)) ≡ g (side_at u member_name us ms n)
+    → find n (filter_map (λ s. option_map (member_of s.name) (g s)) (sides u member_name us ms)) ≡ g (side_at u member_name us ms n)
 unfolding sides
 found-beside us u ms g n nothing = found-given us u ms g n (names_of_both (map u us) (map member_name ms)) ∙ by (is_name n (names_of_both (map u us) (map member_name ms))) refl
   where
@@ -133,9 +135,9 @@ type_member : (o : Option Member) (n : Name) (ps : Parameters) → option_map (�
 type_member None n ps = refl
 type_member (Some m) n ps = refl
 
-pub types_given : (ss : List (Side (Named Parameters) Member)) → given type_left ss ≡ given (λ s. option_map (member_of s.name) (type_at s)) ss
+pub types_given : (ss : List (Side (Named Parameters) Member)) → filter_map type_left ss ≡ filter_map (λ s. option_map (member_of s.name) (type_at s)) ss
 types_given [] = refl
-types_given (s ∷ ss) = ap₂ (λ o rest. option_map_or (λ y. y ∷ rest) o rest) (type_member s.lower s.name (value_or [] s.upper)) (types_given ss)
+types_given (s ∷ ss) = ap₂ cons_option (type_member s.lower s.name (value_or [] s.upper)) (types_given ss)
 
 type_found : (us : Types) (ms : List Member) (ty : Name) → find ty (applied_types us ms) ≡ applied_at us ty (item_of member_name ty ms)
 unfolding applied_types

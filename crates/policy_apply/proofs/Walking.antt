@@ -1,11 +1,12 @@
 -- A policy's table and an object's members, one side at a time.
 use Rattle.std.proofs.Common.{◌≡◌, List, [], ◌∷◌, Option, Some, None, option_map, unwrap_or, Ok, Err, Bool, true, ◌&&◌, map, refl, sym, ap, ap₂, ◌∙◌, subst}
 use Rattle.std.specs.Option.{option_and_then}
-use Rattle.std.specs.List.{list_all}
+use Rattle.std.specs.List.{list_all, filter_map}
 use Rattle.std.specs.Str.{is_utf8}
+use Rattle.fed_ports.specs.Answers.{unless}
 use Rattle.fed_json.specs.Forms.{rising, whole, members_whole}
 use Rattle.fed_json.specs.Reading.{member_of}
-use Rattle.fed_json.specs.Trees.{as_object}
+use Rattle.fed_json.specs.Trees.{as_object, object_members, member_name}
 use Rattle.fed_json.specs.declared.tree.Json.{Json, Object}
 use Rattle.fed_json.specs.declared.tree.Member.{Member}
 use Rattle.policy_merge.specs.declared.named.Named.{Named}
@@ -17,20 +18,13 @@ use Rattle.policy_merge.specs.Merging.{name_of, value_or}
 use Rattle.policy_merge.proofs.Order.{left_true, right_true, both_true}
 use Rattle.policy_merge.proofs.MergedTables.{side_passes, sides-pass, table-names, table-values}
 use Rattle.policy_merge.proofs.Trees.{whole-members}
+use Rattle.policy_merge.proofs.Firsts.{unless_ok, unless_err}
 use Rattle.policy_apply.specs.declared.fault.ApplyFault.{ApplyFault}
 use Rattle.policy_apply.specs.declared.fault.ApplyFault.TheVariants.{Refused, Memory}
 use Rattle.policy_apply.specs.Acting.{Outcome, acted}
-use Rattle.policy_apply.specs.Applying.{object_members, member_name, beside_members, left_of, refuser, given, outcome_at, parameter_left, parameter_refusal, applied_parameters, parameters_refusal, type_left, type_refusal, applied_types, types_refusal, unless, leaving, applying_parameters, applying_types, Gives}
+use Rattle.policy_apply.specs.Applying.{beside_members, left_of, refuser, outcome_at, parameter_left, parameter_refusal, applied_parameters, parameters_refusal, type_left, type_refusal, applied_types, types_refusal, leaving, applying_parameters, applying_types, Gives}
 
 -- ---- answers
-
-pub unless_err : {T : Type 0} (o : Option ApplyFault) (value : T) (f : ApplyFault) → unless o value ≡ Err f → o ≡ Some f
-unless_err None value f e = absurd (cc)
-unless_err (Some g) value f e = (cc)
-
-pub unless_ok : {T : Type 0} (o : Option ApplyFault) (value got : T) → unless o value ≡ Ok got → (o ≡ None) × (value ≡ got)
-unless_ok None value got e = (refl, (cc))
-unless_ok (Some f) value got e = absurd (cc)
 
 -- a fault that is handed on
 pub gives_on : {T U : Type 0} (f : ApplyFault) (o : Option ApplyFault) (value : T) (o' : Option ApplyFault) (value' : U)
@@ -68,7 +62,7 @@ module _ (t : Name) (s : Side (Named Operators) Member) (o : Operators) (x : Opt
         ap (λ r. option_map (member_of s.name) (left_of r)) is,
       )
 
-pub parameters-applied : (t : Name) (us : Parameters) (ms got : List Member) → (first (parameter_refusal t) (beside_members us ms) ≡ None) × (given parameter_left (beside_members us ms) ≡ got)
+pub parameters-applied : (t : Name) (us : Parameters) (ms got : List Member) → (first (parameter_refusal t) (beside_members us ms) ≡ None) × (filter_map parameter_left (beside_members us ms) ≡ got)
     → applying_parameters t us ms ≡ Ok got
 unfolding applying_parameters parameters_refusal applied_parameters
 parameters-applied t us ms got both = ap₂ unless both.0 both.1
@@ -102,7 +96,7 @@ module _ (s : Side (Named Parameters) Member) where
               ∙ ap (λ ps. Some (member_of s.name (Object ps))) (ap₂ applied_parameters (sym is_u) (sym is_ps) ∙ both.1),
         )
 
-pub types-applied : (us : Types) (ms got : List Member) → (first type_refusal (beside_members us ms) ≡ None) × (given type_left (beside_members us ms) ≡ got)
+pub types-applied : (us : Types) (ms got : List Member) → (first type_refusal (beside_members us ms) ≡ None) × (filter_map type_left (beside_members us ms) ≡ got)
     → applying_types us ms ≡ Ok got
 unfolding applying_types types_refusal applied_types
 types-applied us ms got both = ap₂ unless both.0 both.1

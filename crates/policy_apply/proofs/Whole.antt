@@ -1,12 +1,12 @@
 -- What is left of metadata is metadata.
 use Rattle.std.proofs.Common.{◌≡◌, ℕ, List, [], ◌∷◌, Option, Some, None, option_map, unwrap_or, Ok, Err, Bool, true, false, ◌&&◌, not, cond, map, refl, sym, ap, ◌∙◌, rules, inl, inr, arith, zero, suc}
 use Rattle.std.specs.Option.{option_map_or, option_or}
-use Rattle.std.specs.List.{list_all, join_with_byte}
+use Rattle.std.specs.List.{list_all, join_with_byte, filter_map, cons_option}
 use Rattle.std.specs.Str.{IsUtf8, IsAscii, is_utf8}
 use Rattle.std.proofs.lemmas.Str.{IsUtf8-append, IsUtf8-from_ascii, IsUtf8-nil, is_utf8-from_IsUtf8, IsUtf8-from_is_utf8}
 use Rattle.fed_json.specs.Forms.{is_before, rising, whole, members_whole}
 use Rattle.fed_json.specs.Reading.{member_of}
-use Rattle.fed_json.specs.Trees.{as_object}
+use Rattle.fed_json.specs.Trees.{as_object, object_members, member_name}
 use Rattle.fed_json.specs.Sets.{union_of, intersection_of}
 use Rattle.fed_json.specs.declared.tree.Json.{Json, Text, List as ListOf, Object, the_lemmas}
 use Rattle.fed_json.specs.declared.tree.Member.{Member}
@@ -25,7 +25,7 @@ use Rattle.policy_merge.proofs.MergedTables.{side_passes, sides-pass, table-name
 use Rattle.policy_merge.proofs.Trees.{as_object-Object, object_is}
 use Rattle.policy_merge.proofs.Words.{whole-Text, members-whole}
 use Rattle.policy_apply.specs.Acting.{Outcome, made, acted, by_add, by_subset_of, with_added, with_kept}
-use Rattle.policy_apply.specs.Applying.{object_members, member_name, beside_members, left_of, given, outcome_at, applied_parameters, applied_types}
+use Rattle.policy_apply.specs.Applying.{beside_members, left_of, outcome_at, applied_parameters, applied_types}
 use Rattle.policy_apply.proofs.Courses.{course, set_first}
 use Rattle.policy_apply.proofs.Made.{Made, made-ok, texts-list}
 use Rattle.policy_apply.proofs.Walking.{members-rise, members-split}
@@ -159,36 +159,36 @@ module _ {T : Type 0} (formed : T → Bool) (q : Json → Bool) (g : Side (Named
   abbrev pub side_with : Side (Named T) Member → Bool
   side_with = side_passes name_of member_name is_utf8 (λ e. formed e.value) (λ m. whole m.value && q m.value)
 
-  names-behind : (a : Name) (ss : List (Side (Named T) Member)) → list_all (is_before a) (map (λ s. s.name) ss) ≡ true → list_all (is_before a) (map member_name (given (λ s. option_map (member_of s.name) (g s)) ss)) ≡ true
+  names-behind : (a : Name) (ss : List (Side (Named T) Member)) → list_all (is_before a) (map (λ s. s.name) ss) ≡ true → list_all (is_before a) (map member_name (filter_map (λ s. option_map (member_of s.name) (g s)) ss)) ≡ true
   names-behind a [] all = refl
   names-behind a (s ∷ ss) all = by (g s) (names-behind a ss (right_true (is_before a s.name) _ all))
     where
-      by : (o : Option Json) → list_all (is_before a) (map member_name (given (λ s. option_map (member_of s.name) (g s)) ss)) ≡ true
-          → list_all (is_before a) (map member_name (option_map_or (λ y. y ∷ given (λ s. option_map (member_of s.name) (g s)) ss) (option_map (member_of s.name) o) (given (λ s. option_map (member_of s.name) (g s)) ss))) ≡ true
+      by : (o : Option Json) → list_all (is_before a) (map member_name (filter_map (λ s. option_map (member_of s.name) (g s)) ss)) ≡ true
+          → list_all (is_before a) (map member_name (cons_option (option_map (member_of s.name) o) (filter_map (λ s. option_map (member_of s.name) (g s)) ss))) ≡ true
       by None rest = rest
       by (Some v) rest = both_true (left_true (is_before a s.name) _ all) rest
 
-  names-rise : (ss : List (Side (Named T) Member)) → rising (map (λ s. s.name) ss) ≡ true → rising (map member_name (given (λ s. option_map (member_of s.name) (g s)) ss)) ≡ true
+  names-rise : (ss : List (Side (Named T) Member)) → rising (map (λ s. s.name) ss) ≡ true → rising (map member_name (filter_map (λ s. option_map (member_of s.name) (g s)) ss)) ≡ true
   names-rise [] rise = refl
   names-rise (s ∷ ss) rise = by (g s) (names-rise ss (rising-tail s.name _ rise))
     where
-      by : (o : Option Json) → rising (map member_name (given (λ s. option_map (member_of s.name) (g s)) ss)) ≡ true
-          → rising (map member_name (option_map_or (λ y. y ∷ given (λ s. option_map (member_of s.name) (g s)) ss) (option_map (member_of s.name) o) (given (λ s. option_map (member_of s.name) (g s)) ss))) ≡ true
+      by : (o : Option Json) → rising (map member_name (filter_map (λ s. option_map (member_of s.name) (g s)) ss)) ≡ true
+          → rising (map member_name (cons_option (option_map (member_of s.name) o) (filter_map (λ s. option_map (member_of s.name) (g s)) ss))) ≡ true
       by None rest = rest
       by (Some v) rest = rising-cons s.name _ (names-behind s.name ss (first_before s.name (map (λ (s : Side (Named T) Member). s.name) ss) rise)) rest
 
   values-good : ((s : Side (Named T) Member) → side_with s ≡ true → if_there (λ v. whole v && q v) (g s) ≡ true) → (ss : List (Side (Named T) Member)) → list_all side_with ss ≡ true
-      → list_all (λ m. is_utf8 m.name && (whole m.value && q m.value)) (given (λ s. option_map (member_of s.name) (g s)) ss) ≡ true
+      → list_all (λ m. is_utf8 m.name && (whole m.value && q m.value)) (filter_map (λ s. option_map (member_of s.name) (g s)) ss) ≡ true
   values-good each [] all = refl
   values-good each (s ∷ ss) all = by (g s) (each s (left_true (side_with s) _ all)) (values-good each ss (right_true (side_with s) _ all))
     where
-      by : (o : Option Json) → if_there (λ v. whole v && q v) o ≡ true → list_all (λ m. is_utf8 m.name && (whole m.value && q m.value)) (given (λ s. option_map (member_of s.name) (g s)) ss) ≡ true
-          → list_all (λ m. is_utf8 m.name && (whole m.value && q m.value)) (option_map_or (λ y. y ∷ given (λ s. option_map (member_of s.name) (g s)) ss) (option_map (member_of s.name) o) (given (λ s. option_map (member_of s.name) (g s)) ss)) ≡ true
+      by : (o : Option Json) → if_there (λ v. whole v && q v) o ≡ true → list_all (λ m. is_utf8 m.name && (whole m.value && q m.value)) (filter_map (λ s. option_map (member_of s.name) (g s)) ss) ≡ true
+          → list_all (λ m. is_utf8 m.name && (whole m.value && q m.value)) (cons_option (option_map (member_of s.name) o) (filter_map (λ s. option_map (member_of s.name) (g s)) ss)) ≡ true
       by None here rest = rest
       by (Some v) here rest = both_true (both_true (left_true (is_utf8 s.name) _ (left_true (side_with s) _ all)) here) rest
 
   given-good : ((s : Side (Named T) Member) → side_with s ≡ true → if_there (λ v. whole v && q v) (g s) ≡ true) → (us : List (Named T)) (t : Json) → table_formed formed us ≡ true → is_good q t ≡ true
-      → is_good q (Object (given (λ s. option_map (member_of s.name) (g s)) (beside_members us (object_members t)))) ≡ true
+      → is_good q (Object (filter_map (λ s. option_map (member_of s.name) (g s)) (beside_members us (object_members t)))) ≡ true
   given-good each us t good_u good_t =
       let ms = good-members q t good_t in
       good-Object q _ (names-rise (beside_members us (object_members t)) (ap rising (name-sides name_of member_name us (object_members t)) ∙ rising-names_of_both (map name_of us) (map member_name (object_members t)) (members-rise (object_members t) ms.0)))

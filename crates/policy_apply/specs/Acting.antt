@@ -1,8 +1,9 @@
 -- What the operators of one parameter make of its value (OpenID Federation 1.0 section 6.1.3.1).
-use Rattle.std.specs.Prelude.{◌≡◌, ℕ, List, [], ◌∷◌, Option, Some, None, option_map, Bool, true, false, ◌&&◌, ◌||◌, not, Result, Ok, Err, if◌then◌else◌}
-use Rattle.std.specs.Option.{option_and_then, option_map_or, option_or}
+use Rattle.std.specs.Prelude.{◌≡◌, ℕ, List, [], Option, Some, None, Bool, true, false, ◌&&◌, ◌||◌, not, Result, Ok, Err, if◌then◌else◌}
+use Rattle.std.specs.Option.{option_map_or, option_or}
 use Rattle.std.specs.List.{join_with_byte}
-use Rattle.fed_json.specs.Trees.{as_text}
+use Rattle.fed_ports.specs.Answers.{◌>>=◌}
+use Rattle.fed_json.specs.Trees.{as_text, texts_in}
 use Rattle.fed_json.specs.Sets.{is_among, union_of, intersection_of}
 use Rattle.fed_json.specs.declared.tree.Json.{Json, Text, List as ListOf}
 use Rattle.policy_merge.specs.declared.operator.Operator.{Operator}
@@ -20,46 +21,37 @@ use Rattle.policy_apply.specs.declared.stop.Stop.TheVariants.{Refused, Memory}
 abbrev pub Outcome : Type 0
 Outcome = Result (Option Json) Operator
 
--- the next action on what the one before left
-infixl 10 ◌>>=◌
-abbrev pub ◌>>=◌ : Outcome → (Option Json → Outcome) → Outcome
-(Ok x) >>= act = act x
-(Err operator) >>= act = Err operator
-
--- the texts of a list, where each of its values is a text
-abbrev pub texts_of : List Json → Option (List (List ℕ))
-texts_of [] = Some []
-texts_of (x ∷ xs) = option_and_then (λ word. option_map (λ rest. word ∷ rest) (texts_of xs)) (as_text x)
-
 -- words with one space between them (RFC 6749 section 3.3)
 abbrev pub joined_words : List (List ℕ) → Json
 joined_words words = Text (join_with_byte 32 words)
 
+-- the value is a text (RFC 8259 section 7)
 abbrev pub is_text : Json → Bool
 is_text tree = option_map_or (λ _. true) (as_text tree) false
 
--- `scope` stays a text where it was one or was absent
+-- `scope` stays a text where it was one or was absent (RFC 6749 section 3.3)
 abbrev pub stays_text : Name → Option Json → Bool
 stays_text name before = is_scope name && if_there is_text before
 
 -- the list as the parameter's new value, where `before` is the one it had; the operator refuses where a text is to be made of it and one of its values isn't a text
 unfoldable pub made : Name → Operator → Option Json → List Json → Outcome
 made name operator before list =
-    if stays_text name before then option_map_or (λ words. Ok (Some (joined_words words))) (texts_of list) (Err operator) else Ok (Some (ListOf list))
+    if stays_text name before then option_map_or (λ words. Ok (Some (joined_words words))) (texts_in list) (Err operator) else Ok (Some (ListOf list))
 
--- `value` sets the parameter; null says that it is absent
+-- `value` sets the parameter; null says that it is absent (section 6.1.3.1.1)
 unfoldable pub by_value : Operators → Option Json → Outcome
 by_value o x = Ok (option_map_or as_default o.value x)
 
--- `add` adds its list to the members
+-- `add` adds its list to the members, and is all of an absent parameter (section 6.1.3.1.2)
 abbrev pub with_added : Name → List Json → Option Json → Outcome
 with_added name list None = made name Add None (union_of list [])
 with_added name list (Some v) = option_map_or (λ members. made name Add (Some v) (union_of members list)) (members_of name v) (Err Add)
 
+-- the action of `add`
 unfoldable pub by_add : Name → Operators → Option Json → Outcome
 by_add name o x = option_map_or (λ list. with_added name list x) o.add (Ok x)
 
--- `default` sets a parameter that is absent
+-- `default` sets a parameter that is absent (section 6.1.3.1.3)
 unfoldable pub by_default : Operators → Option Json → Outcome
 by_default o x = Ok (option_or x o.default)
 
@@ -67,18 +59,20 @@ by_default o x = Ok (option_or x o.default)
 abbrev pub if_passes : Bool → Operator → Option Json → Outcome
 if_passes passes operator x = if passes then Ok x else Err operator
 
--- `one_of` refuses a value that isn't in its list
+-- `one_of` refuses a value that isn't in its list (section 6.1.3.1.4)
 abbrev pub is_one_of : Option (List Json) → Option Json → Bool
 is_one_of one_of x = if_there (λ list. if_there (is_among list) x) one_of
 
+-- the action of `one_of`
 unfoldable pub by_one_of : Operators → Option Json → Outcome
 by_one_of o x = if_passes (is_one_of o.one_of x) OneOf x
 
--- `subset_of` keeps the members that are in its list
+-- `subset_of` keeps the members that are in its list (section 6.1.3.1.5)
 abbrev pub with_kept : Name → List Json → Option Json → Outcome
 with_kept name list None = Ok None
 with_kept name list (Some v) = option_map_or (λ members. made name SubsetOf (Some v) (intersection_of members list)) (members_of name v) (Err SubsetOf)
 
+-- the action of `subset_of`
 unfoldable pub by_subset_of : Name → Operators → Option Json → Outcome
 by_subset_of name o x = option_map_or (λ list. with_kept name list x) o.subset_of (Ok x)
 
@@ -86,24 +80,27 @@ by_subset_of name o x = option_map_or (λ list. with_kept name list x) o.subset_
 abbrev pub has_all : Name → List Json → Json → Bool
 has_all name list v = have_members (λ members. are_among members list) (members_of name v)
 
--- `superset_of` refuses a value that lacks one of its list
+-- `superset_of` refuses a value that lacks one of its list (section 6.1.3.1.6)
 abbrev pub is_superset_of : Name → Option (List Json) → Option Json → Bool
 is_superset_of name superset_of x = if_there (λ list. if_there (has_all name list) x) superset_of
 
+-- the action of `superset_of`
 unfoldable pub by_superset_of : Name → Operators → Option Json → Outcome
 by_superset_of name o x = if_passes (is_superset_of name o.superset_of x) SupersetOf x
 
+-- the parameter is there
 abbrev pub is_there : {X : Type 0} → Option X → Bool
 is_there o = option_map_or (λ _. true) o false
 
--- `essential` refuses an absent parameter, where it is true
+-- `essential` refuses an absent parameter, where it is true (section 6.1.3.1.7)
 abbrev pub is_enough : Option Bool → Option Json → Bool
 is_enough essential x = if_there (λ required. not required || is_there x) essential
 
+-- the action of `essential`
 unfoldable pub by_essential : Operators → Option Json → Outcome
 by_essential o x = if_passes (is_enough o.essential x) Essential x
 
--- the seven actions in their order
+-- the seven actions in their order (section 6.1.3.1)
 unfoldable pub acted : Name → Operators → Option Json → Outcome
 acted name o x =
     by_value o x >>= by_add name o >>= by_default o >>= by_one_of o >>= by_subset_of name o >>= by_superset_of name o >>= by_essential o

@@ -1,16 +1,17 @@
 -- Metadata under a policy (OpenID Federation 1.0 section 6.1.4.2).
-use Rattle.std.specs.Prelude.{◌≡◌, ◌⊎◌, IsTrue, List, [], ◌∷◌, Option, Some, None, option_map, unwrap_or, Result, Ok, Err}
-use Rattle.std.specs.Option.{option_and_then, option_map_or}
-use Rattle.std.specs.Str.{is_utf8}
-use Rattle.fed_json.specs.Forms.{is_before}
+use Rattle.std.specs.Prelude.{◌≡◌, IsTrue, List, [], Option, Some, None, option_map, Result, Ok, Err}
+use Rattle.std.specs.Option.{option_and_then}
+use Rattle.std.specs.List.{filter_map}
+use Rattle.fed_ports.specs.Answers.{unless}
 use Rattle.fed_json.specs.Reading.{member_of}
-use Rattle.fed_json.specs.Trees.{as_object, find}
+use Rattle.fed_json.specs.Trees.{find, object_members, member_name}
 use Rattle.fed_json.specs.declared.tree.Json.{Json, Object}
 use Rattle.fed_json.specs.declared.tree.Member.{Member}
 use Rattle.policy_merge.specs.declared.named.Named.{Named}
 use Rattle.policy_merge.specs.declared.operator.Operator.{Operator}
 use Rattle.policy_merge.specs.declared.operators.Operators.{Operators}
 use Rattle.policy_merge.specs.Tables.{Name, Side, sides}
+use Rattle.policy_merge.specs.Places.{IsEarlier, AreUtf8}
 use Rattle.policy_merge.specs.Policies.{Parameters, Types, no_operators, operators_at}
 use Rattle.policy_merge.specs.Combining.{first}
 use Rattle.policy_merge.specs.Merging.{name_of, value_or}
@@ -18,18 +19,11 @@ use Rattle.policy_apply.specs.declared.fault.ApplyFault.{ApplyFault}
 use Rattle.policy_apply.specs.declared.fault.ApplyFault.TheVariants.{Refused, Memory}
 use Rattle.policy_apply.specs.Acting.{Outcome, acted, is_there}
 
--- the members of an object; any other tree has none
-abbrev pub object_members : Json → List Member
-object_members tree = unwrap_or (as_object tree) []
-
-abbrev pub member_name : Member → Name
-member_name m = m.name
-
 -- a policy's table beside the members of an object, name by name in byte order
 abbrev pub beside_members : {T : Type 0} → List (Named T) → List Member → List (Side (Named T) Member)
 beside_members = sides name_of member_name
 
--- what an outcome leaves, and which operator refused
+-- what an outcome leaves, and which operator refused (section 6.1.4.2)
 abbrev pub left_of : Outcome → Option Json
 left_of (Ok x) = x
 left_of (Err operator) = None
@@ -38,25 +32,23 @@ abbrev pub refuser : Outcome → Option Operator
 refuser (Ok x) = None
 refuser (Err operator) = Some operator
 
--- what the items give
-abbrev pub given : {X Y : Type 0} → (X → Option Y) → List X → List Y
-given answer [] = []
-given answer (x ∷ xs) = option_map_or (λ y. y ∷ given answer xs) (answer x) (given answer xs)
-
 -- what the policy makes of a parameter that it or the metadata has
 abbrev pub outcome_at : Side (Named Operators) Member → Outcome
 outcome_at s = acted s.name (value_or no_operators s.upper) (option_map (λ m. m.value) s.lower)
 
+-- the parameter that is left, if any
 abbrev pub parameter_left : Side (Named Operators) Member → Option Member
 parameter_left s = option_map (member_of s.name) (left_of (outcome_at s))
 
+-- the refusal of the parameter, if any
 abbrev pub parameter_refusal : Name → Side (Named Operators) Member → Option ApplyFault
 parameter_refusal entity_type s = option_map (λ operator. Refused entity_type s.name operator) (refuser (outcome_at s))
 
--- the parameters that are left, and the first that is refused
+-- the parameters that are left of an entity type
 unfoldable pub applied_parameters : Parameters → List Member → List Member
-applied_parameters policy members = given parameter_left (beside_members policy members)
+applied_parameters policy members = filter_map parameter_left (beside_members policy members)
 
+-- the first parameter of an entity type that is refused
 unfoldable pub parameters_refusal : Name → Parameters → List Member → Option ApplyFault
 parameters_refusal entity_type policy members = first (parameter_refusal entity_type) (beside_members policy members)
 
@@ -65,32 +57,32 @@ abbrev pub type_left : Side (Named Parameters) Member → Option Member
 type_left s =
     option_map (λ m. member_of s.name (Object (applied_parameters (value_or [] s.upper) (object_members m.value)))) s.lower
 
+-- the first refusal in an entity type that the metadata has
 abbrev pub type_refusal : Side (Named Parameters) Member → Option ApplyFault
 type_refusal s = option_and_then (λ m. parameters_refusal s.name (value_or [] s.upper) (object_members m.value)) s.lower
 
+-- the entity types with the parameters that are left
 unfoldable pub applied_types : Types → List Member → List Member
-applied_types policy members = given type_left (beside_members policy members)
+applied_types policy members = filter_map type_left (beside_members policy members)
 
+-- the first refusal of all entity types
 unfoldable pub types_refusal : Types → List Member → Option ApplyFault
 types_refusal policy members = first type_refusal (beside_members policy members)
 
--- the value where nothing is refused
-abbrev pub unless : {T : Type 0} → Option ApplyFault → T → Result T ApplyFault
-unless None value = Ok value
-unless (Some fault) value = Err fault
-
--- what becomes of one parameter, of the parameters of an entity type and of the entity types
+-- what becomes of one parameter: the value that is left, if any, or the refusal
 abbrev pub leaving : Name → Name → Outcome → Result (Option Json) ApplyFault
 leaving entity_type parameter (Ok x) = Ok x
 leaving entity_type parameter (Err operator) = Err (Refused entity_type parameter operator)
 
+-- what becomes of the parameters of an entity type
 unfoldable pub applying_parameters : Name → Parameters → List Member → Result (List Member) ApplyFault
 applying_parameters entity_type policy members = unless (parameters_refusal entity_type policy members) (applied_parameters policy members)
 
+-- what becomes of the entity types
 unfoldable pub applying_types : Types → List Member → Result (List Member) ApplyFault
 applying_types policy members = unless (types_refusal policy members) (applied_types policy members)
 
--- the metadata under the policy, or the first refusal: by entity type, then by parameter, then by operator
+-- the metadata under the policy (section 6.1.4.2), or the first refusal: by entity type, then by parameter, then by operator
 unfoldable pub applying : Types → Json → Result Json ApplyFault
 applying policy metadata =
     unless (types_refusal policy (object_members metadata)) (Object (applied_types policy (object_members metadata)))
@@ -108,23 +100,21 @@ IsRefusal (Refused t' p' o') t p o = Refused t' p' o' ≡ Refused t p o
 
 -- ---- at one place
 
--- what an object has under a name, and the parameter of an entity type
+-- what an object has under a name
 abbrev pub value_at : Json → Name → Option Json
 value_at tree name = find name (object_members tree)
 
+-- the parameter of an entity type (section 5)
 abbrev pub parameter_at : Json → Name → Name → Option Json
 parameter_at metadata entity_type parameter = option_and_then (λ tree. value_at tree parameter) (value_at metadata entity_type)
 
+-- the metadata has the entity type (section 5)
 abbrev pub HasType : Json → Name → Type 0
 HasType metadata entity_type = IsTrue (is_there (value_at metadata entity_type))
 
 -- what the policy makes of the parameter there
 abbrev pub outcome_in : Types → Json → Name → Name → Outcome
 outcome_in policy metadata t p = acted p (operators_at policy t p) (parameter_at metadata t p)
-
--- at an earlier entity type, or at an earlier parameter of the same, in byte order
-abbrev pub IsEarlier : Name → Name → Name → Name → Type 0
-IsEarlier t p entity_type parameter = IsTrue (is_before t entity_type) ⊎ ((t ≡ entity_type) × IsTrue (is_before p parameter))
 
 -- the operator refuses at that place, and nothing is refused at an earlier one; of want of memory nothing is said
 abbrev pub IsFirstRefusal : Types → Json → ApplyFault → Type 0
@@ -136,4 +126,4 @@ IsFirstRefusal policy metadata (Refused entity_type parameter operator) =
 -- the names in a refusal are UTF-8
 abbrev pub NamesUtf8 : ApplyFault → Type 0
 NamesUtf8 Memory = Unit {0}
-NamesUtf8 (Refused t p o) = IsTrue (is_utf8 t) × IsTrue (is_utf8 p)
+NamesUtf8 (Refused t p o) = AreUtf8 t p

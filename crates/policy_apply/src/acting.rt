@@ -1,8 +1,11 @@
+// What the operators make of one parameter.
+
 ghost use Rattle.std.specs.Prelude.{◌≡◌, IfOk, option_map};
 ghost use Rattle.std.specs.Option.{option_copied};
 ghost use Rattle.std.specs.List.{join_with_byte};
+ghost use Rattle.fed_json.specs.Trees.{texts_in};
 ghost use Rattle.policy_merge.specs.Policies.{if_there};
-ghost use Rattle.policy_apply.specs.Acting.{Leaves, acted as acted_on, by_value as value_by, by_add as add_by, by_default as default_by, by_one_of as one_of_by, by_subset_of as subset_of_by, by_superset_of as superset_of_by, by_essential as essential_by, made as made_of, stays_text as text_stays, texts_of, with_added as added_to, with_kept as kept_of, is_one_of as one_of_passes, is_superset_of as superset_of_passes, is_enough as essential_passes};
+ghost use Rattle.policy_apply.specs.Acting.{Leaves, acted as acted_on, by_value as value_by, by_add as add_by, by_default as default_by, by_one_of as one_of_by, by_subset_of as subset_of_by, by_superset_of as superset_of_by, by_essential as essential_by, made as made_of, stays_text as text_stays, with_added as added_to, with_kept as kept_of, is_one_of as one_of_passes, is_superset_of as superset_of_passes, is_enough as essential_passes};
 
 use crate::stop::Stop;
 use fed_json::{Json, intersect, union};
@@ -235,7 +238,7 @@ fn stays_text(name: &Text, before: Option<&Json>) -> bool
 
 // The texts with one space between them, where each value of the list is a text.
 fn joined(alloc: Global, list: &[Json]) -> Result<Option<Text>, Memory>
-    ensures { IfOk result (λ text. text ≡ option_map (join_with_byte 32) (texts_of list.now)) }
+    ensures { IfOk result (λ text. text ≡ option_map (join_with_byte 32) (texts_in list.now)) }
 {
     let mut text = Text::new(alloc);
     for word in list {

@@ -1,7 +1,9 @@
+// Metadata under a policy.
+
 ghost use Rattle.std.specs.Prelude.{◌≡◌, ◌↔◌, ◌∷◌, [], IfOk, IfErr, IsTrue, None, Option, List, map, option_map};
 ghost use Rattle.std.specs.Option.{option_copied};
 ghost use Rattle.fed_json.specs.Forms.{rising, members_whole};
-ghost use Rattle.fed_json.specs.Trees.{find};
+ghost use Rattle.fed_json.specs.Trees.{find, member_name};
 ghost use Rattle.fed_json.specs.declared.tree.Json.{Json as Tree};
 ghost use Rattle.policy_merge.specs.Tables.{Name};
 ghost use Rattle.policy_merge.specs.Metadata.{IsMetadata};
@@ -9,13 +11,13 @@ ghost use Rattle.policy_merge.specs.Policies.{Types as Policies, types_formed, o
 ghost use Rattle.policy_merge.specs.Combining.{conflict_in};
 ghost use Rattle.policy_merge.specs.Merging.{name_of, merging, value_or};
 ghost use Rattle.policy_apply.specs.Acting.{acted as acted_on};
-ghost use Rattle.policy_apply.specs.Applying.{Gives, applying, applying_parameters, applying_types, leaving, object_members as members_in, member_name, parameter_at, outcome_in, HasType, IsFirstRefusal, NamesUtf8, IsRefusal};
+ghost use Rattle.policy_apply.specs.Applying.{Gives, applying, applying_parameters, applying_types, leaving, parameter_at, outcome_in, HasType, IsFirstRefusal, NamesUtf8, IsRefusal};
 ghost use Rattle.policy_apply.specs.Keeping.{KeepsWithin, AddsWords, IsMergedOf, OfEach};
 
 use crate::acting::acted;
 use crate::fault::ApplyFault;
 use crate::stop::Stop;
-use fed_json::{Json, Member};
+use fed_json::{Json, Member, object_members};
 use fed_ports::{Duplicate, Seq, Text};
 use policy_merge::{
     Named, Operator, Operators, Parameters, Policy, Side, Sides, operators_of, parameters_of,
@@ -57,15 +59,6 @@ pub fn apply(alloc: Global, policy: &Policy, metadata: &Json) -> Result<Json, Ap
 {
     let types = apply_types(alloc, policy.types(), object_members(metadata))?;
     Ok(Json::Object(types))
-}
-
-fn object_members<'a>(tree: &'a Json) -> &'a [Member]
-    ensures { result.now ≡ members_in tree.now }
-{
-    match tree {
-        Json::Object(members) => members.as_slice(),
-        _ => &[],
-    }
 }
 
 fn apply_types(

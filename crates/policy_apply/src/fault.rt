@@ -1,13 +1,21 @@
-use fed_ports::{Memory, Text};
+// Why metadata isn't what a policy asks for.
+
+ghost use Rattle.std.specs.Prelude.{◌≡◌, IfOk};
+
+use fed_ports::{Duplicate, Memory, Text};
 use policy_merge::Operator;
+use std::alloc::Global;
 
 /// Why metadata isn't what a policy asks for.
 #[derive(Drop)]
 pub enum ApplyFault {
     /// The operator of the policy refuses the parameter of the entity type.
     Refused {
+        /// The name of the entity type, which is UTF-8.
         entity_type: Text,
+        /// The name of the parameter, which is UTF-8.
         parameter: Text,
+        /// The first operator that refuses, in the order in which they act.
         operator: Operator,
     },
     /// Memory was wanting.
@@ -22,5 +30,22 @@ impl From<Memory> for ApplyFault {
 
     fn from(_: Memory) -> Self {
         ApplyFault::Memory
+    }
+}
+
+impl Duplicate for ApplyFault {
+    fn copy(&self, alloc: Global) -> Result<Self, Memory> {
+        match self {
+            ApplyFault::Refused {
+                entity_type,
+                parameter,
+                operator,
+            } => Ok(ApplyFault::Refused {
+                entity_type: entity_type.copy(alloc)?,
+                parameter: parameter.copy(alloc)?,
+                operator: *operator,
+            }),
+            ApplyFault::Memory => Ok(ApplyFault::Memory),
+        }
     }
 }

@@ -1,3 +1,5 @@
+// Why a parameter has no outcome.
+
 use fed_ports::Memory;
 use policy_merge::Operator;
 

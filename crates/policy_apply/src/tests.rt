@@ -5,8 +5,8 @@ ghost use Rattle.policy_merge.specs.Combining.{conflict_in};
 
 use crate::{ApplyFault, apply};
 use fed_json::{TreeFault, is_whole, read_tree, write_tree};
-use fed_ports::{Memory, Text};
-use policy_merge::{Policy, PolicyFault, PolicyShape, is_metadata};
+use fed_ports::{Duplicate, Memory, Text};
+use policy_merge::{Operator, Policy, PolicyFault, PolicyShape, is_metadata};
 use std::alloc::Global;
 use std::test::Fail;
 
@@ -167,5 +167,18 @@ fn metadata_is_applied(rt: HostRuntime) -> Result<(), Fail> {
         let got = applied(rt.alloc(), upper, lower, metadata)?;
         assert!(rt; got.as_slice() == expected.as_bytes(), "at {upper} {lower}");
     }
+    Ok(())
+}
+
+#[test]
+fn refusals_are_copied(rt: HostRuntime) -> Result<(), Fail> {
+    let alloc = rt.alloc();
+    let fault = ApplyFault::Refused {
+        entity_type: Text::of(alloc, b"t")?,
+        parameter: Text::of(alloc, b"p")?,
+        operator: Operator::OneOf,
+    };
+    let shown = refusal(alloc, &fault.copy(alloc)?)?;
+    assert!(rt; shown.as_slice() == b"Refused t p one_of".as_slice());
     Ok(())
 }

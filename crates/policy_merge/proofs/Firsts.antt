@@ -4,7 +4,8 @@ use Rattle.std.specs.Option.{option_map_or}
 use Rattle.std.proofs.lemmas.List.{drop_more}
 use Rattle.policy_merge.specs.declared.fault.PolicyFault.{PolicyFault}
 use Rattle.policy_merge.specs.declared.fault.PolicyFault.TheVariants.{Conflict, Memory}
-use Rattle.policy_merge.specs.Combining.{first, unless, Gives, IsFault}
+use Rattle.fed_ports.specs.Answers.{unless}
+use Rattle.policy_merge.specs.Combining.{first, Gives, IsFault}
 
 module _ {X Y : Type 0} (answer : X → Option Y) where
   -- an item that gives no answer is passed over
@@ -30,18 +31,18 @@ module _ {X Y : Type 0} (answer : X → Option Y) where
   first-append_none xs x none here = first-append xs (x ∷ []) none ∙ ap (λ o. option_map_or Some o None) here
 
 -- what `unless` answers
-pub unless_ok : {T : Type 0} (o : Option PolicyFault) (value got : T) → unless o value ≡ Ok got → (o ≡ None) × (value ≡ got)
+pub unless_ok : {T E : Type 0} (o : Option E) (value got : T) → unless o value ≡ Ok got → (o ≡ None) × (value ≡ got)
 unless_ok None value got e = (refl, (cc))
 unless_ok (Some f) value got e = absurd (cc)
 
-pub unless_err : {T : Type 0} (o : Option PolicyFault) (value : T) (f : PolicyFault) → unless o value ≡ Err f → o ≡ Some f
+pub unless_err : {T E : Type 0} (o : Option E) (value : T) (f : E) → unless o value ≡ Err f → o ≡ Some f
 unless_err None value f e = absurd (cc)
 unless_err (Some g) value f e = (cc)
 
-pub unless_none : {T : Type 0} (o : Option PolicyFault) (value : T) → o ≡ None → unless o value ≡ Ok value
+pub unless_none : {T E : Type 0} (o : Option E) (value : T) → o ≡ None → unless o value ≡ Ok value
 unless_none o value e = ap (λ p. unless p value) e
 
-pub unless_some : {T : Type 0} (o : Option PolicyFault) (value : T) (f : PolicyFault) → o ≡ Some f → unless o value ≡ Err f
+pub unless_some : {T E : Type 0} (o : Option E) (value : T) (f : E) → o ≡ Some f → unless o value ≡ Err f
 unless_some o value f e = ap (λ p. unless p value) e
 
 -- the fault that was named is the one expected

@@ -6,7 +6,7 @@ use Rattle.std.specs.Str.{is_utf8}
 use Rattle.fed_json.specs.declared.tree.Json.{Json}
 use Rattle.fed_json.specs.declared.tree.Member.{Member}
 use Rattle.fed_json.specs.Forms.{rising, whole, well_formed, has_odd}
-use Rattle.fed_json.specs.Trees.{as_list, as_object, find}
+use Rattle.fed_json.specs.Trees.{as_list, as_object, find, optional}
 use Rattle.policy_merge.specs.declared.operator.Operator.{Operator}
 use Rattle.policy_merge.specs.declared.operator.Operator.TheVariants.{Value, Add, Default, OneOf, SubsetOf, SupersetOf, Essential}
 use Rattle.policy_merge.specs.declared.operators.Operators.{Operators}
@@ -16,7 +16,7 @@ use Rattle.policy_merge.specs.Names.{operator_name}
 use Rattle.policy_merge.specs.Policies.{Types, named, is_null, if_there, operators_formed, table_formed, parameters_formed, types_formed}
 use Rattle.policy_merge.specs.declared.fault.PolicyShape.{PolicyShape}
 use Rattle.policy_merge.specs.declared.fault.PolicyShape.TheVariants.{Shape, Memory}
-use Rattle.policy_merge.specs.Shapes.{Reads, as_default, as_truth, shaped, at, operators_of, operators_shape, table_of, table_shape, policy_shape}
+use Rattle.policy_merge.specs.Shapes.{Reads, as_default, as_truth, at, operators_of, operators_shape, table_of, table_shape, policy_shape}
 use Rattle.policy_merge.proofs.Order.{left_true, right_true, both_true}
 use Rattle.policy_merge.proofs.Trees.{whole-items, whole-members}
 
@@ -51,7 +51,7 @@ module _ {T : Type 0} (shape : Json → Option T) (formed : T → Bool) (each : 
       here = left_true (is_utf8 m.name && whole m.value) (list_all (λ (m : Member). is_utf8 m.name && whole m.value) ms) good
 
       by : (v : Option T) (r : Option (List (Named T))) → shape m.value ≡ v → table_of shape ms ≡ r
-          → option_and_then (λ value. option_map (λ rest. named m.name value ∷ rest) r) v ≡ Some table
+          → option_and_then (λ x. option_map (λ xs. x ∷ xs) r) (option_map (named m.name) v) ≡ Some table
           → ((rest : List (Named T)) → table_of shape ms ≡ Some rest
           → (map (λ e. e.name) rest ≡ map (λ m. m.name) ms) × (list_all (λ e. is_utf8 e.name && formed e.value) rest ≡ true))
           → (map (λ e. e.name) table ≡ m.name ∷ map (λ m. m.name) ms) × (list_all (λ e. is_utf8 e.name && formed e.value) table ≡ true)
@@ -89,10 +89,10 @@ found-whole name (m ∷ ms) good =
     by false here rest = rest
 
 -- what is of the shape passes the test
-shaped-formed : {X : Type 0} (shape : Json → Option X) (p : X → Bool) → ((t : Json) (v : X) → whole t ≡ true → shape t ≡ Some v → p v ≡ true) → (found : Option Json) (got : Option X)
-    → if_there whole found ≡ true → shaped shape found ≡ Some got → if_there p got ≡ true
-shaped-formed {X} shape p each None got good e = let is : ◌≡◌ {A = Option X} None got = (cc) in subst (λ o. if_there p o ≡ true) is refl
-shaped-formed {X} shape p each (Some t) got good e = by (shape t) refl e
+optional-formed : {X : Type 0} (shape : Json → Option X) (p : X → Bool) → ((t : Json) (v : X) → whole t ≡ true → shape t ≡ Some v → p v ≡ true) → (found : Option Json) (got : Option X)
+    → if_there whole found ≡ true → optional shape found ≡ Some got → if_there p got ≡ true
+optional-formed {X} shape p each None got good e = let is : ◌≡◌ {A = Option X} None got = (cc) in subst (λ o. if_there p o ≡ true) is refl
+optional-formed {X} shape p each (Some t) got good e = by (shape t) refl e
   where
     by : (o : Option X) → shape t ≡ o → option_map Some o ≡ Some got → if_there p got ≡ true
     by None is e = absurd (cc)
@@ -100,7 +100,7 @@ shaped-formed {X} shape p each (Some t) got good e = by (shape t) refl e
 
 at-formed : {X : Type 0} (shape : Json → Option X) (p : X → Bool) → ((t : Json) (v : X) → whole t ≡ true → shape t ≡ Some v → p v ≡ true) → (operator : Operator) (ms : List Member) (got : Option X)
     → list_all (λ m. is_utf8 m.name && whole m.value) ms ≡ true → at shape operator ms ≡ Some got → if_there p got ≡ true
-at-formed shape p each operator ms got good e = shaped-formed shape p each (find (operator_name operator) ms) got (found-whole (operator_name operator) ms good) e
+at-formed shape p each operator ms got good e = optional-formed shape p each (find (operator_name operator) ms) got (found-whole (operator_name operator) ms good) e
 
 value-formed : (t v : Json) → whole t ≡ true → Some t ≡ Some v → whole v ≡ true
 value-formed t v good e = let is : t ≡ v = (cc) in ap whole (sym is) ∙ good

@@ -22,10 +22,10 @@ module _ {T : Type 0} (shape : Json → Option T) (before : List (Named T)) wher
       → onto (table_of shape (drop i ms)) ≡ option_map (λ xs. (before ++ named m.name value ∷ []) ++ xs) (table_of shape (drop (i + 1) ms))
   table_more ms i m value lt is e =
       ap (λ xs. onto (table_of shape xs)) (drop_more ms i m lt ∙ ap (λ x. x ∷ drop (i + 1) ms) (sym is))
-      ∙ ap (λ o. onto (option_and_then (λ v. option_map (λ rest. named m.name v ∷ rest) (table_of shape (drop (i + 1) ms))) o)) e
+      ∙ ap (λ o. onto (option_and_then (λ x. option_map (λ xs. x ∷ xs) (table_of shape (drop (i + 1) ms))) (option_map (named m.name) o))) e
       ∙ moved (named m.name value) _
 
   pub table_fails : (ms : List Member) (i : ℕ) (m : Member) → i < length ms → m ≡ get_or ms i m → shape m.value ≡ None → onto (table_of shape (drop i ms)) ≡ None
   table_fails ms i m lt is e =
       ap (λ xs. onto (table_of shape xs)) (drop_more ms i m lt ∙ ap (λ x. x ∷ drop (i + 1) ms) (sym is))
-      ∙ ap (λ o. onto (option_and_then (λ v. option_map (λ rest. named m.name v ∷ rest) (table_of shape (drop (i + 1) ms))) o)) e
+      ∙ ap (λ o. onto (option_and_then (λ x. option_map (λ xs. x ∷ xs) (table_of shape (drop (i + 1) ms))) (option_map (named m.name) o))) e

@@ -32,6 +32,7 @@ pub record Judged : Type 0 where
   pub value_members : Option (List Json)
   pub default_members : Option (List Json)
 
+-- the operators of the parameter, judged by the members that its values have
 unfoldable pub judged : Name → Operators → Judged
 judged name o = record { operators = o; value_members = option_and_then (members_of name) o.value; default_members = option_and_then (members_of name) o.default }
 
@@ -78,17 +79,13 @@ first answer (x ∷ xs) = option_map_or Some (answer x) (first answer xs)
 abbrev pub conflict_at : Name → Name → Pair → PolicyFault
 conflict_at entity_type parameter pair = Conflict entity_type parameter pair.0 pair.1
 
--- the first conflict of a policy by itself: by entity type, then by parameter, then in the order of the pairs
+-- the first conflict of an entity type by itself: by parameter, then in the order of the pairs
 unfoldable pub conflict_in_parameters : Name → Parameters → Option PolicyFault
 conflict_in_parameters entity_type = first (λ p. option_map (conflict_at entity_type p.name) (clash p.name p.value))
 
+-- the first conflict of a policy by itself: by entity type, then as above
 unfoldable pub conflict_in : Types → Option PolicyFault
 conflict_in = first (λ t. conflict_in_parameters t.name t.value)
-
--- the value where there is no conflict
-abbrev pub unless : {T : Type 0} → Option PolicyFault → T → Result T PolicyFault
-unless None value = Ok value
-unless (Some fault) value = Err fault
 
 -- the fault is the one that is named, or want of memory
 abbrev pub IsFault : PolicyFault → PolicyFault → Type 0

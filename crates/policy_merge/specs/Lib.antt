@@ -1,5 +1,6 @@
 pub mod Names
 pub mod Tables
+pub mod Places
 pub mod Scope
 pub mod Policies
 pub mod Combining

@@ -15,5 +15,6 @@ is_object_of test tree = option_map_or (list_all (λ m. test m.value)) (as_objec
 abbrev pub is_metadata : Json → Bool
 is_metadata tree = whole tree && is_object_of (is_object_of (λ value. not (is_null value))) tree
 
+-- the tree is metadata
 abbrev pub IsMetadata : Json → Type 0
 IsMetadata tree = IsTrue (is_metadata tree)

@@ -3,6 +3,7 @@ use Rattle.std.specs.Prelude.{ℕ, List, codes}
 use Rattle.policy_merge.specs.declared.operator.Operator.{Operator}
 use Rattle.policy_merge.specs.declared.operator.Operator.TheVariants.{Value, Add, Default, OneOf, SubsetOf, SupersetOf, Essential}
 
+-- the name as it stands in a policy
 abbrev pub operator_name : Operator → List ℕ
 operator_name Value = codes "value"
 operator_name Add = codes "add"

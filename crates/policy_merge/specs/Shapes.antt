@@ -1,7 +1,7 @@
 -- The shape of a policy as a tree (OpenID Federation 1.0 section 6.1.2).
-use Rattle.std.specs.Prelude.{◌≡◌, List, [], ◌∷◌, Option, Some, None, option_map, Bool, Result, Ok, Err, if◌then◌else◌}
+use Rattle.std.specs.Prelude.{◌≡◌, List, Option, Some, None, option_map, Bool, Result, Ok, Err, if◌then◌else◌}
 use Rattle.std.specs.Option.{option_and_then}
-use Rattle.fed_json.specs.Trees.{as_list, as_object, find}
+use Rattle.fed_json.specs.Trees.{as_list, as_object, find, optional, each}
 use Rattle.fed_json.specs.Forms.{has_odd}
 use Rattle.fed_json.specs.declared.tree.Json.{Json, out-Json}
 use Rattle.fed_json.specs.declared.tree.Json.TheOpen.{Json-F}
@@ -15,25 +15,22 @@ use Rattle.policy_merge.specs.declared.named.Named.{Named}
 use Rattle.policy_merge.specs.Names.{operator_name}
 use Rattle.policy_merge.specs.Policies.{Types, named, is_null}
 
+-- true or false, at one level of a tree
 abbrev truth_in : Json-F Json Member → Option Bool
 truth_in (Json-F.Bool b) = Some b
 truth_in _ = None
 
--- true or false
+-- true or false (RFC 8259 section 3)
 abbrev pub as_truth : Json → Option Bool
 as_truth tree = truth_in (out-Json tree)
 
--- any tree but null
+-- any tree but null (section 6.1.3.1.3)
 abbrev pub as_default : Json → Option Json
 as_default tree = if is_null tree then None else Some tree
 
 -- what stands under the operator's name: nothing, or something of the operator's shape
-abbrev pub shaped : {X : Type 0} → (Json → Option X) → Option Json → Option (Option X)
-shaped shape None = Some None
-shaped shape (Some tree) = option_map Some (shape tree)
-
 abbrev pub at : {X : Type 0} → (Json → Option X) → Operator → List Member → Option (Option X)
-at shape operator members = shaped shape (find (operator_name operator) members)
+at shape operator members = optional shape (find (operator_name operator) members)
 
 -- the operators of a parameter; other members of the object are left unread
 abbrev pub operators_of : List Member → Option Operators
@@ -49,14 +46,15 @@ operators_of ms =
       essential = essential;
     }) (at as_truth Essential ms)) (at as_list SupersetOf ms)) (at as_list SubsetOf ms)) (at as_list OneOf ms)) (at as_default Default ms)) (at as_list Add ms)) (at Some Value ms)
 
+-- an object of operators (section 6.1.3)
 unfoldable pub operators_shape : Json → Option Operators
 operators_shape tree = option_and_then operators_of (as_object tree)
 
--- an object as a table, where each of its values has the shape
+-- members as a table, where each of their values has the shape
 abbrev pub table_of : {T : Type 0} → (Json → Option T) → List Member → Option (List (Named T))
-table_of shape [] = Some []
-table_of shape (m ∷ ms) = option_and_then (λ value. option_map (λ rest. named m.name value ∷ rest) (table_of shape ms)) (shape m.value)
+table_of shape = each (λ m. option_map (named m.name) (shape m.value))
 
+-- an object as a table
 unfoldable pub table_shape : {T : Type 0} → (Json → Option T) → Json → Option (List (Named T))
 table_shape shape tree = option_and_then (table_of shape) (as_object tree)
 

@@ -1,4 +1,5 @@
--- Lists of items with names, in rising byte order of the names, and two such lists side by side.
+-- Lists of items with names, in rising byte order of the names, and two such lists side by side, as two policies are
+-- merged (OpenID Federation 1.0 section 6.1.4.1) and one is applied to metadata (section 6.1.4.2).
 use Rattle.std.specs.Prelude.{ℕ, List, [], ◌∷◌, Option, Some, None, map, bytes_eq, if◌then◌else◌}
 use Rattle.std.specs.Ordering.{nat_cmp, match_ordering}
 use Rattle.std.specs.Cmp.Lexicographic.{slice_cmp}
@@ -29,6 +30,7 @@ pub record Side (U L : Type 0) : Type 0 where
   pub upper : Option U
   pub lower : Option L
 
+-- what the two lists have under that name
 abbrev pub side_at : {U L : Type 0} → (U → Name) → (L → Name) → List U → List L → Name → Side U L
 side_at upper_name lower_name upper lower name =
     record { name = name; upper = item_of upper_name name upper; lower = item_of lower_name name lower }

@@ -1,9 +1,12 @@
+// Which operators stand together.
+
 ghost use Rattle.std.specs.Prelude.{◌≡◌, ℕ, List, Option, IfOk, true, not};
 ghost use Rattle.std.specs.List.{find};
 ghost use Rattle.fed_json.specs.declared.tree.Json.{Json as Tree};
 ghost use Rattle.std.specs.Option.{option_copied, option_and_then, option_map_or};
 ghost use Rattle.fed_json.specs.Sets.{is_among};
-ghost use Rattle.policy_merge.specs.Combining.{Gives, IsFault, conflict_at, conflict_in, conflict_in_parameters, unless, stand as stands, clash as clash_of, are_among, have_members, if_both};
+ghost use Rattle.fed_ports.specs.Answers.{unless};
+ghost use Rattle.policy_merge.specs.Combining.{Gives, IsFault, conflict_at, conflict_in, conflict_in_parameters, stand as stands, clash as clash_of, are_among, have_members, if_both};
 ghost use Rattle.policy_merge.specs.Scope.{members_of, words_in as words_of};
 ghost use Rattle.policy_merge.specs.Policies.{is_null as null_tree};
 

@@ -1,3 +1,5 @@
+// Why a tree is no policy, and why policies don't merge.
+
 ghost use Rattle.std.specs.Prelude.{◌≡◌, IfOk};
 
 use crate::operator::Operator;
@@ -30,11 +32,16 @@ impl From<Memory> for PolicyShape {
 /// Why a policy can't be used, or two policies can't be merged.
 #[derive(Drop)]
 pub enum PolicyFault {
-    /// Two operators of the parameter don't stand together, or one operator has two values that can't be merged and is named twice.
+    /// Two operators of the parameter don't stand together, or one operator has two values that can't be merged and is
+    /// named twice.
     Conflict {
+        /// The name of the entity type, which is UTF-8.
         entity_type: Text,
+        /// The name of the parameter, which is UTF-8.
         parameter: Text,
+        /// The operator that comes first in the order of the pairs.
         first: Operator,
+        /// The other operator, or the same one.
         second: Operator,
     },
     /// Memory was wanting.

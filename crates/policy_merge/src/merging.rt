@@ -1,3 +1,5 @@
+// Two policies as one.
+
 ghost use Rattle.std.specs.Prelude.{◌≡◌, ◌||◌, [], IfOk, IsTrue};
 ghost use Rattle.std.specs.Option.{option_copied};
 ghost use Rattle.fed_json.specs.Sets.{same, union_of, intersection_of};
@@ -9,7 +11,7 @@ use crate::combining::{clash, conflict};
 use crate::fault::PolicyFault;
 use crate::named::Named;
 use crate::operator::Operator;
-use crate::operators::{Operators, copied};
+use crate::operators::Operators;
 use crate::sides::Sides;
 use fed_json::{Json, intersect, json_equal, union};
 use fed_ports::{Duplicate, Memory, Seq, Text};
@@ -161,8 +163,8 @@ fn upper_first(
     ensures { IfOk result (λ merged. merged ≡ met (λ u l. u) upper.now lower.now) }
 {
     match upper {
-        Some(_) => copied(alloc, upper),
-        None => copied(alloc, lower),
+        Some(_) => upper.copy(alloc),
+        None => lower.copy(alloc),
     }
 }
 
@@ -175,8 +177,8 @@ fn of_either(
 {
     match (upper, lower) {
         (Some(upper), Some(lower)) => Ok(Some(union(alloc, upper, lower)?)),
-        (Some(_), None) => copied(alloc, upper),
-        (None, _) => copied(alloc, lower),
+        (Some(_), None) => upper.copy(alloc),
+        (None, _) => lower.copy(alloc),
     }
 }
 
@@ -189,8 +191,8 @@ fn of_both(
 {
     match (upper, lower) {
         (Some(upper), Some(lower)) => Ok(Some(intersect(alloc, upper, lower)?)),
-        (Some(_), None) => copied(alloc, upper),
-        (None, _) => copied(alloc, lower),
+        (Some(_), None) => upper.copy(alloc),
+        (None, _) => lower.copy(alloc),
     }
 }
 

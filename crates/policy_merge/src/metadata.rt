@@ -1,3 +1,5 @@
+// Which trees are metadata.
+
 ghost use Rattle.std.specs.Prelude.{◌≡◌, ◌↔◌, IsTrue, not};
 ghost use Rattle.std.specs.List.{list_all};
 ghost use Rattle.policy_merge.specs.Policies.{is_null as null_tree};

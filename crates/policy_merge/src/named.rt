@@ -1,3 +1,5 @@
+// Items with names.
+
 ghost use Rattle.std.specs.Prelude.{◌≡◌, List, ℕ};
 
 use fed_json::Member;
@@ -16,7 +18,9 @@ pub trait HasName {
 /// A value and its name, as an entity type with its parameters or a parameter with its operators.
 #[derive(Drop)]
 pub struct Named<T> {
+    /// The name's bytes, which are UTF-8 in a policy.
     pub name: Text,
+    /// What has the name.
     pub value: T,
 }
 

@@ -1,4 +1,6 @@
-ghost use Rattle.std.specs.Prelude.{◌≡◌, IfOk};
+// The operators of one parameter.
+
+ghost use Rattle.std.specs.Prelude.{◌≡◌};
 ghost use Rattle.policy_merge.specs.Policies.{no_operators};
 
 use fed_json::Json;
@@ -44,22 +46,13 @@ impl Operators {
 impl Duplicate for Operators {
     fn copy(&self, alloc: Global) -> Result<Self, Memory> {
         Ok(Operators {
-            value: copied(alloc, &self.value)?,
-            add: copied(alloc, &self.add)?,
-            default: copied(alloc, &self.default)?,
-            one_of: copied(alloc, &self.one_of)?,
-            subset_of: copied(alloc, &self.subset_of)?,
-            superset_of: copied(alloc, &self.superset_of)?,
+            value: self.value.copy(alloc)?,
+            add: self.add.copy(alloc)?,
+            default: self.default.copy(alloc)?,
+            one_of: self.one_of.copy(alloc)?,
+            subset_of: self.subset_of.copy(alloc)?,
+            superset_of: self.superset_of.copy(alloc)?,
             essential: self.essential,
         })
-    }
-}
-
-pub(crate) fn copied<T: Duplicate>(alloc: Global, value: &Option<T>) -> Result<Option<T>, Memory>
-    ensures { IfOk result (λ copy. copy ≡ value.now) }
-{
-    match value {
-        Some(value) => Ok(Some(value.copy(alloc)?)),
-        None => Ok(None),
     }
 }

@@ -1,8 +1,11 @@
+// Policies.
+
 ghost use Rattle.std.specs.Prelude.{◌≡◌, [], IfOk, IfErr, IsTrue, None};
 ghost use Rattle.fed_json.specs.Forms.{IsWellFormed};
 ghost use Rattle.policy_merge.specs.Policies.{types_formed, operators_at};
 ghost use Rattle.policy_merge.specs.Tables.{Name};
-ghost use Rattle.policy_merge.specs.Combining.{Gives, conflict_in, unless};
+ghost use Rattle.fed_ports.specs.Answers.{unless};
+ghost use Rattle.policy_merge.specs.Combining.{Gives, conflict_in};
 ghost use Rattle.policy_merge.specs.Merging.{merging, merged_operators, IsFirst, clash_in, merge_clash_in, NamesUtf8};
 ghost use Rattle.policy_merge.specs.Shapes.{Reads, policy_shape};
 

@@ -1,3 +1,5 @@
+// Policies from trees.
+
 ghost use Rattle.std.specs.Prelude.{◌≡◌, Option, Some};
 ghost use Rattle.std.specs.Option.{option_copied};
 ghost use Rattle.fed_json.specs.Trees.{as_list, find as value_at};

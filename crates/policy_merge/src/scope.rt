@@ -1,3 +1,5 @@
+// The parameter scope, and the members of values.
+
 ghost use Rattle.std.specs.Prelude.{◌≡◌, IfOk};
 ghost use Rattle.std.specs.Option.{option_or, option_copied};
 ghost use Rattle.fed_json.specs.Trees.{as_list};

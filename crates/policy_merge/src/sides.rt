@@ -1,3 +1,5 @@
+// Two lists side by side.
+
 ghost use Rattle.std.specs.Prelude.{◌≡◌, ◌∷◌, ◌<◌, ◌+◌, [], map, length, MatchOption, IsTrue, Some, None};
 ghost use Rattle.std.specs.Option.{option_copied};
 ghost use Rattle.fed_json.specs.Forms.{rising};
@@ -10,15 +12,20 @@ use std::cmp::Ordering;
 /// What two lists have under one name: one of them or both have it.
 #[derive(Drop)]
 pub struct Side<'a, U, L> {
+    /// The name that both items have.
     pub name: &'a Text,
+    /// The item of the upper list.
     pub upper: Option<&'a U>,
+    /// The item of the lower list.
     pub lower: Option<&'a L>,
 }
 
 /// What is left of two lists that are gone through side by side, in byte order of the names.
 #[derive(Drop)]
 pub struct Sides<'a, U, L> {
+    /// The items that are left of the upper list, whose names rise.
     pub upper: &'a [U],
+    /// The items that are left of the lower list, whose names rise.
     pub lower: &'a [L],
 }
 

@@ -18,7 +18,7 @@ use Rattle.sealed.specs.declared.fault.SealFault.{SealFault}
 use Rattle.sealed.specs.declared.fault.SealFault.TheVariants.{NoKid, NoKey, BadSignature, Memory}
 use Rattle.sealed.specs.Answers.{IsChecked, Decides}
 use Rattle.sealed.specs.Seals.{Pair, IsSealed, IsUnsealed, IsSealedBy, named_key}
-use Rattle.sealed.specs.Sealing.{header_of, signed_of, sealed_text, signer_name}
+use Rattle.sealed.specs.Sealing.{header_of, signed_of, sealed_payload, signer_name}
 
 -- ---- a text is one compact text
 
@@ -63,16 +63,16 @@ pub name_is : (keys public kid : List ℕ) → public ≡ public_key P128S keys 
 unfolding signer_name
 name_is keys public kid own named = named ∙ ap thumbprint_of own
 
-pub signed_is : (keys typ kid payload signed : List ℕ) (claims header : Json) → kid ≡ signer_name keys → header ≡ header_of kid typ → payload ≡ compact claims
-    → signed ≡ signing_input_of (compact header) payload → signed ≡ signed_of keys typ claims
+pub signed_is : (keys typ kid payload signed : List ℕ) (header : Json) → kid ≡ signer_name keys → header ≡ header_of kid typ
+    → signed ≡ signing_input_of (compact header) payload → signed ≡ signed_of keys typ payload
 unfolding signed_of
-signed_is keys typ kid payload signed claims header named tree written input =
-    input ∙ ap₂ (λ h p. signing_input_of (compact h) p) (tree ∙ ap (λ k. header_of k typ) named) written
+signed_is keys typ kid payload signed header named tree input =
+    input ∙ ap (λ h. signing_input_of (compact h) payload) (tree ∙ ap (λ k. header_of k typ) named)
 
-pub text_is : (r : Result (List ℕ) NoMemory) (keys typ signed signature : List ℕ) (claims : Json) → signed ≡ signed_of keys typ claims → signature ≡ signature_of P128S keys signed
-    → IfOk r (λ text. text ≡ joined signed signature) → IfOk r (λ text. text ≡ sealed_text keys typ claims)
-unfolding sealed_text
-text_is r keys typ signed signature claims is made joins =
+pub text_is : (r : Result (List ℕ) NoMemory) (keys typ payload signed signature : List ℕ) → signed ≡ signed_of keys typ payload → signature ≡ signature_of P128S keys signed
+    → IfOk r (λ text. text ≡ joined signed signature) → IfOk r (λ text. text ≡ sealed_payload keys typ payload)
+unfolding sealed_payload
+text_is r keys typ payload signed signature is made joins =
     subst (λ expected. IfOk r (λ text. text ≡ expected)) (ap₂ joined is (made ∙ ap (signature_of P128S keys) is)) joins
 
 -- the text with these parts

@@ -1,4 +1,4 @@
--- The text that a key pair seals claims as (RFC 7515 section 5.1).
+-- The text that a key pair seals claims, or any payload, as (RFC 7515 section 5.1).
 use Rattle.std.specs.Prelude.{ℕ, List, [], ◌∷◌, codes, IsSome}
 use Rattle.fed_json.specs.declared.tree.Json.{Json, Object}
 use Rattle.fed_json.specs.Compact.{compact}
@@ -11,11 +11,11 @@ use Rattle.slh_hash.specs.declared.params.TheConstants.{P128S}
 use Rattle.slh_dsa.specs.Keys.{public_key}
 use Rattle.slh_dsa.specs.Signing.{signature_of}
 
--- the claims are an object
+-- the claims are an object (RFC 7519 section 4)
 abbrev pub IsObject : Json → Type 0
 IsObject claims = IsSome (as_object claims)
 
--- the name of a signer: its thumbprint
+-- the name of a signer: its thumbprint (RFC 7638)
 unfoldable pub signer_name : List ℕ → List ℕ
 signer_name keys = thumbprint_of (public_key P128S keys)
 
@@ -24,10 +24,14 @@ abbrev pub header_of : List ℕ → List ℕ → Json
 header_of kid typ = Object
     (text_member (codes "alg") algorithm ∷ text_member (codes "kid") kid ∷ text_member (codes "typ") typ ∷ [])
 
--- what is signed: the header and the claims, as compact JSON
-unfoldable pub signed_of : List ℕ → List ℕ → Json → List ℕ
-signed_of keys typ claims = signing_input_of (compact (header_of (signer_name keys) typ)) (compact claims)
+-- what is signed: the header and the payload (RFC 7515 section 5.1)
+unfoldable pub signed_of : List ℕ → List ℕ → List ℕ → List ℕ
+signed_of keys typ payload = signing_input_of (compact (header_of (signer_name keys) typ)) payload
 
--- the header, the claims and their signature
-unfoldable pub sealed_text : List ℕ → List ℕ → Json → List ℕ
-sealed_text keys typ claims = joined (signed_of keys typ claims) (signature_of P128S keys (signed_of keys typ claims))
+-- the header, the payload and their signature (RFC 7515 section 7.1)
+unfoldable pub sealed_payload : List ℕ → List ℕ → List ℕ → List ℕ
+sealed_payload keys typ payload = joined (signed_of keys typ payload) (signature_of P128S keys (signed_of keys typ payload))
+
+-- the same of claims, as compact JSON
+abbrev pub sealed_text : List ℕ → List ℕ → Json → List ℕ
+sealed_text keys typ claims = sealed_payload keys typ (compact claims)

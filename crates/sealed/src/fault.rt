@@ -1,3 +1,5 @@
+// Why a text isn't sealed by a set.
+
 use thiserror::Error;
 
 /// Why a text isn't sealed by a key of a set.

@@ -15,6 +15,6 @@ mod tests;
 
 pub use fault::SealFault;
 pub use pairs::{Sealed, Unsealed};
-pub use sealing::seal;
+pub use sealing::{seal, seal_payload};
 pub use tested::Tested;
 pub use testing::{check_sealed, test_key};

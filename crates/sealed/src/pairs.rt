@@ -1,3 +1,5 @@
+// A text and a key, tested.
+
 ghost use Rattle.std.specs.Prelude.{◌≡◌, IfOk};
 ghost use Rattle.jws_form.specs.declared.compact.Compact.{Compact};
 ghost use Rattle.jws_form.specs.Compact.{IsCompact};

@@ -1,3 +1,5 @@
+// Texts that are signed.
+
 ghost use Rattle.std.specs.Prelude.{◌≡◌, ◌≤◌, List, Some, IfOk, length};
 ghost use Rattle.std.specs.Str.{IsUtf8};
 ghost use Rattle.fed_json.specs.Forms.{IsWhole, nesting};
@@ -8,18 +10,16 @@ ghost use Rattle.jwk_set.specs.KeySets.{key_named};
 ghost use Rattle.slh_hash.specs.declared.params.TheConstants.{P128S};
 ghost use Rattle.slh_dsa.specs.Keys.{public_key};
 ghost use Rattle.sealed.specs.Seals.{IsSealedBy};
-ghost use Rattle.sealed.specs.Sealing.{IsObject, header_of, sealed_text, signer_name};
+ghost use Rattle.sealed.specs.Sealing.{IsObject, header_of, sealed_payload, sealed_text, signer_name};
 
 use fed_json::{Json, text_member, write_tree};
 use fed_ports::{Memory, Seq, Text};
-use jwk_set::{ALGORITHM, thumbprint};
-use jws_form::{join, signing_input};
-use slh_dsa::{KeyPair, sign};
+use jwk_set::thumbprint;
+use jws_form::{ALGORITHM, join, signing_input};
+use slh_dsa::{KeyPair, SIGNATURE_BYTES, sign};
 use std::alloc::Global;
 
-/// Signs claims as a text of that type (RFC 7515 section 5.1). The header has `alg`, the signer's thumbprint as `kid`,
-/// and `typ`; header and claims are compact JSON. A text of at most 262,144 bytes is sealed by each set in which the
-/// signer's key has its thumbprint.
+/// Signs claims as a text of that type (RFC 7515 section 5.1): [`seal_payload`] of the claims as compact JSON.
 pub fn seal(alloc: Global, keys: &KeyPair, typ: &Text, claims: &Json) -> Result<Text, Memory>
     requires typ { IsUtf8 typ.now }
     requires whole { IsWhole claims.now }
@@ -29,11 +29,29 @@ pub fn seal(alloc: Global, keys: &KeyPair, typ: &Text, claims: &Json) -> Result<
         → (set : List Jwk) → key_named (signer_name keys.now) set ≡ Some (public_key P128S keys.now)
         → IsSealedBy text set) }
 {
+    let payload = write_tree(alloc, claims)?;
+    seal_payload(alloc, keys, typ, payload.as_slice())
+}
+
+/// Signs a payload as a text of that type (RFC 7515 section 5.1). The header, in compact JSON, has `alg`, the signer's
+/// thumbprint as `kid`, and `typ`. A text of at most 262,144 bytes is sealed by each set in which the signer's key has its
+/// thumbprint.
+pub fn seal_payload(
+    alloc: Global,
+    keys: &KeyPair,
+    typ: &Text,
+    payload: &[u8],
+) -> Result<Text, Memory>
+    requires typ { IsUtf8 typ.now }
+    ensures text { IfOk result (λ text. text ≡ sealed_payload keys.now typ.now payload.now) }
+    ensures sealed { IfOk result (λ text. length text ≤ max_bytes
+        → (set : List Jwk) → key_named (signer_name keys.now) set ≡ Some (public_key P128S keys.now)
+        → IsSealedBy text set) }
+{
     let kid = thumbprint(alloc, &keys.public())?;
     let header = header(alloc, &kid, typ)?;
-    let payload = write_tree(alloc, claims)?;
-    let signed = signing_input(alloc, &header, payload.as_slice())?;
-    let mut signature = [0; 7_856];
+    let signed = signing_input(alloc, &header, payload)?;
+    let mut signature = [0; SIGNATURE_BYTES];
     sign(keys, signed.as_slice(), &mut signature);
     join(alloc, &signed, &signature)
 }

@@ -1,3 +1,5 @@
+// The answer of a test.
+
 use crate::pairs::{Sealed, Unsealed};
 use fed_ports::{Duplicate, Memory};
 use std::alloc::Global;

@@ -1,6 +1,10 @@
-ghost use Rattle.std.specs.Prelude.{◌≡◌, IfOk, MatchResult, if◌then◌else◌};
+// Tests of signatures.
+
+ghost use Rattle.std.specs.Prelude.{◌≡◌, ℕ, List, Some, None, Err, IfOk, MatchResult, if◌then◌else◌};
 ghost use Rattle.fed_ports.specs.Causes.{next_count};
 ghost use Rattle.jws_form.specs.Compact.{IsCompact};
+ghost use Rattle.jwk_set.specs.KeySets.{key_named};
+ghost use Rattle.sealed.specs.declared.fault.SealFault.TheVariants.{NoKid, NoKey};
 ghost use Rattle.sealed.specs.Answers.{Decides, IsTested, IsChecked, was_checked};
 ghost use Rattle.sealed.specs.Seals.{IsSealedBy};
 
@@ -46,6 +50,9 @@ pub fn check_sealed<L: Ledger>(
     requires { IsCompact compact.now.whole compact.now }
     ensures checked { IsChecked compact.now set.now.keys result }
     ensures decides { Decides result (IsSealedBy compact.now.whole set.now.keys) }
+    // What the header and the set decide is told whether memory is wanting or not.
+    ensures nameless { compact.now.kid ≡ None → result ≡ Err NoKid }
+    ensures keyless { (kid : List ℕ) → compact.now.kid ≡ Some kid → key_named kid set.now.keys ≡ None → result ≡ Err NoKey }
     ensures counted { L.count steps.new.ledger
         ≡ (if was_checked result then next_count (L.count steps.old.ledger) else L.count steps.old.ledger) }
 {

@@ -1,3 +1,5 @@
+// A text that is sealed and tested under keys and sets.
+
 ghost use Rattle.std.specs.Prelude.{IfOk};
 ghost use Rattle.jws_form.specs.Compact.{IsCompact};
 

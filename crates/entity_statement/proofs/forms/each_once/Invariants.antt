@@ -1,5 +1,6 @@
 use Rattle.std.proofs.Common.{◌≡◌, drop, option_map}
-use Rattle.entity_statement.specs.Forms.{each, identifier, once, once_after}
+use Rattle.fed_json.specs.Trees.{each}
+use Rattle.entity_statement.specs.Forms.{identifier, once, once_after}
 use Rattle.entity_statement.proofs.forms.each_once.Given as goal
 
 abbrev pub invariant-loop-item : goal.invariant-loop-item

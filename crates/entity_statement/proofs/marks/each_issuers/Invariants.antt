@@ -1,5 +1,6 @@
 use Rattle.std.proofs.Common.{◌≡◌, ◌++◌, drop, option_map}
-use Rattle.entity_statement.specs.Forms.{each, issuers_in}
+use Rattle.fed_json.specs.Trees.{each}
+use Rattle.entity_statement.specs.Forms.{issuers_in}
 use Rattle.entity_statement.proofs.marks.each_issuers.Given as goal
 
 abbrev pub invariant-loop-member : goal.invariant-loop-member

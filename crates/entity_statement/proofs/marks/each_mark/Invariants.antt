@@ -1,5 +1,6 @@
 use Rattle.std.proofs.Common.{◌≡◌, ◌++◌, drop, option_map}
-use Rattle.entity_statement.specs.Forms.{each, mark_of}
+use Rattle.fed_json.specs.Trees.{each}
+use Rattle.entity_statement.specs.Forms.{mark_of}
 use Rattle.entity_statement.proofs.marks.each_mark.Given as goal
 
 abbrev pub invariant-loop-item : goal.invariant-loop-item

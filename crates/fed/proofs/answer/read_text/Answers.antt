@@ -1,5 +1,5 @@
 use Rattle.std.proofs.Common.{subst}
-use Rattle.fed.specs.Streams.{EndsAs}
+use Rattle.fed_ports.specs.Inputs.{EndsAs}
 use Rattle.fed.proofs.ReadLaws.{long_input}
 use Rattle.fed.proofs.answer.read_text.Goals as goal
 

@@ -1,5 +1,5 @@
 use Rattle.std.proofs.Common.{rules, ◌≡◌, sym, subst}
-use Rattle.fed.proofs.FindingLaws.{configuration_at}
+use Rattle.fed.proofs.FindingLaws.{configuration_at, none_read, statement_at}
 use Rattle.fed.proofs.finding.examine.Goals as goal
 use Rattle.slh_dsa.specs.Verifying.{Verifies}
 
@@ -29,3 +29,15 @@ returns c =
       λ verifies.
           fails (subst (λ z. Verifies c.args.key.now c.as_slice-signed.result.now z) (sym signature) (subst (λ z. Verifies c.args.key.now z s.compact.signature) (sym signed) verifies)),
     )
+
+-- src/finding.rt
+pub returns-in_default : goal.returns-in_default
+returns-in_default c = none_read c.args.text.now c.in_ok-compact.field-0 c.in_default.not-Some c.in_ok-compact.ensures
+
+-- src/finding.rt
+pub returns-then-not-is_own : goal.returns-then-not-is_own
+returns-then-not-is_own c =
+    let s = c.in-Some.field-0 in
+    let is = statement_at c.args.text.now c.in_ok-compact.field-0 s (search rules) c.in_ok-compact.ensures in
+    let differs : s.statement.iss ≡ s.statement.sub → ⊥ = search rules in
+    (s.compact, s.statement.iss, s.statement.sub, is, differs)

@@ -1,4 +1,5 @@
-use Rattle.std.proofs.Common.{◌≡◌, ◌<◌, ◌^◌, ◌∙◌, sym, ap, refl, Some, true≢false, subst}
+use Rattle.std.proofs.Common.{◌≡◌, ◌<◌, ◌∙◌, sym, ap, refl, Some, true≢false, subst}
+use Rattle.fed_ports.specs.Times.{moment_limit}
 use Rattle.fed.specs.Rings.{ring_tree}
 use Rattle.fed.proofs.RingLaws.{is_found}
 use Rattle.fed.proofs.ring.read_ring.Goals as goal
@@ -15,7 +16,7 @@ returns-then-not-is_timely c = λ key ring.
     let found = is_found c.args.bytes.now c.in-Ok.tree key c.in-Ok.ensures.tree ring in
     let some : Some key ≡ Some c.in-Some.key = sym found.1 ∙ (sym c.fields_in.ensures ∙ c.in-Some.is) in
     let same : key ≡ c.in-Some.key = cc some in
-    true≢false (sym (c.if-not-is_timely.ensures.timely.1 (subst (λ k. k.iat < k.exp) same ring.order, subst (λ k. k.exp < 2 ^ 62) same ring.small)))
+    true≢false (sym (c.if-not-is_timely.ensures.timely.1 (subst (λ k. k.iat < k.exp) same ring.order, subst (λ k. k.exp < moment_limit) same ring.small)))
 
 -- src/ring.rt
 pub returns-then-json_equal : goal.returns-then-json_equal

@@ -11,6 +11,6 @@ read_own-requires c =
 
 pub returns-in_ok-copy-clause-formed : goal.returns-in_ok-copy-clause-formed
 returns-in_ok-copy-clause-formed c =
-    let typed = was_some c.text_at.result _ c.text_at.ensures (c.is_none.ensures ∙ ap not c.if-is_none.false) in
+    let typed = was_some c.text_at.result _ c.text_at.ensures.text (c.is_none.ensures ∙ ap not c.if-is_none.false) in
     foreign_formed c.args.tree.now c.in_ok-copy.field-0 c.as_slice-members.result.now (c.is_whole.ensures.0 c.if-not-is_whole.false)
     (c.in-Object.is ∙ ap Object (sym c.as_slice-members.ensures)) typed (sym c.is_own.ensures ∙ c.if-is_own.false) c.in_ok-copy.ensures

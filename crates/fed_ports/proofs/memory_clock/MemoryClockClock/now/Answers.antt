@@ -10,4 +10,4 @@ returns-clause-told c =
     let ms = c.args.self.now.moments.items in
     let n = c.args.self.now.readings in
     let same = c.moment-moment.ensures.value ∙ ap (λ xs. moment_at xs n) c.deref.ensures.value in
-    subst (Told (told_of ms n) (told_of ms c.saturating_add-self.result)) (sym same) (told_more ms n c.saturating_add-self.result _ refl c.saturating_add-self.ensures)
+    subst (Told n (told_of ms n) (told_of ms c.saturating_add-self.result)) (sym same) (told_more ms n c.saturating_add-self.result _ refl c.saturating_add-self.ensures)

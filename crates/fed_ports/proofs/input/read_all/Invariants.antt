@@ -1,6 +1,6 @@
 use Rattle.std.proofs.Common.{◌≡◌, ◌-◌, length}
-use Rattle.fed.specs.Streams.{Gave}
-use Rattle.fed.proofs.input.read_all.Given as goal
+use Rattle.fed_ports.specs.Inputs.{Gave}
+use Rattle.fed_ports.proofs.input.read_all.Given as goal
 
 abbrev pub invariant-pieces : goal.invariant-pieces
 invariant-pieces g l = (g.S.Source.read_faults l.input ≡ g.S.Source.read_faults l.initial.input) × Gave (g.S.Source.left l.initial.input) l.bytes (g.S.Source.left l.input)

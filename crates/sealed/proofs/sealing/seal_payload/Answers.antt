@@ -7,7 +7,7 @@ use Rattle.slh_dsa.specs.Verifying.{Verifies}
 use Rattle.sealed.specs.Sealing.{signed_of, signer_name}
 use Rattle.sealed.proofs.Headers.{IsUtf8-thumbprint_of}
 use Rattle.sealed.proofs.Sealings.{name_is, signed_is, text_is, sealed_by}
-use Rattle.sealed.proofs.sealing.seal.Goals as goal
+use Rattle.sealed.proofs.sealing.seal_payload.Goals as goal
 
 pub header-requires-clause-kid : goal.header-requires-clause-kid
 header-requires-clause-kid c = subst IsUtf8 (sym c.in_ok-kid.ensures) (IsUtf8-thumbprint_of c.public.result)
@@ -15,16 +15,15 @@ header-requires-clause-kid c = subst IsUtf8 (sym c.in_ok-kid.ensures) (IsUtf8-th
 pub returns-clause-text : goal.returns-clause-text
 returns-clause-text c =
     let named : c.in_ok-kid.kid ≡ signer_name c.args.keys.now = name_is c.args.keys.now c.public.result c.in_ok-kid.kid c.public.ensures c.in_ok-kid.ensures in
-    let payload = c.as_slice.ensures ∙ c.in_ok-payload.ensures.text in
-    let is : c.in_ok-signed.signed ≡ signed_of c.args.keys.now c.args.typ.now c.args.claims.now =
-    signed_is c.args.keys.now c.args.typ.now c.in_ok-kid.kid c.as_slice.result.now c.in_ok-signed.signed c.args.claims.now c.in_ok-header.header named c.in_ok-header.ensures.tree payload c.in_ok-signed.ensures.text in
-    text_is c.join.result c.args.keys.now c.args.typ.now c.in_ok-signed.signed c.sign.new.signature c.args.claims.now is
-    (c.sign.ensures.written ∙ ap (signature_of P128S c.args.keys.now) c.as_slice-2.ensures) c.join.ensures.text
+    let is : c.in_ok-signed.signed ≡ signed_of c.args.keys.now c.args.typ.now c.args.payload.now =
+    signed_is c.args.keys.now c.args.typ.now c.in_ok-kid.kid c.args.payload.now c.in_ok-signed.signed c.in_ok-header.header named c.in_ok-header.ensures.tree c.in_ok-signed.ensures.text in
+    text_is c.join.result c.args.keys.now c.args.typ.now c.args.payload.now c.in_ok-signed.signed c.sign.new.signature is
+    (c.sign.ensures.written ∙ ap (signature_of P128S c.args.keys.now) c.as_slice.ensures) c.join.ensures.text
 
 pub returns-clause-sealed : goal.returns-clause-sealed
 returns-clause-sealed c =
     let named : c.in_ok-kid.kid ≡ signer_name c.args.keys.now = name_is c.args.keys.now c.public.result c.in_ok-kid.kid c.public.ensures c.in_ok-kid.ensures in
     let input = c.in_ok-signed.ensures.reads (Some c.args.typ.now) (Some c.in_ok-kid.kid) c.in_ok-header.ensures.names c.in_ok-header.ensures.shallow in
-    sealed_by c.join.result c.args.keys.now c.args.typ.now c.in_ok-kid.kid c.as_slice.result.now c.in_ok-signed.signed c.sign.new.signature named
-    (c.join.ensures.splits c.as_slice.result.now (Some c.args.typ.now) (Some c.in_ok-kid.kid) input)
-    (subst (λ m. Verifies (public_key P128S c.args.keys.now) m c.sign.new.signature) c.as_slice-2.ensures c.sign.ensures.verifies)
+    sealed_by c.join.result c.args.keys.now c.args.typ.now c.in_ok-kid.kid c.args.payload.now c.in_ok-signed.signed c.sign.new.signature named
+    (c.join.ensures.splits c.args.payload.now (Some c.args.typ.now) (Some c.in_ok-kid.kid) input)
+    (subst (λ m. Verifies (public_key P128S c.args.keys.now) m c.sign.new.signature) c.as_slice.ensures c.sign.ensures.verifies)

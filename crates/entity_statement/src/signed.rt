@@ -1,0 +1,36 @@
+// A statement with the text that it was read from.
+
+ghost use Rattle.std.specs.Prelude.{◌≡◌, IfOk};
+ghost use Rattle.entity_statement.specs.Signed.{IsReading};
+
+use crate::fault::StatementFault;
+use crate::statement::Statement;
+use fed_ports::Memory;
+use jws_form::{Compact, FormFault, split};
+use std::alloc::Global;
+
+/// An entity statement (OpenID Federation 1.0 section 3) and the parts of the compact text that it was read from.
+#[derive(Drop)]
+pub struct SignedStatement {
+    pub compact: Compact,
+    pub statement: Statement,
+}
+
+impl SignedStatement {
+    /// The statement that the text is, and `None` where it is none. Its signature isn't looked at.
+    #[tactic(auto, unfolding(crate::specs::Signed::statement_of))]
+    pub fn read(alloc: Global, text: &[u8]) -> Result<Option<SignedStatement>, Memory>
+        ensures { IfOk result (IsReading text.now) }
+    {
+        let compact = match split(alloc, text) {
+            Ok(compact) => compact,
+            Err(FormFault::Memory) => return Err(Memory),
+            Err(_) => return Ok(None),
+        };
+        match Statement::read(alloc, &compact) {
+            Ok(statement) => Ok(Some(SignedStatement { compact, statement })),
+            Err(StatementFault::Memory) => Err(Memory),
+            Err(_) => Ok(None),
+        }
+    }
+}

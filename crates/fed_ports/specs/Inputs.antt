@@ -1,0 +1,27 @@
+-- Reading a source to its end.
+use Rattle.std.specs.Prelude.{◌≡◌, ◌≤◌, ◌<◌, ℕ, List, [], ◌++◌, length, Option, option_map, IfSome}
+use Rattle.fed_ports.specs.Causes.{Rose}
+use Rattle.fed_ports.specs.Stores.{file_limit}
+use Rattle.fed_ports.specs.declared.input.ReadEnd.{ReadEnd}
+use Rattle.fed_ports.specs.declared.input.ReadEnd.TheVariants.{Failed, TooLong, Memory}
+
+-- these bytes were taken from the source, where it tells what it had left
+abbrev pub Gave : Option (List ℕ) → List ℕ → Option (List ℕ) → Type 0
+Gave old bytes new = old ≡ option_map (λ rest. bytes ++ rest) new
+
+-- nothing is left, where that is told
+abbrev pub AtEnd : Option (List ℕ) → Type 0
+AtEnd new = IfSome new (λ rest. rest ≡ [])
+
+-- how a reading ends without the whole input: the source failed, or gave more than may be, or memory was wanting
+abbrev pub EndsAs : Option (List ℕ) → Option (List ℕ) → ℕ → ℕ → ReadEnd → Type 0
+EndsAs old new before now Failed = Rose before now
+EndsAs old new before now TooLong = (now ≡ before) × ((bytes : List ℕ) × Gave old bytes new × (file_limit < length bytes))
+EndsAs old new before now Memory = now ≡ before
+
+-- the whole input was read: it is not too long, nothing is left, and no call failed
+pub record IsWholeInput (old new : Option (List ℕ)) (before now : ℕ) (bytes : List ℕ) : Type 0 where
+  pub steady : now ≡ before
+  pub gave : Gave old bytes new
+  pub ended : AtEnd new
+  pub small : length bytes ≤ file_limit
