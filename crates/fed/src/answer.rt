@@ -98,7 +98,7 @@ pub fn reply_to<S: Source, D: Store>(
         Step::Done(reply) => Ok(reply),
         Step::Awaits(job) => {
             let text = read_text(alloc, input)?;
-            Ok(finish(alloc, &job, text.as_ref())?)
+            Ok(finish(alloc, &job, text)?)
         }
     }
 }

@@ -8,10 +8,10 @@ use fed_ports::{Memory, Seq, Text};
 use std::alloc::Global;
 
 /// The texts of an input that is a JSON list of texts, the leaf's first, or `None` where it is none.
-pub fn read_chain(alloc: Global, input: &[u8]) -> Result<Option<Seq<Text>>, Memory>
-    ensures { IfOk result (λ read. read ≡ chain_in input.now) }
+pub fn read_chain(alloc: Global, input: Text) -> Result<Option<Seq<Text>>, Memory>
+    ensures { IfOk result (λ read. read ≡ chain_in input) }
 {
-    match read_tree(alloc, input) {
+    match read_tree(alloc, input.as_slice()) {
         Ok(tree) => copied_texts(alloc, &tree),
         Err(TreeFault::Syntax) => Ok(None),
         Err(TreeFault::Memory) => Err(Memory),

@@ -8,7 +8,7 @@ use crate::reply::{Reply, plain};
 use crate::verdict_line::{lines, status};
 use chain_check::check_chain;
 use entity_id::EntityId;
-use fed_ports::{Memory, Plain, Steps};
+use fed_ports::{Memory, Plain, Steps, Text};
 use jwk_set::JwkSet;
 use std::alloc::Global;
 
@@ -18,9 +18,9 @@ pub fn check(
     anchor: &EntityId,
     keys: &JwkSet,
     t: u64,
-    input: &[u8],
+    input: Text,
 ) -> Result<Reply, Memory>
-    ensures checked { IfOk result (λ reply. IsChecked anchor.now t (Some keys.now.keys) (chain_in input.now) reply.status reply.text) }
+    ensures checked { IfOk result (λ reply. IsChecked anchor.now t (Some keys.now.keys) (chain_in input) reply.status reply.text) }
     ensures kept { IfOk result (λ reply. reply.kept ≡ None) }
 {
     let Some(chain) = read_chain(alloc, input)? else {

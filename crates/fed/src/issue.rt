@@ -2,6 +2,7 @@
 
 ghost use Rattle.std.specs.Prelude.{◌≡◌, IfOk, IsSome, is_some};
 ghost use Rattle.fed_json.specs.Forms.{IsWellFormed};
+ghost use Rattle.fed_json.specs.Reading.{Gives, reading};
 ghost use Rattle.fed_json.specs.Trees.{as_object};
 ghost use Rattle.fed.specs.Issues.{claims_read, issue_reply, of_object};
 ghost use Rattle.fed.specs.Sealings.{IsSealedReply};
@@ -20,11 +21,11 @@ const MOST_CLAIMS: usize = 180_000;
 /// The text that the key pair seals the claims in the input as, on its own line. A text of at most 262,144 bytes is sealed by
 /// each set in which the signer's key has its thumbprint.
 #[tactic(auto, unfolding(crate::specs::Issues::issue_reply, crate::specs::Issues::of_tree))]
-pub fn issue(alloc: Global, keys: &KeyPair, input: &[u8]) -> Result<Reply, Memory>
-    ensures reply { IfOk result (λ reply. reply ≡ issue_reply keys.now input.now) }
+pub fn issue(alloc: Global, keys: &KeyPair, input: Text) -> Result<Reply, Memory>
+    ensures reply { IfOk result (λ reply. reply ≡ issue_reply keys.now input) }
     ensures sealed { IfOk result (IsSealedReply keys.now) }
 {
-    let tree = match read_tree(alloc, input) {
+    let tree = match read_input(alloc, input) {
         Ok(tree) => tree,
         Err(TreeFault::Memory) => return Err(Memory),
         Err(TreeFault::Syntax) => return plain(alloc, 2, b"input\n"),
@@ -34,6 +35,14 @@ pub fn issue(alloc: Global, keys: &KeyPair, input: &[u8]) -> Result<Reply, Memor
     } else {
         plain(alloc, 2, b"input\n")
     }
+}
+
+/// The tree of the input, whose memory is free after it.
+fn read_input(alloc: Global, input: Text) -> Result<Json, TreeFault>
+    ensures tree { Gives result (reading input) }
+    ensures well_formed { IfOk result IsWellFormed }
+{
+    read_tree(alloc, input.as_slice())
 }
 
 fn is_object(tree: &Json) -> bool

@@ -3,7 +3,6 @@
 ghost use Rattle.std.specs.Prelude.{◌≡◌, IfOk, List, ℕ, Option};
 ghost use Rattle.fed.specs.Sealings.{IsSealedReply};
 ghost use Rattle.fed.specs.Steps.{IsStep, IsCheckStep, IsKeygenStep, IsFileOf, IsDone, IsIssueStep, IsVerified};
-ghost use Rattle.std.specs.Option.{option_copied};
 ghost use Rattle.fed.specs.Replies.{plain};
 
 use crate::anchor_keys::read_keys;
@@ -131,9 +130,10 @@ fn check_step(alloc: Global, anchor: &EntityId, at: u64, file: &File) -> Result<
     }
 }
 
-/// What is answered on the input, without its line end; an input that is too long is `None`.
-pub fn finish(alloc: Global, job: &Job, input: Option<&Text>) -> Result<Reply, Memory>
-    ensures done { IfOk result (IsDone job.now (option_copied input.entry)) }
+/// What is answered on the input, without its line end; an input that is too long is `None`. Claims and chains free its memory once they
+/// are read from it.
+pub fn finish(alloc: Global, job: &Job, input: Option<Text>) -> Result<Reply, Memory>
+    ensures done { IfOk result (IsDone job.now input) }
     ensures sealed { (seeds : List ℕ) → job.now ≡ Job.Issue seeds → IfOk result (IsSealedReply seeds) }
 {
     let Some(input) = input else {
@@ -142,8 +142,8 @@ pub fn finish(alloc: Global, job: &Job, input: Option<&Text>) -> Result<Reply, M
     match job {
         Job::Verify(key) => verified(alloc, key, input.as_slice()),
         Job::Keygen { at, exp } => keygen(alloc, *at, *exp, input.as_slice()),
-        Job::Issue(keys) => issue(alloc, keys, input.as_slice()),
-        Job::Check { anchor, keys, at } => check(alloc, anchor, keys, *at, input.as_slice()),
+        Job::Issue(keys) => issue(alloc, keys, input),
+        Job::Check { anchor, keys, at } => check(alloc, anchor, keys, *at, input),
     }
 }
 
