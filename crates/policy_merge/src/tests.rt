@@ -68,12 +68,8 @@ fn add_parameters(
 fn policy_shown(alloc: Global, policy: &Policy) -> Result<Text, Memory> {
     let mut out = Text::new(alloc);
     for entity_type in policy.types() {
-        add_parameters(
-            alloc,
-            &mut out,
-            &entity_type.name,
-            entity_type.value.as_slice(),
-        )?;
+        let parameters = entity_type.value.as_slice();
+        add_parameters(alloc, &mut out, &entity_type.name, parameters)?;
     }
     Ok(out)
 }
@@ -198,7 +194,7 @@ fn policies_are_merged(rt: HostRuntime) -> Result<(), Fail> {
 }
 
 #[test]
-fn operators_stand_together(rt: HostRuntime) -> Result<(), Fail> {
+fn policies_are_read_and_combined(rt: HostRuntime) -> Result<(), Fail> {
     let rows = [
         (r#"{"t":{"p":{"one_of":[]}}}"#, "Conflict t p one_of one_of"),
         (
@@ -261,17 +257,6 @@ fn operators_stand_together(rt: HostRuntime) -> Result<(), Fail> {
             r#"{"t":{"p":{"add":["a"],"subset_of":["b"],"superset_of":["c"]}}}"#,
             "Conflict t p add subset_of",
         ),
-    ];
-    for (policy, expected) in rows {
-        let got = merged(rt.alloc(), policy, "{}")?;
-        assert!(rt; got.as_slice() == expected.as_bytes(), "at {policy}");
-    }
-    Ok(())
-}
-
-#[test]
-fn shapes_are_read(rt: HostRuntime) -> Result<(), Fail> {
-    let rows = [
         (r#"{"t":{"p":{"add":"x"}}}"#, "Shape"),
         (r#"{"t":{"p":{"default":null}}}"#, "Shape"),
         (r#"{"t":{"p":{"essential":1}}}"#, "Shape"),
