@@ -6,7 +6,7 @@ ghost use Rattle.base64url.specs.Base64url.{base64url, decoded, decoded_32};
 
 use base64::DecodeAllocError;
 use base64::engine::general_purpose::URL_SAFE_NO_PAD;
-use fed_ports::{Memory, Text};
+use fed_base::{Memory, Text};
 use std::alloc::Global;
 
 /// The base64url of the bytes: 4 characters for each 3 bytes, and 2 or 3 for what is left over.

@@ -9,7 +9,7 @@ use Rattle.chain_check.specs.declared.judged.Judged.TheVariants.{Told, Untried}
 use Rattle.chain_check.specs.declared.verdict.Resolved.{Resolved}
 use Rattle.chain_check.specs.declared.verdict.Verdict.{Verdict}
 use Rattle.chain_check.specs.declared.verdict.Verdict.TheVariants.{Refused, Valid}
-use Rattle.chain_check.specs.Places.{FailsFirst}
+use Rattle.fed_base.specs.Places.{FailsFirst}
 use Rattle.chain_check.specs.Chains.{LosesForm, statements_of}
 use Rattle.chain_check.specs.Names.{HasNames, LosesNames}
 use Rattle.chain_check.specs.Signatures.{AreCurrent, AreSigned, CurrentAt, SignedAt}

@@ -13,7 +13,7 @@ use Rattle.entity_statement.specs.Claims.{Claims}
 use Rattle.entity_statement.specs.declared.signed.SignedStatement.{SignedStatement}
 use Rattle.chain_check.specs.declared.tried.Tried.{Tried}
 use Rattle.chain_check.specs.declared.reason.Reason.TheVariants.{Signature}
-use Rattle.chain_check.specs.Places.{FailsFirst, HoldsBelow}
+use Rattle.fed_base.specs.Places.{FailsFirst, HoldsBelow}
 use Rattle.chain_check.specs.Chains.{Texts}
 use Rattle.chain_check.specs.Signatures.{AreSigned, SignedAt, key_in, keys_at}
 use Rattle.chain_check.proofs.NameLaws.{length-claims}

@@ -6,7 +6,7 @@ use Rattle.std.proofs.lemmas.List.Elements.{All-push, filter_map-append}
 use Rattle.std.proofs.lemmas.Option.{slice_get-get_or}
 use Rattle.entity_statement.specs.declared.signed.SignedStatement.{SignedStatement}
 use Rattle.entity_statement.specs.Signed.{IsReading, IsSplit, statement_of}
-use Rattle.chain_check.specs.Places.{HoldsBelow}
+use Rattle.fed_base.specs.Places.{HoldsBelow}
 use Rattle.chain_check.specs.Chains.{Texts, ReadsAt, LosesForm, max_statements, statements_of}
 use Rattle.chain_check.specs.Stages.{AreRead, claims_in, entry_claims, entry_text, texts_in}
 

@@ -4,8 +4,8 @@ use Rattle.std.specs.Prelude.{Result, cond}
 use Rattle.std.specs.Option.{option_and_then}
 use Rattle.std.specs.Result.{result_ok}
 use Rattle.std.proofs.lemmas.Bool.{both_ways}
-use Rattle.fed_ports.specs.Causes.{next_count}
-use Rattle.fed_ports.specs.declared.faults.Memory.{Memory as NoMemory}
+use Rattle.fed_base.specs.Counts.{next_count}
+use Rattle.fed_base.specs.declared.faults.Memory.{Memory as NoMemory}
 use Rattle.jws_form.specs.declared.compact.Compact.{Compact}
 use Rattle.jws_form.specs.Compact.{IsCompact}
 use Rattle.jws_form.proofs.Laws.{IsCompact-unique, only}

@@ -8,7 +8,7 @@ use Rattle.chain_check.specs.declared.reason.Reason.{Reason}
 use Rattle.chain_check.specs.declared.reason.Reason.TheVariants.{Form, Names, Times, Signature, PathLength, Name, Conflict, Policy}
 use Rattle.chain_check.specs.declared.verdict.Resolved.{Resolved}
 use Rattle.chain_check.specs.declared.verdict.Verdict.TheVariants.{Valid}
-use Rattle.chain_check.specs.Places.{FailsFirst}
+use Rattle.fed_base.specs.Places.{FailsFirst}
 use Rattle.chain_check.specs.Chains.{Texts, statements_of}
 use Rattle.chain_check.specs.Names.{HasNames, LosesNames}
 use Rattle.chain_check.specs.Signatures.{AreCurrent, AreSigned, CurrentAt, NamesOneKey, SignedAt}

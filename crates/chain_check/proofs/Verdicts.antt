@@ -23,7 +23,7 @@ use Rattle.chain_check.specs.declared.reason.Reason.TheVariants.{Form, Names, Ti
 use Rattle.chain_check.specs.declared.verdict.Resolved.{Resolved}
 use Rattle.chain_check.specs.declared.verdict.Verdict.{Verdict}
 use Rattle.chain_check.specs.declared.verdict.Verdict.TheVariants.{Valid, Refused}
-use Rattle.chain_check.specs.Places.{HoldsBelow, FailsFirst}
+use Rattle.fed_base.specs.Places.{HoldsBelow, FailsFirst}
 use Rattle.chain_check.specs.Chains.{Texts, HasForm, ReadsAt, places_of, statements_of}
 use Rattle.chain_check.specs.Names.{HasNames, NamesFit, subject_at}
 use Rattle.chain_check.specs.Signatures.{AreCurrent, AreSigned, CurrentAt, Extends, HasExpired, SignedAt}

@@ -3,7 +3,7 @@ use Rattle.std.specs.Prelude.{◌≡◌, ◌<◌, ◌-◌, ℕ, List, length, ta
 use Rattle.std.specs.List.{filter_map}
 use Rattle.entity_statement.specs.Claims.{Claims}
 use Rattle.entity_statement.specs.Signed.{statement_of}
-use Rattle.chain_check.specs.Places.{HoldsBelow, FailsFirst}
+use Rattle.fed_base.specs.Places.{HoldsBelow, FailsFirst}
 
 -- the texts of a chain, the leaf's first (section 4)
 abbrev pub Texts : Type 0

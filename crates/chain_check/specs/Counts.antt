@@ -1,7 +1,7 @@
 -- How many steps a call counts.
 use Rattle.std.specs.Prelude.{◌≡◌, ◌≤◌, ◌+◌, ℕ, zero, suc, Bool, true, Result, Ok, Err}
-use Rattle.fed_ports.specs.Causes.{next_count}
-use Rattle.fed_ports.specs.declared.faults.Memory.{Memory as NoMemory}
+use Rattle.fed_base.specs.Counts.{next_count}
+use Rattle.fed_base.specs.declared.faults.Memory.{Memory as NoMemory}
 use Rattle.chain_check.specs.declared.reason.Reason.TheVariants.{Form, Names, Times, Signature}
 use Rattle.chain_check.specs.declared.stop.Stop.{Stop}
 use Rattle.chain_check.specs.declared.stop.Stop.TheVariants as stop

@@ -7,7 +7,7 @@ use Rattle.chain_check.specs.declared.tried.Tried.{Tried}
 use Rattle.chain_check.specs.declared.judged.Judged.{Judged}
 use Rattle.chain_check.specs.declared.judged.Judged.TheVariants.{Told, Untried}
 use Rattle.chain_check.specs.declared.verdict.Verdict.{Verdict}
-use Rattle.chain_check.specs.Places.{HoldsBelow}
+use Rattle.fed_base.specs.Places.{HoldsBelow}
 use Rattle.chain_check.specs.Chains.{Texts}
 use Rattle.chain_check.specs.Signatures.{key_in, keys_at, superior_keys}
 use Rattle.chain_check.specs.Validity.{Case, ToSignatures, chain_of}

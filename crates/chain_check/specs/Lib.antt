@@ -1,4 +1,3 @@
-pub mod Places
 pub mod Chains
 pub mod Names
 pub mod Signatures

@@ -2,7 +2,7 @@
 use Rattle.std.specs.Prelude.{◌≡◌, ◌≢◌, ◌<◌, ◌≤◌, ◌+◌, ◌-◌, ◌⊎◌, ◌↔◌, ℕ, List, [], length, slice_get}
 use Rattle.std.specs.Option.{option_map_or}
 use Rattle.entity_statement.specs.Claims.{Claims}
-use Rattle.chain_check.specs.Places.{HoldsBelow, FailsFirst}
+use Rattle.fed_base.specs.Places.{HoldsBelow, FailsFirst}
 
 -- the issuer and the subject of the statement at a place
 abbrev pub issuer_at : List Claims → ℕ → List ℕ

@@ -9,7 +9,7 @@ use Rattle.sealed.specs.Seals.{IsSealedBy, named_key}
 use Rattle.entity_statement.specs.Claims.{Claims}
 use Rattle.entity_statement.specs.Use.{current_at}
 use Rattle.chain_check.specs.Chains.{Texts}
-use Rattle.chain_check.specs.Places.{HoldsBelow}
+use Rattle.fed_base.specs.Places.{HoldsBelow}
 
 -- the statement at the place is current at that moment
 abbrev pub CurrentAt : List Claims → ℕ → ℕ → Type 0

@@ -14,7 +14,7 @@ use Rattle.policy_apply.specs.declared.fault.ApplyFault.{ApplyFault}
 use Rattle.policy_apply.specs.declared.fault.ApplyFault.TheVariants as apply
 use Rattle.chain_check.specs.declared.reason.Reason.{Reason}
 use Rattle.chain_check.specs.declared.reason.Reason.TheVariants.{Signature, PathLength, Name, Conflict, Policy}
-use Rattle.fed_ports.specs.declared.faults.Memory.{Memory as NoMemory}
+use Rattle.fed_base.specs.declared.faults.Memory.{Memory as NoMemory}
 use Rattle.entity_statement.specs.declared.signed.SignedStatement.{SignedStatement}
 use Rattle.chain_check.specs.declared.verdict.Resolved.{Resolved}
 use Rattle.chain_check.specs.declared.verdict.Verdict.{Verdict}
@@ -27,7 +27,7 @@ use Rattle.chain_check.specs.declared.tried.Tried.{Tried}
 use Rattle.chain_check.specs.declared.known.Known.{Known}
 use Rattle.chain_check.specs.declared.known.Known.TheVariants as known
 use Rattle.chain_check.specs.declared.known.Test.{Test}
-use Rattle.chain_check.specs.Places.{FailsFirst}
+use Rattle.fed_base.specs.Places.{FailsFirst}
 use Rattle.chain_check.specs.Signatures.{AreSigned, SignedAt}
 use Rattle.chain_check.specs.Judging.{IsKnownSeal, IsUnknown, IsUntriedFirst, texts_of}
 use Rattle.chain_check.specs.Chains.{Texts, HasForm, statements_of}

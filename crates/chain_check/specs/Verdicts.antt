@@ -13,7 +13,7 @@ use Rattle.chain_check.specs.declared.reason.Reason.TheVariants.{Form, Names, Ti
 use Rattle.chain_check.specs.declared.verdict.Resolved.{Resolved}
 use Rattle.chain_check.specs.declared.verdict.Verdict.{Verdict}
 use Rattle.chain_check.specs.declared.verdict.Verdict.TheVariants.{Valid, Refused}
-use Rattle.chain_check.specs.Places.{FailsFirst}
+use Rattle.fed_base.specs.Places.{FailsFirst}
 use Rattle.chain_check.specs.Chains.{LosesForm}
 use Rattle.chain_check.specs.Names.{LosesNames, subject_at}
 use Rattle.chain_check.specs.Signatures.{CurrentAt, SignedAt}

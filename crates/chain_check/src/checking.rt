@@ -19,7 +19,7 @@ use crate::signatures::{check_signatures, check_times};
 use crate::stop::Stop;
 use crate::verdict::{Resolved, Verdict};
 use entity_id::EntityId;
-use fed_ports::{Ledger, Memory, Seq, Steps, Text};
+use fed_base::{Ledger, Memory, Seq, Steps, Text};
 use jwk_set::JwkSet;
 use std::alloc::Global;
 

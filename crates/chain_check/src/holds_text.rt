@@ -1,7 +1,7 @@
 // What the texts of a chain are taken from.
 
 use crate::tried::Tried;
-use fed_ports::Text;
+use fed_base::Text;
 
 /// What holds a text of a chain.
 pub(crate) trait HoldsText {

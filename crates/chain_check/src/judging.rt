@@ -18,7 +18,7 @@ use crate::stop::Stop;
 use crate::tried::Tried;
 use crate::verdict::Verdict;
 use entity_id::EntityId;
-use fed_ports::{Memory, Seq};
+use fed_base::{Memory, Seq};
 use jwk_set::JwkSet;
 use std::alloc::Global;
 

@@ -11,7 +11,7 @@ ghost use Rattle.chain_check.specs.Stages.{claims_in};
 use chain_limits::{Place, allowed_types};
 use entity_statement::SignedStatement;
 use fed_json::{Json, Member, find, object_members};
-use fed_ports::{Duplicate, Memory, Seq};
+use fed_base::{Duplicate, Memory, Seq};
 use policy_merge::Sides;
 use std::alloc::Global;
 

@@ -2,7 +2,7 @@
 
 ghost use Rattle.std.specs.Prelude.{◌≡◌, ◌≢◌, ◌<◌, ◌≤◌, ◌+◌, ◌-◌, ◌⊎◌, ◌↔◌, IsTrue, length};
 ghost use Rattle.chain_check.specs.declared.reason.Reason.TheVariants.{Names};
-ghost use Rattle.chain_check.specs.Places.{HoldsBelow};
+ghost use Rattle.fed_base.specs.Places.{HoldsBelow};
 ghost use Rattle.chain_check.specs.Names.{HasNames, LosesNames, NamesFit, IsAnchor, IsConfiguration, IsLeaf, issuer_at, subject_at};
 ghost use Rattle.chain_check.specs.Stages.{Passes, claims_in};
 

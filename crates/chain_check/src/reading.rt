@@ -9,7 +9,7 @@ use crate::holds_text::HoldsText;
 use crate::reason::Reason;
 use crate::stop::Stop;
 use entity_statement::SignedStatement;
-use fed_ports::Seq;
+use fed_base::Seq;
 use std::alloc::Global;
 
 /// How many statements a chain has at most.

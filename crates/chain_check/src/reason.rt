@@ -1,6 +1,6 @@
 // Why a chain isn't valid.
 
-use fed_ports::{Duplicate, Memory, Text};
+use fed_base::{Duplicate, Memory, Text};
 use policy_merge::Operator;
 use std::alloc::Global;
 

@@ -20,7 +20,7 @@ use crate::verdict::Resolved;
 use chain_limits::{LimitVerdict, Place, limits_met};
 use entity_statement::SignedStatement;
 use fed_json::Json;
-use fed_ports::{Duplicate, Memory, Seq, Text};
+use fed_base::{Duplicate, Memory, Seq, Text};
 use policy_apply::{ApplyFault, apply};
 use policy_merge::{Policy, PolicyFault};
 use std::alloc::Global;

@@ -4,7 +4,7 @@ ghost use Rattle.std.specs.Prelude.{◌≡◌, ◌<◌, ◌≤◌, ◌+◌, ◌�
 ghost use Rattle.jws_form.specs.Compact.{IsCompact};
 ghost use Rattle.sealed.specs.Seals.{IsSealedBy, named_key};
 ghost use Rattle.chain_check.specs.declared.reason.Reason.TheVariants.{Times, Signature};
-ghost use Rattle.chain_check.specs.Places.{FailsFirst};
+ghost use Rattle.fed_base.specs.Places.{FailsFirst};
 ghost use Rattle.chain_check.specs.Counts.{CountsBoth, CountsChecks, CountsPlace, CountsTest};
 ghost use Rattle.chain_check.specs.Signatures.{AreCurrent, AreSigned, CurrentAt, NamesOneKey, SignedAt, key_in, superior_keys as keys_above};
 ghost use Rattle.entity_statement.specs.Signed.{IsSplit};
@@ -13,7 +13,7 @@ ghost use Rattle.chain_check.specs.Stages.{Passes, claims_in, texts_in};
 use crate::reason::Reason;
 use crate::stop::Stop;
 use entity_statement::SignedStatement;
-use fed_ports::{Ledger, Memory, Steps};
+use fed_base::{Ledger, Memory, Steps};
 use jwk_set::JwkSet;
 use jws_form::Compact;
 use sealed::{SealFault, check_sealed};

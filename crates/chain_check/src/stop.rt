@@ -1,7 +1,7 @@
 // How a check ends early.
 
 use crate::reason::Reason;
-use fed_ports::Memory;
+use fed_base::Memory;
 
 /// Why a check ended before its end.
 #[derive(Drop)]

@@ -1,6 +1,6 @@
 // A text with what is known of its signature.
 
-use fed_ports::{Seq, Text};
+use fed_base::{Seq, Text};
 use sealed::{Sealed, Unsealed};
 
 /// A text of a chain, with what is known of its signature.

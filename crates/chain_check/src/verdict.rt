@@ -3,7 +3,7 @@
 use crate::reason::Reason;
 use entity_id::EntityId;
 use fed_json::Json;
-use fed_ports::{Duplicate, Memory};
+use fed_base::{Duplicate, Memory};
 use std::alloc::Global;
 
 /// What a valid chain says of its leaf.

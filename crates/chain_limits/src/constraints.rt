@@ -5,7 +5,7 @@ ghost use Rattle.std.specs.Prelude.{◌≡◌, IfOk};
 use crate::reading::{count, naming, object, texts};
 use crate::shape::LimitShape;
 use fed_json::Json;
-use fed_ports::{Duplicate, Memory, Seq, Text};
+use fed_base::{Duplicate, Memory, Seq, Text};
 use std::alloc::Global;
 
 /// The constraints of a statement (OpenID Federation 1.0 section 6.2). Members of other names are left unread.

@@ -9,7 +9,7 @@ use crate::constraints::Constraints;
 use crate::place::Place;
 use crate::verdict::LimitVerdict;
 use entity_id::matches_name;
-use fed_ports::{Seq, Text};
+use fed_base::{Seq, Text};
 
 /// The first limit that a chain doesn't meet (OpenID Federation 1.0 section 6.2). The places are those of the chain's
 /// statements but the last, in order; the first is the leaf's, whose own constraints don't count. Of two limits that

@@ -1,7 +1,7 @@
 // What limits are about.
 
 use crate::constraints::Constraints;
-use fed_ports::{Duplicate, Memory, Text};
+use fed_base::{Duplicate, Memory, Text};
 use std::alloc::Global;
 
 /// What a statement of a chain says that limits are about: the host of its subject, and its constraints.

@@ -6,7 +6,7 @@ ghost use Rattle.chain_limits.specs.Reading.{Gives, GivesObject, naming_in};
 
 use crate::shape::LimitShape;
 use fed_json::{Json, Member, copied_texts, count_below, find};
-use fed_ports::{Seq, Text};
+use fed_base::{Seq, Text};
 use std::alloc::Global;
 
 /// What a number of entities is below (section 6.2.1).

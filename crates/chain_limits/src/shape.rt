@@ -13,13 +13,13 @@ pub enum LimitShape {
     Memory,
 }
 
-impl From<fed_ports::Memory> for LimitShape {
+impl From<fed_base::Memory> for LimitShape {
     ghost use Rattle.chain_limits.specs.declared.shape.LimitShape.TheVariants.{Memory};
     ghost use Rattle.std.specs.Prelude.{◌≡◌};
 
     ghost from_gives = { λ _ e. e ≡ Memory };
 
-    fn from(_: fed_ports::Memory) -> Self {
+    fn from(_: fed_base::Memory) -> Self {
         LimitShape::Memory
     }
 }

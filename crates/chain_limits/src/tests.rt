@@ -2,7 +2,7 @@
 
 use crate::{Constraints, LimitShape, LimitVerdict, Place, allowed_types, limits_met};
 use fed_json::{json_equal, read_tree};
-use fed_ports::{Duplicate, Memory, Seq, Text};
+use fed_base::{Duplicate, Memory, Seq, Text};
 use std::alloc::Global;
 use std::test::Fail;
 

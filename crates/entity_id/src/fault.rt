@@ -19,13 +19,13 @@ pub enum IdFault {
     Memory,
 }
 
-impl From<fed_ports::Memory> for IdFault {
+impl From<fed_base::Memory> for IdFault {
     ghost use Rattle.entity_id.specs.declared.fault.IdFault.TheVariants.{Memory};
     ghost use Rattle.std.specs.Prelude.{◌≡◌};
 
     ghost from_gives = { λ _ e. e ≡ Memory };
 
-    fn from(_: fed_ports::Memory) -> Self {
+    fn from(_: fed_base::Memory) -> Self {
         IdFault::Memory
     }
 }

@@ -8,7 +8,7 @@ ghost use Rattle.entity_id.specs.Urls.{well_known_of};
 
 use crate::fault::IdFault;
 use crate::urls::without_slash;
-use fed_ports::{Duplicate, Memory, Text};
+use fed_base::{Duplicate, Memory, Text};
 use std::alloc::Global;
 use std::marker::Model;
 use url::{ParseError, Url};

@@ -1,7 +1,7 @@
 // Identifiers, names and URLs as OpenID Federation 1.0, RFC 5280 and the URL Standard have them.
 
 use crate::{EntityId, IdFault, fetch_url, matches_name};
-use fed_ports::{Duplicate, Text};
+use fed_base::{Duplicate, Text};
 use std::test::Fail;
 
 #[test]

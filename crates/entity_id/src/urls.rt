@@ -4,7 +4,7 @@ ghost use Rattle.std.specs.Prelude.{◌≡◌, IfOk};
 ghost use Rattle.entity_id.specs.Urls.{base_of, fetch_url_of};
 
 use crate::identifier::EntityId;
-use fed_ports::{Memory, Text};
+use fed_base::{Memory, Text};
 use std::alloc::Global;
 
 /// The text without the slash at its end, where one stands there. Paths of a federation's documents are put behind it.

@@ -1,7 +1,7 @@
 -- What stands behind an answer that is `Ok`.
 use Rattle.std.proofs.Common.{◌≡◌, Option, Some, None, Result, Ok, Err, refl, ap, subst}
 use Rattle.std.specs.Option.{ok_or}
-use Rattle.fed_ports.specs.Answers.{◌>>=◌}
+use Rattle.fed_base.specs.Answers.{◌>>=◌}
 use Rattle.fed_json.specs.declared.tree.Json.{Json}
 use Rattle.entity_statement.specs.declared.fault.StatementFault.{StatementFault}
 use Rattle.entity_statement.specs.Table.{said}

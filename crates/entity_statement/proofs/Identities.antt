@@ -7,7 +7,7 @@ use Rattle.std.proofs.lemmas.Bool.{le-ltb, lt-ltb, ltb-false}
 use Rattle.std.proofs.lemmas.List.Sums.{list_all-from_AllPass}
 use Rattle.std.proofs.lemmas.List.Folds.{list_any_none}
 use Rattle.url.specs.Parser.{parse_url}
-use Rattle.fed_ports.specs.Times.{moment_limit}
+use Rattle.fed_base.specs.Moments.{moment_limit}
 use Rattle.fed_json.specs.declared.tree.Json.{Json, Int, Text}
 use Rattle.fed_json.specs.Trees.{as_int, as_text, if_below}
 use Rattle.fed_json.proofs.Accessors.{Int-as_int, Text-as_text, as_int-Int, as_text-Text}

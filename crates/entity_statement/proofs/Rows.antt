@@ -1,6 +1,6 @@
 -- The table of claims, row by row.
 use Rattle.std.proofs.Common.{◌≡◌, ℕ, List, codes, bytes_eq, Result, Ok, Err, refl, ◌∙◌, subst}
-use Rattle.fed_ports.specs.Answers.{◌>>=◌}
+use Rattle.fed_base.specs.Answers.{◌>>=◌}
 use Rattle.fed_json.specs.declared.tree.Json.{Json}
 use Rattle.fed_json.specs.declared.tree.Member.{Member}
 use Rattle.jwk_set.specs.declared.jwk.Jwk.{Jwk}

@@ -1,7 +1,7 @@
 -- Which claims a text says, one fact a claim (OpenID Federation 1.0 section 3.1).
 use Rattle.std.specs.Prelude.{◌≡◌, ◌≢◌, ◌<◌, ℕ, pos, List, [], codes, IsTrue, Some, None, MatchOption}
 use Rattle.std.specs.List.{list_all}
-use Rattle.fed_ports.specs.Times.{moment_limit}
+use Rattle.fed_base.specs.Moments.{moment_limit}
 use Rattle.fed_json.specs.declared.tree.Json.{Json, Text, Int, Object}
 use Rattle.fed_json.specs.declared.tree.Member.{Member}
 use Rattle.fed_json.specs.Trees.{find, texts_of}

@@ -2,7 +2,7 @@
 use Rattle.std.specs.Prelude.{◌≡◌, ℕ, List, [], ◌∷◌, codes, bytes_eq, Bool, false, not, Option, Some, None, option_and_then, Result, Ok, Err, if◌then◌else◌}
 use Rattle.std.specs.Option.{ok_or, option_map_or}
 use Rattle.std.specs.List.{list_any, find as first_that}
-use Rattle.fed_ports.specs.Answers.{◌>>=◌}
+use Rattle.fed_base.specs.Answers.{◌>>=◌}
 use Rattle.fed_json.specs.declared.tree.Json.{Json}
 use Rattle.fed_json.specs.declared.tree.Member.{Member}
 use Rattle.fed_json.specs.Trees.{as_object, find, texts_of}

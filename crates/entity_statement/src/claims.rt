@@ -14,7 +14,7 @@ use crate::table::{formed, in_place, required};
 use chain_limits::{Constraints, LimitShape};
 use entity_id::EntityId;
 use fed_json::{Member, copied_texts, find};
-use fed_ports::{Duplicate, Memory, Seq, Text};
+use fed_base::{Duplicate, Memory, Seq, Text};
 use jwk_set::{JwkSet, SetFault};
 use policy_merge::{Operator, Policy, PolicyShape, is_metadata};
 use std::alloc::Global;

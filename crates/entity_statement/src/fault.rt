@@ -1,6 +1,6 @@
 // Why a text is no entity statement.
 
-use fed_ports::{Duplicate, Memory, Text};
+use fed_base::{Duplicate, Memory, Text};
 use jwk_set::SetFault;
 use std::alloc::Global;
 use std::fmt;

@@ -7,7 +7,7 @@ ghost use Rattle.entity_statement.specs.Forms.{hints_of, identifier, moment, onc
 
 use entity_id::EntityId;
 use fed_json::{Json, count_below};
-use fed_ports::{MOMENT_LIMIT, Memory, Seq};
+use fed_base::{MOMENT_LIMIT, Memory, Seq};
 use std::alloc::Global;
 
 /// How many hints an entity has at most.

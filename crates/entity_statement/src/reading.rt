@@ -2,7 +2,7 @@
 
 ghost use Rattle.std.specs.Prelude.{◌≡◌, ◌<◌, codes, unwrap_or, IfOk, IsTrue};
 ghost use Rattle.std.specs.Option.{option_copied};
-ghost use Rattle.fed_ports.specs.Times.{moment_limit};
+ghost use Rattle.fed_base.specs.Moments.{moment_limit};
 ghost use Rattle.fed_json.specs.Forms.{members_well_formed};
 ghost use Rattle.fed_json.specs.Trees.{find as value_at};
 ghost use Rattle.entity_statement.specs.Claims.{no_metadata};
@@ -17,7 +17,7 @@ use crate::fault::StatementFault;
 use crate::statement::Statement;
 use entity_id::EntityId;
 use fed_json::{Json, Member};
-use fed_ports::{Seq, Text};
+use fed_base::{Seq, Text};
 use jwk_set::JwkSet;
 use std::alloc::Global;
 

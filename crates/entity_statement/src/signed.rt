@@ -5,7 +5,7 @@ ghost use Rattle.entity_statement.specs.Signed.{IsReading};
 
 use crate::fault::StatementFault;
 use crate::statement::Statement;
-use fed_ports::Memory;
+use fed_base::Memory;
 use jws_form::{Compact, FormFault, split};
 use std::alloc::Global;
 

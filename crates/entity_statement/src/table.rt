@@ -9,7 +9,7 @@ ghost use Rattle.entity_statement.specs.declared.fault.StatementFault.TheVariant
 
 use crate::fault::StatementFault;
 use fed_json::{Json, Member, find};
-use fed_ports::Text;
+use fed_base::Text;
 use std::alloc::Global;
 
 /// The value of a claim that must be there.

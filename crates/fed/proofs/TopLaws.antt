@@ -2,7 +2,7 @@
 use Rattle.std.proofs.Common.{◌≡◌, ◌⊎◌, ◌≤◌, ℕ, List, refl, ap, ◌∙◌, subst, inl, inr, arith, lit≤}
 use Rattle.std.specs.Prelude.{Option}
 use Rattle.fed_ports.specs.Bytes.{Appends}
-use Rattle.fed_ports.specs.Causes.{Rose}
+use Rattle.fed_base.specs.Counts.{Rose}
 use Rattle.fed_ports.specs.Stores.{Files}
 use Rattle.fed.specs.Answers.{Answers, IsEnded, IsReached, Outside, Stands, StopsAs, Tells, stop_status}
 use Rattle.fed.specs.declared.answer.Stop.{Stop}

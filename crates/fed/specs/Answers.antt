@@ -1,11 +1,11 @@
 -- What the program answers: a status, the text that it writes, and the file that it keeps.
 use Rattle.std.specs.Prelude.{◌≡◌, ◌⊎◌, ◌≤◌, ◌<◌, ℕ, List, length, take, nat_lt, Bool, true, false, IsTrue, Option, Some, None, Result, Ok, Err, IfSome, MatchOption, if◌then◌else◌}
 use Rattle.fed_ports.specs.Bytes.{Appends}
-use Rattle.fed_ports.specs.Causes.{Rose, next_count}
+use Rattle.fed_base.specs.Counts.{Rose, next_count}
 use Rattle.fed_ports.specs.Inputs.{AtEnd}
 use Rattle.fed_ports.specs.Stores.{Files, file_limit, IsFile, Keeps}
 use Rattle.fed_ports.specs.Times.{Told}
-use Rattle.fed_ports.specs.declared.faults.Failed.{Failed}
+use Rattle.fed_base.specs.declared.faults.Failed.{Failed}
 use Rattle.fed.specs.declared.answer.Stop.{Stop}
 use Rattle.fed.specs.declared.answer.Stop.TheVariants.{Source, Store, Memory}
 use Rattle.fed.specs.declared.command.Command.{Command}

@@ -1,7 +1,7 @@
 -- Options, their values and numbers among the words.
 use Rattle.std.specs.Prelude.{◌+◌, ◌-◌, ◌*◌, ℕ, List, [], ◌∷◌, ◌&&◌, Bool, true, false, not, nat_eq, nat_le, nat_lt, bytes_eq, Option, Some, None, if◌then◌else◌}
 use Rattle.std.specs.Option.{option_and_then}
-use Rattle.fed_ports.specs.Times.{moment_limit}
+use Rattle.fed_base.specs.Moments.{moment_limit}
 
 -- the value behind the first option of that name, where the words are pairs of an option and its value
 unfoldable pub option_in : List ℕ → List (List ℕ) → Option (List ℕ)

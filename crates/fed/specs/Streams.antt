@@ -2,7 +2,7 @@
 use Rattle.std.specs.Prelude.{◌≡◌, ◌≤◌, ℕ, ◌-◌, List, [], ◌∷◌, length, take, Option, Result, MatchResult, nat_eq, if◌then◌else◌}
 use Rattle.std.specs.List.{ends_with}
 use Rattle.fed_ports.specs.Bytes.{Appends}
-use Rattle.fed_ports.specs.Causes.{Rose}
+use Rattle.fed_base.specs.Counts.{Rose}
 
 -- how many bytes the line end has: two for CR LF, one for LF, none
 abbrev pub line_end : List ℕ → ℕ

@@ -2,7 +2,7 @@
 
 ghost use Rattle.std.specs.Prelude.{◌≡◌, ◌<◌};
 ghost use Rattle.std.specs.Option.{option_copied};
-ghost use Rattle.fed_ports.specs.Times.{moment_limit};
+ghost use Rattle.fed_base.specs.Moments.{moment_limit};
 ghost use Rattle.fed.specs.Options.{option_in, number_after, number_of, moment_in};
 
 use fed_ports::{MOMENT_LIMIT, Text};

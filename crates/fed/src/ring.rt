@@ -4,7 +4,7 @@ ghost use Rattle.std.specs.Prelude.{◌≡◌, ◌<◌, ◌≤◌, ◌^◌, ◌�
 ghost use Rattle.std.specs.Option.{option_copied};
 ghost use Rattle.fed_json.specs.Forms.{IsWhole, nesting};
 ghost use Rattle.hex.specs.Hex.{IsBytes};
-ghost use Rattle.fed_ports.specs.Times.{moment_limit};
+ghost use Rattle.fed_base.specs.Moments.{moment_limit};
 ghost use Rattle.fed.specs.Rings.{IsRing, fields_in, key_fields, key_in, moment_at, seeds_at, ring_tree, live_key, number_member};
 
 use fed_json::{

@@ -3,7 +3,7 @@
 ghost use Rattle.std.specs.Prelude.{◌≡◌, IfOk};
 
 use crate::tree::{Json, Member};
-use fed_ports::{Duplicate, Memory, Seq};
+use fed_base::{Duplicate, Memory, Seq};
 use std::alloc::Global;
 
 impl Duplicate for Json {

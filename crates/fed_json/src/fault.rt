@@ -13,13 +13,13 @@ pub enum TreeFault {
     Memory,
 }
 
-impl From<fed_ports::Memory> for TreeFault {
+impl From<fed_base::Memory> for TreeFault {
     ghost use Rattle.fed_json.specs.declared.fault.TreeFault.TheVariants.{Memory};
     ghost use Rattle.std.specs.Prelude.{◌≡◌};
 
     ghost from_gives = { λ _ e. e ≡ Memory };
 
-    fn from(_: fed_ports::Memory) -> Self {
+    fn from(_: fed_base::Memory) -> Self {
         TreeFault::Memory
     }
 }

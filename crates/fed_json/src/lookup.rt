@@ -7,7 +7,7 @@ ghost use Rattle.fed_json.specs.Forms.{IsWellFormed, members_well_formed};
 ghost use Rattle.fed_json.specs.Trees.{find as value_at, text_at as text_in, object_members as members_in, count_below as count_in, texts_in, texts_of};
 
 use crate::tree::{Json, Member};
-use fed_ports::{Duplicate, Memory, Seq, Text};
+use fed_base::{Duplicate, Memory, Seq, Text};
 use std::alloc::Global;
 
 /// The value of the first member of that name.

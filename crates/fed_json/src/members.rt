@@ -4,7 +4,7 @@ ghost use Rattle.std.specs.Prelude.{◌≡◌, IfOk};
 ghost use Rattle.fed_json.specs.Members.{text_member};
 
 use crate::tree::{Json, Member};
-use fed_ports::{Memory, Text};
+use fed_base::{Memory, Text};
 use std::alloc::Global;
 
 /// A member of that name that is a text. A tree of such members is whole only where their names and texts are UTF-8.

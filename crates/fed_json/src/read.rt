@@ -8,7 +8,7 @@ ghost use Rattle.serde_json.specs.View.{view, items_view, members_view, number_v
 
 use crate::fault::TreeFault;
 use crate::tree::{Json, Member};
-use fed_ports::{Memory, Seq, Text};
+use fed_base::{Memory, Seq, Text};
 use serde_json::{Map, Number, Value};
 use std::alloc::Global;
 

@@ -7,7 +7,7 @@ ghost use Rattle.fed_json.specs.Sets.{once, union_of, intersection_of};
 
 use crate::equal::json_equal;
 use crate::tree::Json;
-use fed_ports::{Duplicate, Memory, Seq};
+use fed_base::{Duplicate, Memory, Seq};
 use std::alloc::Global;
 
 /// Whether every member of `part` is a member of `list`.

@@ -4,7 +4,7 @@ use crate::{
     Json, Member, TreeFault, find, includes, intersect, is_whole, json_equal, read_tree, union,
     write_tree,
 };
-use fed_ports::{Duplicate, Memory, Seq, Text};
+use fed_base::{Duplicate, Memory, Seq, Text};
 use std::alloc::Global;
 use std::process::Abort;
 use std::test::Fail;

@@ -1,6 +1,6 @@
 // The values of JSON.
 
-use fed_ports::{Seq, Text};
+use fed_base::{Seq, Text};
 
 /// A JSON value (RFC 8259 section 3).
 #[cycle(json)]

@@ -11,7 +11,7 @@ ghost use Rattle.fed_json.specs.declared.tree.Json.{Int};
 ghost use Rattle.serde_json.specs.View.{view, items_view, members_view};
 
 use crate::tree::{Json, Member};
-use fed_ports::{Memory, Text};
+use fed_base::{Memory, Text};
 use serde_json::{Map, Number, Value};
 use std::alloc::Global;
 

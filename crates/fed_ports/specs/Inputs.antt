@@ -1,6 +1,6 @@
 -- Reading a source to its end.
 use Rattle.std.specs.Prelude.{◌≡◌, ◌≤◌, ◌<◌, ℕ, List, [], ◌++◌, length, Option, option_map, IfSome}
-use Rattle.fed_ports.specs.Causes.{Rose}
+use Rattle.fed_base.specs.Counts.{Rose}
 use Rattle.fed_ports.specs.Stores.{file_limit}
 use Rattle.fed_ports.specs.declared.input.ReadEnd.{ReadEnd}
 use Rattle.fed_ports.specs.declared.input.ReadEnd.TheVariants.{Failed, TooLong, Memory}

@@ -1,12 +1,9 @@
-pub mod Answers
 pub mod Bytes
 pub mod Causes
 pub mod Inputs
-pub mod Ledgers
 pub mod MemoryClocks
 pub mod MemoryStores
 pub mod MemoryStreams
 pub mod Plans
 pub mod Stores
 pub mod Times
-pub mod formers

@@ -1,7 +1,7 @@
 -- The readings of a clock of given moments.
 use Rattle.std.specs.Prelude.{◌-◌, ℕ, zero, suc, List, [], ◌∷◌, ◌++◌, length, slice_index, Option, Some, None, cond, nat_lt, min}
-use Rattle.fed_ports.specs.Causes.{last_count}
-use Rattle.fed_ports.specs.Times.{moment_limit}
+use Rattle.fed_base.specs.Counts.{last_count}
+use Rattle.fed_base.specs.Moments.{moment_limit}
 use Rattle.fed_ports.specs.declared.memory_clock.MemoryClock.{MemoryClock}
 
 -- a moment below the limit, or 0

@@ -1,6 +1,6 @@
 -- What a store holds, and what its calls do to it.
 use Rattle.std.specs.Prelude.{◌≡◌, ◌≢◌, ◌≤◌, ◌<◌, ◌⊎◌, ℕ, List, length, Option, Some, None, Result, Ok, Err, OnOk, OnErr, IfSome}
-use Rattle.fed_ports.specs.Causes.{Rose}
+use Rattle.fed_base.specs.Counts.{Rose}
 use Rattle.fed_ports.specs.declared.store.StoreFault.{StoreFault}
 use Rattle.fed_ports.specs.declared.store.StoreFault.TheVariants.{Failed, TooLong, Memory}
 

@@ -1,10 +1,6 @@
--- Moments, and what a clock has told.
-use Rattle.std.specs.Prelude.{◌≡◌, ◌⊎◌, ◌^◌, ℕ, List, [], ◌∷◌, ◌++◌, Option, Some, None}
-use Rattle.fed_ports.specs.Causes.{next_count, last_count}
-
--- what every moment is below, in whole seconds since 1970
-abbrev pub moment_limit : ℕ
-moment_limit = 2 ^ 62
+-- What a clock has told.
+use Rattle.std.specs.Prelude.{◌≡◌, ◌⊎◌, ℕ, List, [], ◌∷◌, ◌++◌, Option, Some, None}
+use Rattle.fed_base.specs.Counts.{next_count, last_count}
 
 -- where the readings are told, they are those from before and the new one; a clock that told them stops only where their
 -- count, from `before` on, comes to its last value

@@ -3,7 +3,7 @@
 ghost use Rattle.std.specs.Prelude.{◌≡◌, ◌↔◌, IsTrue, IfOk};
 ghost use Rattle.fed_ports.specs.Plans.{Plan, plan_of, after_call, IsDue};
 
-use crate::faults::Memory;
+use fed_base::Memory;
 use std::alloc::Global;
 
 /// The numbers of the calls that are to fail, and the number of calls for which there is room.

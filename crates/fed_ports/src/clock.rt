@@ -1,14 +1,12 @@
 // Where the moment comes from.
 
 ghost use Rattle.std.specs.Prelude.{◌≡◌, ◌<◌, List, ℕ, Option, IfOk};
-ghost use Rattle.fed_ports.specs.Causes.{next_count};
-ghost use Rattle.fed_ports.specs.Times.{Told, moment_limit};
+ghost use Rattle.fed_base.specs.Counts.{next_count};
+ghost use Rattle.fed_base.specs.Moments.{moment_limit};
+ghost use Rattle.fed_ports.specs.Times.{Told};
 
-use crate::faults::Memory;
+use fed_base::Memory;
 use std::alloc::Global;
-
-/// What every moment is below, in whole seconds since 1970: 2^62.
-pub const MOMENT_LIMIT: u64 = 1 << 62;
 
 /// What gives the moment, in whole seconds since 1970.
 pub trait Clock: Sized + Send {

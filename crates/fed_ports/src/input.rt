@@ -5,7 +5,7 @@ ghost use Rattle.fed_ports.specs.Inputs.{EndsAs, IsWholeInput};
 
 use crate::source::Source;
 use crate::store::FILE_LIMIT;
-use crate::text::Text;
+use fed_base::Text;
 use std::alloc::Global;
 
 /// Why a reading ended without the whole input.

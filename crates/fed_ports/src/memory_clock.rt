@@ -2,10 +2,10 @@
 
 ghost use Rattle.std.specs.Prelude.{◌≡◌, ◌<◌, IfOk};
 ghost use Rattle.fed_ports.specs.MemoryClocks.{told_of, moment_at};
-ghost use Rattle.fed_ports.specs.Times.{moment_limit};
+ghost use Rattle.fed_base.specs.Moments.{moment_limit};
 
-use crate::clock::{Clock, MOMENT_LIMIT};
-use crate::faults::Memory;
+use crate::clock::Clock;
+use fed_base::{MOMENT_LIMIT, Memory};
 use std::alloc::Global;
 
 /// A clock that gives these moments in order, then the last of them again, and 0 where there is none. A moment of 2^62 or more counts as 0.
@@ -51,7 +51,7 @@ fn moment(moments: &[u64], reading: u64) -> u64
 }
 
 impl Clock for MemoryClock {
-    ghost use Rattle.fed_ports.specs.Causes.{next_count};
+    ghost use Rattle.fed_base.specs.Counts.{next_count};
     ghost use Rattle.fed_ports.specs.MemoryClocks.{moment_at, clock_moments, clock_readings, clock_last};
     ghost use Rattle.fed_ports.specs.Times.{Told};
 

@@ -6,7 +6,7 @@ ghost use Rattle.fed_ports.specs.Bytes.{Appends};
 ghost use Rattle.fed_ports.specs.Plans.{after_call, IsDue};
 
 use crate::call_plan::CallPlan;
-use crate::faults::{Failed, Memory};
+use fed_base::{Failed, Memory};
 use crate::sink::Sink;
 use std::alloc::Global;
 

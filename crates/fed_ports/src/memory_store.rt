@@ -8,11 +8,8 @@ ghost use Rattle.fed_ports.specs.MemoryStores.{file_of};
 ghost use Rattle.fed_ports.specs.Stores.{Loads, Keeps, IsKept, HasStoreCause};
 
 use crate::call_plan::CallPlan;
-use crate::duplicate::Duplicate;
-use crate::faults::{Failed, Memory};
-use crate::seq::Seq;
+use fed_base::{Duplicate, Failed, Memory, Seq, Text};
 use crate::store::{FILE_LIMIT, Store, StoreFault};
-use crate::text::Text;
 use std::alloc::Global;
 
 /// A file of a store in memory.

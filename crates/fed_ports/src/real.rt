@@ -2,7 +2,7 @@
 
 ghost use Rattle.std.specs.Prelude.{◌≡◌, None};
 
-use crate::faults::Failed;
+use fed_base::Failed;
 use crate::sink::Sink;
 use crate::source::Source;
 use std::io::{Read, Write};

@@ -1,10 +1,10 @@
 // The system's clock. It tells no readings.
 
 ghost use Rattle.std.specs.Prelude.{◌≡◌, ◌<◌, None};
-ghost use Rattle.fed_ports.specs.Times.{moment_limit};
+ghost use Rattle.fed_base.specs.Moments.{moment_limit};
 
-use crate::clock::{Clock, MOMENT_LIMIT};
-use crate::faults::Memory;
+use crate::clock::Clock;
+use fed_base::{MOMENT_LIMIT, Memory};
 use std::alloc::Global;
 use std::time::{Clock as SystemClock, SystemTime, UNIX_EPOCH};
 

@@ -3,12 +3,10 @@
 ghost use Rattle.std.specs.Prelude.{◌≡◌, None};
 ghost use Rattle.fed_ports.specs.Stores.{Loads};
 
-use crate::duplicate::Duplicate;
-use crate::faults::Failed;
+use fed_base::{Duplicate, Failed, Text};
 use crate::input::{ReadEnd, read_all};
 use crate::real::RealSource;
 use crate::store::{Store, StoreFault};
-use crate::text::Text;
 use std::alloc::Global;
 use std::fs::{OpenFile, OpenOptions};
 use std::io::{ErrorKind, Write};

@@ -4,7 +4,7 @@ ghost use Rattle.std.specs.Prelude.{◌≡◌, ◌<◌, ◌≤◌, List, ℕ, le
 ghost use Rattle.fed_ports.specs.Causes.{HasCause};
 ghost use Rattle.fed_ports.specs.Bytes.{Appends};
 
-use crate::faults::Failed;
+use fed_base::Failed;
 
 /// What bytes go to, as standard output or one side of a connection.
 pub trait Sink {

@@ -4,7 +4,7 @@ ghost use Rattle.std.specs.Prelude.{◌≡◌, ◌<◌, ◌≤◌, List, ℕ, le
 ghost use Rattle.fed_ports.specs.Causes.{HasCause};
 ghost use Rattle.fed_ports.specs.Bytes.{Takes};
 
-use crate::faults::Failed;
+use fed_base::Failed;
 
 /// What bytes come from, as standard input or one side of a connection.
 pub trait Source {

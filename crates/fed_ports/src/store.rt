@@ -4,8 +4,7 @@ ghost use Rattle.std.specs.Prelude.{◌≡◌, List, ℕ, Option};
 ghost use Rattle.fed_ports.specs.Causes.{HasCause};
 ghost use Rattle.fed_ports.specs.Stores.{Files, Loads, Keeps, HasStoreCause};
 
-use crate::faults::Failed;
-use crate::text::Text;
+use fed_base::{Failed, Text};
 use std::alloc::Global;
 use thiserror::Error;
 
@@ -26,13 +25,13 @@ pub enum StoreFault {
     Memory,
 }
 
-impl From<crate::faults::Memory> for StoreFault {
+impl From<fed_base::Memory> for StoreFault {
     ghost use Rattle.fed_ports.specs.declared.store.StoreFault.TheVariants.{Memory};
     ghost use Rattle.std.specs.Prelude.{◌≡◌};
 
     ghost from_gives = { λ _ e. e ≡ Memory };
 
-    fn from(_: crate::faults::Memory) -> Self {
+    fn from(_: fed_base::Memory) -> Self {
         StoreFault::Memory
     }
 }

@@ -1,7 +1,7 @@
 -- A tree gives exactly the keys that it is a set of.
 use Rattle.std.proofs.Common.{◌≡◌, ◌<◌, ◌≤◌, ℕ, ◌+◌, List, [], ◌∷◌, ◌++◌, length, map, drop, Bool, true, false, not, cond, get_or, drop-cons, drop_of_length-le, add-one, length-append, IfSome, Option, Some, None, ok_or, Ok, Err, refl, sym, ap, ap₂, ◌∙◌, subst, append_assoc, append-nil, arith}
 use Rattle.fed_json.specs.declared.tree.Json.{Json}
-use Rattle.fed_ports.specs.Answers.{◌>>=◌}
+use Rattle.fed_base.specs.Answers.{◌>>=◌}
 use Rattle.fed_json.proofs.Booleans.{left_true, right_true, both_true}
 use Rattle.jwk_set.specs.declared.jwk.Jwk.{Jwk}
 use Rattle.jwk_set.specs.declared.fault.SetFault.TheVariants.{NotSet, Shape, DoubleKid}

@@ -9,7 +9,7 @@ use Rattle.base64url.specs.Base64url.{IsBytes, base64url, decoded_32}
 use Rattle.base64url.proofs.Canonical.{decoded_32_iff, is_utf8-base64url, IsBytes-base64url}
 use Rattle.fed_json.specs.declared.tree.Json.{Json, Text, the_lemmas}
 use Rattle.fed_json.specs.declared.tree.Member.{Member}
-use Rattle.fed_ports.specs.declared.faults.Memory.{Memory}
+use Rattle.fed_base.specs.declared.faults.Memory.{Memory}
 use Rattle.fed_json.specs.Forms.{has_odd, well_formed, whole, IsWhole}
 use Rattle.fed_json.specs.Trees.{as_object, text_at}
 use Rattle.jws_form.specs.Header.{algorithm}

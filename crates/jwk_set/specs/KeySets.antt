@@ -4,7 +4,7 @@ use Rattle.std.specs.Option.{option_and_then}
 use Rattle.std.specs.List.{list_any}
 use Rattle.fed_json.specs.declared.tree.Json.{Json}
 use Rattle.fed_json.specs.Trees.{as_object, as_list, find, text_at}
-use Rattle.fed_ports.specs.Answers.{◌>>=◌}
+use Rattle.fed_base.specs.Answers.{◌>>=◌}
 use Rattle.jwk_set.specs.declared.jwk.Jwk.{Jwk}
 use Rattle.jwk_set.specs.declared.jwk.Jwk.TheVariants.{Own, Foreign}
 use Rattle.jwk_set.specs.declared.fault.SetFault.{SetFault}

@@ -22,13 +22,13 @@ pub enum SetFault {
     Memory,
 }
 
-impl From<fed_ports::Memory> for SetFault {
+impl From<fed_base::Memory> for SetFault {
     ghost use Rattle.std.specs.Prelude.{◌≡◌};
     ghost use Rattle.jwk_set.specs.declared.fault.SetFault.TheVariants.{Memory};
 
     ghost from_gives = { λ _ fault. fault ≡ Memory };
 
-    fn from(_: fed_ports::Memory) -> Self {
+    fn from(_: fed_base::Memory) -> Self {
         SetFault::Memory
     }
 }

@@ -10,7 +10,7 @@ ghost use Rattle.jwk_set.specs.Trees.{key_tree, own_tree};
 
 use base64url::{decode_32, encode_32};
 use fed_json::{Json, Member, find, is_whole, text_at, text_member};
-use fed_ports::{Duplicate, Memory, Seq, Text};
+use fed_base::{Duplicate, Memory, Seq, Text};
 use jws_form::ALGORITHM;
 use std::alloc::Global;
 

@@ -10,7 +10,7 @@ ghost use Rattle.jwk_set.specs.KeySets.{GivesBy, are_distinct, keys_after, kid_o
 use crate::fault::SetFault;
 use crate::jwk::{Jwk, read_key};
 use fed_json::{Json, find, text_at};
-use fed_ports::{Seq, Text};
+use fed_base::{Seq, Text};
 use std::alloc::Global;
 
 /// How many keys a set has at most.

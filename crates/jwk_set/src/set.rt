@@ -9,7 +9,7 @@ use crate::fault::SetFault;
 use crate::jwk::{Jwk, write_key};
 use crate::keys::{listed_in, read_keys};
 use fed_json::{Json, Member};
-use fed_ports::{Duplicate, Memory, Seq, Text};
+use fed_base::{Duplicate, Memory, Seq, Text};
 use std::alloc::Global;
 
 /// A set of at most 64 public keys (RFC 7517 section 5), of which no two have one `kid`.

@@ -5,7 +5,7 @@ ghost use Rattle.jwk_set.specs.Thumbprints.{thumbprint_of};
 
 use crate::jwk::KEY_TYPE;
 use base64url::{encode, encode_32};
-use fed_ports::{Memory, Text};
+use fed_base::{Memory, Text};
 use jws_form::ALGORITHM;
 use sha2::{Digest, Sha256};
 use std::alloc::Global;

@@ -10,7 +10,7 @@ use Rattle.fed_json.specs.Trees.{find, as_text, as_object}
 use Rattle.fed_json.specs.Forms.{IsWhole, well_formed, has_odd, members_well_formed}
 use Rattle.fed_json.specs.Reading.{reading}
 use Rattle.fed_json.proofs.Layers.{well_formed-Object}
-use Rattle.fed_ports.specs.Answers.{◌>>=◌}
+use Rattle.fed_base.specs.Answers.{◌>>=◌}
 use Rattle.jws_form.specs.declared.fault.FormFault.{FormFault}
 use Rattle.jws_form.specs.declared.fault.FormFault.TheVariants.{Header, Crit, Algorithm}
 use Rattle.jws_form.specs.Header.{algorithm, IsHeader, IsHeaderText}

@@ -7,11 +7,11 @@ use Rattle.std.proofs.lemmas.List.Splits.{slice_split_none, slice_split_at}
 use Rattle.base64.specs.GeneralPurpose.{IsBytes}
 use Rattle.base64.proofs.EngineFacts.{front_bytes}
 use Rattle.jws_form.specs.declared.compact.Compact.{Compact}
-use Rattle.fed_ports.specs.Answers.{◌>>=◌}
+use Rattle.fed_base.specs.Answers.{◌>>=◌}
 use Rattle.jws_form.specs.declared.fault.FormFault.{FormFault}
 use Rattle.jws_form.specs.declared.fault.FormFault.TheVariants.{TooLong, Parts, Base64}
 use Rattle.base64url.specs.Base64url.{base64url}
-use Rattle.fed_ports.specs.declared.faults.Memory.{Memory}
+use Rattle.fed_base.specs.declared.faults.Memory.{Memory}
 use Rattle.jws_form.specs.Header.{IsHeaderText}
 use Rattle.jws_form.specs.Compact.{IsCompact, IsSigningInput, max_bytes, stop, signing_input_of, joined}
 use Rattle.jws_form.specs.Splitting.{Gives, HasForms, is_stop, parts_of, three_of, names_in, bytes_of, compact_of, splitting}

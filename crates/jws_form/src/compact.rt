@@ -1,6 +1,6 @@
 // The parts of a compact text.
 
-use fed_ports::{Duplicate, Memory, Text};
+use fed_base::{Duplicate, Memory, Text};
 use std::alloc::Global;
 
 /// A compact text, taken apart (RFC 7515 section 5.2).

@@ -31,12 +31,12 @@ pub enum FormFault {
     Memory,
 }
 
-impl From<fed_ports::Memory> for FormFault {
+impl From<fed_base::Memory> for FormFault {
     ghost use Rattle.jws_form.specs.declared.fault.FormFault.TheVariants.{Memory};
 
     ghost from_gives = { λ _ fault. fault ≡ Memory };
 
-    fn from(_: fed_ports::Memory) -> Self {
+    fn from(_: fed_base::Memory) -> Self {
         FormFault::Memory
     }
 }

@@ -9,7 +9,7 @@ ghost use Rattle.jws_form.specs.Splitting.{Gives, GivesBy, text_of, names_of, na
 
 use crate::FormFault;
 use fed_json::{Json, Member, TreeFault, find, read_tree};
-use fed_ports::{Duplicate, Memory, Text};
+use fed_base::{Duplicate, Memory, Text};
 use std::alloc::Global;
 
 /// The `alg` of every text and key that verifies: the parameter set of FIPS 205 (RFC 7515 section 4.1.1).

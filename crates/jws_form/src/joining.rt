@@ -10,7 +10,7 @@ ghost use Rattle.jws_form.specs.Header.{IsHeader};
 use crate::parts::STOP;
 use base64::engine::general_purpose::URL_SAFE_NO_PAD;
 use fed_json::{Json, write_tree};
-use fed_ports::{Memory, Text};
+use fed_base::{Memory, Text};
 use std::alloc::Global;
 
 /// What the signature of a text with this header and payload is over (RFC 7515 section 5.1): the base64url of the

@@ -6,7 +6,7 @@ ghost use Rattle.jws_form.specs.Compact.{stop};
 ghost use Rattle.jws_form.specs.Splitting.{Gives, bytes_of, parts_of, three_of};
 
 use crate::FormFault;
-use fed_ports::Text;
+use fed_base::Text;
 use std::alloc::Global;
 
 /// The full stop between the parts (RFC 7515 section 7.1).

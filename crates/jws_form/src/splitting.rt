@@ -9,7 +9,7 @@ ghost use Rattle.jws_form.specs.Splitting.{Gives, HasForms, splitting, compact_o
 use crate::header::read_header;
 use crate::parts::{Parts, part_bytes, three_parts};
 use crate::{Compact, FormFault};
-use fed_ports::Text;
+use fed_base::Text;
 use std::alloc::Global;
 
 /// How many bytes a text has at most.

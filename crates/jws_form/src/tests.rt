@@ -2,7 +2,7 @@
 
 use super::*;
 use fed_json::{is_whole, read_tree};
-use fed_ports::{Duplicate, Text};
+use fed_base::{Duplicate, Text};
 use std::alloc::Global;
 use std::test::Fail;
 

@@ -3,7 +3,7 @@ use Rattle.std.proofs.Common.{◌≡◌, inl, inr, List, [], ◌∷◌, Option, 
 use Rattle.std.specs.Option.{option_and_then}
 use Rattle.std.specs.List.{list_all, list_any, filter_map, cons_option}
 use Rattle.std.specs.Str.{is_utf8}
-use Rattle.fed_ports.specs.Answers.{unless}
+use Rattle.fed_base.specs.Answers.{unless}
 use Rattle.fed_json.specs.Forms.{is_before, rising, whole}
 use Rattle.fed_json.specs.Reading.{member_of}
 use Rattle.fed_json.specs.Trees.{find, object_members, member_name}

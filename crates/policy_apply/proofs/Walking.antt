@@ -3,7 +3,7 @@ use Rattle.std.proofs.Common.{◌≡◌, List, [], ◌∷◌, Option, Some, None
 use Rattle.std.specs.Option.{option_and_then}
 use Rattle.std.specs.List.{list_all, filter_map}
 use Rattle.std.specs.Str.{is_utf8}
-use Rattle.fed_ports.specs.Answers.{unless}
+use Rattle.fed_base.specs.Answers.{unless}
 use Rattle.fed_json.specs.Forms.{rising, whole, members_whole}
 use Rattle.fed_json.specs.Reading.{member_of}
 use Rattle.fed_json.specs.Trees.{as_object, object_members, member_name}

@@ -2,7 +2,7 @@
 use Rattle.std.specs.Prelude.{◌≡◌, ℕ, List, [], Option, Some, None, Bool, true, false, ◌&&◌, ◌||◌, not, Result, Ok, Err, if◌then◌else◌}
 use Rattle.std.specs.Option.{option_map_or, option_or}
 use Rattle.std.specs.List.{join_with_byte}
-use Rattle.fed_ports.specs.Answers.{◌>>=◌}
+use Rattle.fed_base.specs.Answers.{◌>>=◌}
 use Rattle.fed_json.specs.Trees.{as_text, texts_in}
 use Rattle.fed_json.specs.Sets.{is_among, union_of, intersection_of}
 use Rattle.fed_json.specs.declared.tree.Json.{Json, Text, List as ListOf}

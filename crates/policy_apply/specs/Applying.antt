@@ -2,7 +2,7 @@
 use Rattle.std.specs.Prelude.{◌≡◌, IsTrue, List, [], Option, Some, None, option_map, Result, Ok, Err}
 use Rattle.std.specs.Option.{option_and_then}
 use Rattle.std.specs.List.{filter_map}
-use Rattle.fed_ports.specs.Answers.{unless}
+use Rattle.fed_base.specs.Answers.{unless}
 use Rattle.fed_json.specs.Reading.{member_of}
 use Rattle.fed_json.specs.Trees.{find, object_members, member_name}
 use Rattle.fed_json.specs.declared.tree.Json.{Json, Object}

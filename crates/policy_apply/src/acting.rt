@@ -9,7 +9,7 @@ ghost use Rattle.policy_apply.specs.Acting.{Leaves, acted as acted_on, by_value 
 
 use crate::stop::Stop;
 use fed_json::{Json, intersect, union};
-use fed_ports::{Duplicate, Memory, Seq, Text};
+use fed_base::{Duplicate, Memory, Seq, Text};
 use policy_merge::{Operator, Operators, holds_all, is_member, is_scope, members, words_in};
 use std::alloc::Global;
 

@@ -18,7 +18,7 @@ use crate::acting::acted;
 use crate::fault::ApplyFault;
 use crate::stop::Stop;
 use fed_json::{Json, Member, object_members};
-use fed_ports::{Duplicate, Seq, Text};
+use fed_base::{Duplicate, Seq, Text};
 use policy_merge::{
     Named, Operator, Operators, Parameters, Policy, Side, Sides, operators_of, parameters_of,
 };

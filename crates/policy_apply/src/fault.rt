@@ -2,7 +2,7 @@
 
 ghost use Rattle.std.specs.Prelude.{◌≡◌, IfOk};
 
-use fed_ports::{Duplicate, Memory, Text};
+use fed_base::{Duplicate, Memory, Text};
 use policy_merge::Operator;
 use std::alloc::Global;
 

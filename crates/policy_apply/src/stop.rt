@@ -1,6 +1,6 @@
 // Why a parameter has no outcome.
 
-use fed_ports::Memory;
+use fed_base::Memory;
 use policy_merge::Operator;
 
 /// Why a parameter is left with no outcome.

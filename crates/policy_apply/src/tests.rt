@@ -5,7 +5,7 @@ ghost use Rattle.policy_merge.specs.Combining.{conflict_in};
 
 use crate::{ApplyFault, apply};
 use fed_json::{TreeFault, is_whole, read_tree, write_tree};
-use fed_ports::{Duplicate, Memory, Text};
+use fed_base::{Duplicate, Memory, Text};
 use policy_merge::{Operator, Policy, PolicyFault, PolicyShape, is_metadata};
 use std::alloc::Global;
 use std::test::Fail;

@@ -9,7 +9,7 @@ use Rattle.policy_merge.specs.declared.fault.PolicyFault.TheVariants.{Conflict, 
 use Rattle.policy_merge.specs.declared.named.Named.{Named}
 use Rattle.policy_merge.specs.Tables.{Name, names_of_both, item_of, Side, side_at, sides}
 use Rattle.policy_merge.specs.Policies.{Parameters, Types, no_operators, operators_formed, parameters_formed, types_formed, parameters_at, operators_at, if_there}
-use Rattle.fed_ports.specs.Answers.{unless}
+use Rattle.fed_base.specs.Answers.{unless}
 use Rattle.policy_merge.specs.Combining.{Pair, first, conflict_at, conflict_in, Gives}
 use Rattle.policy_merge.specs.Merging.{name_of, value_or, merge_clash, parameter_conflict, parameters_conflict, type_conflict, merge_conflict, merging, NoneBefore, IsFirst, clash_in, merge_clash_in}
 use Rattle.policy_merge.proofs.Order.{left_true, right_true, equal-bytes_eq, cmp-behind, first_before, rising-tail}

@@ -9,7 +9,7 @@ use Rattle.policy_merge.specs.declared.named.Named.{Named}
 use Rattle.policy_merge.specs.declared.operator.Operator.TheVariants.{Value, Default}
 use Rattle.policy_merge.specs.Tables.{Name, Side}
 use Rattle.policy_merge.specs.Policies.{Parameters, Types, named, no_operators, operators_formed, parameters_formed, types_formed}
-use Rattle.fed_ports.specs.Answers.{unless}
+use Rattle.fed_base.specs.Answers.{unless}
 use Rattle.policy_merge.specs.Combining.{if_both, clash, first, conflict_at, conflict_in_parameters, conflict_in}
 use Rattle.policy_merge.specs.Merging.{met, merged_operators, merge_clash, name_of, beside, merged_parameter, merged_parameters, merged_type, merged, parameter_conflict, parameters_conflict, type_conflict, merge_conflict, merging}
 use Rattle.policy_merge.proofs.Order.{left_true, right_true, rising-tail}

@@ -8,7 +8,7 @@ use Rattle.policy_merge.specs.declared.operators.Operators.{Operators}
 use Rattle.policy_merge.specs.declared.named.Named.{Named}
 use Rattle.policy_merge.specs.declared.fault.PolicyFault.{PolicyFault}
 use Rattle.policy_merge.specs.declared.fault.PolicyFault.TheVariants.{Conflict, Memory}
-use Rattle.fed_ports.specs.Answers.{unless}
+use Rattle.fed_base.specs.Answers.{unless}
 use Rattle.policy_merge.specs.Tables.{Name, Side, sides}
 use Rattle.policy_merge.specs.Places.{IsEarlier, AreUtf8}
 use Rattle.policy_merge.specs.Policies.{Parameters, Types, named, no_operators, operators_at}

@@ -5,7 +5,7 @@ ghost use Rattle.std.specs.List.{find};
 ghost use Rattle.fed_json.specs.declared.tree.Json.{Json as Tree};
 ghost use Rattle.std.specs.Option.{option_copied, option_and_then, option_map_or};
 ghost use Rattle.fed_json.specs.Sets.{is_among};
-ghost use Rattle.fed_ports.specs.Answers.{unless};
+ghost use Rattle.fed_base.specs.Answers.{unless};
 ghost use Rattle.policy_merge.specs.Combining.{Gives, IsFault, conflict_at, conflict_in, conflict_in_parameters, stand as stands, clash as clash_of, are_among, have_members, if_both};
 ghost use Rattle.policy_merge.specs.Scope.{members_of, words_in as words_of};
 ghost use Rattle.policy_merge.specs.Policies.{is_null as null_tree};
@@ -16,7 +16,7 @@ use crate::operator::Operator;
 use crate::operators::Operators;
 use crate::scope::{members, words_in};
 use fed_json::{Json, includes, json_equal};
-use fed_ports::{Duplicate, Memory, Seq, Text};
+use fed_base::{Duplicate, Memory, Seq, Text};
 use std::alloc::Global;
 
 // The pairs that may not stand together, in the order in which a conflict is named.

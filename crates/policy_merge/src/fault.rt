@@ -3,7 +3,7 @@
 ghost use Rattle.std.specs.Prelude.{◌≡◌, IfOk};
 
 use crate::operator::Operator;
-use fed_ports::{Duplicate, Memory, Text};
+use fed_base::{Duplicate, Memory, Text};
 use std::alloc::Global;
 use thiserror::Error;
 

@@ -14,7 +14,7 @@ use crate::operator::Operator;
 use crate::operators::Operators;
 use crate::sides::Sides;
 use fed_json::{Json, intersect, json_equal, union};
-use fed_ports::{Duplicate, Memory, Seq, Text};
+use fed_base::{Duplicate, Memory, Seq, Text};
 use std::alloc::Global;
 
 /// The parameters of an entity type with their operators, in byte order of the parameters' names.

@@ -3,7 +3,7 @@
 ghost use Rattle.std.specs.Prelude.{◌≡◌, List, ℕ};
 
 use fed_json::Member;
-use fed_ports::{Duplicate, Memory, Text};
+use fed_base::{Duplicate, Memory, Text};
 use std::alloc::Global;
 
 /// An item of a list that is in rising byte order of its items' names.

@@ -4,7 +4,7 @@ ghost use Rattle.std.specs.Prelude.{◌≡◌, [], IfOk, IfErr, IsTrue, None};
 ghost use Rattle.fed_json.specs.Forms.{IsWellFormed};
 ghost use Rattle.policy_merge.specs.Policies.{types_formed, operators_at};
 ghost use Rattle.policy_merge.specs.Tables.{Name};
-ghost use Rattle.fed_ports.specs.Answers.{unless};
+ghost use Rattle.fed_base.specs.Answers.{unless};
 ghost use Rattle.policy_merge.specs.Combining.{Gives, conflict_in};
 ghost use Rattle.policy_merge.specs.Merging.{merging, merged_operators, IsFirst, clash_in, merge_clash_in, NamesUtf8};
 ghost use Rattle.policy_merge.specs.Shapes.{Reads, policy_shape};
@@ -15,7 +15,7 @@ use crate::merging::{Parameters, Types, merge_types};
 use crate::named::Named;
 use crate::read::FromTree;
 use fed_json::{Json, is_whole};
-use fed_ports::{Duplicate, Memory, Seq};
+use fed_base::{Duplicate, Memory, Seq};
 use std::alloc::Global;
 use std::marker::Model;
 

@@ -12,7 +12,7 @@ use crate::named::Named;
 use crate::operator::Operator;
 use crate::operators::Operators;
 use fed_json::{Json, Member, find};
-use fed_ports::{Duplicate, Seq};
+use fed_base::{Duplicate, Seq};
 use std::alloc::Global;
 
 /// A part of a policy that is read from its tree.

@@ -6,7 +6,7 @@ ghost use Rattle.fed_json.specs.Forms.{rising};
 ghost use Rattle.policy_merge.specs.Tables.{sides};
 
 use crate::named::HasName;
-use fed_ports::Text;
+use fed_base::Text;
 use std::cmp::Ordering;
 
 /// What two lists have under one name: one of them or both have it.

@@ -2,7 +2,7 @@
 
 use crate::{Named, Operator, Operators, Policy, PolicyFault, PolicyShape};
 use fed_json::{Json, TreeFault, is_whole, read_tree, write_tree};
-use fed_ports::{Duplicate, Memory, Seq, Text};
+use fed_base::{Duplicate, Memory, Seq, Text};
 use std::alloc::Global;
 use std::test::Fail;
 

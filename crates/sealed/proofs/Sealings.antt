@@ -1,7 +1,7 @@
 -- What is sealed verifies under the signer's key.
 use Rattle.std.proofs.Common.{◌≡◌, ◌≤◌, ℕ, List, length, Option, Some, None, Result, Ok, Err, IfOk, sym, ap, ap₂, ◌∙◌, subst}
 use Rattle.std.specs.Option.{option_and_then}
-use Rattle.fed_ports.specs.declared.faults.Memory.{Memory as NoMemory}
+use Rattle.fed_base.specs.declared.faults.Memory.{Memory as NoMemory}
 use Rattle.fed_json.specs.declared.tree.Json.{Json}
 use Rattle.fed_json.specs.Compact.{compact}
 use Rattle.jws_form.specs.declared.compact.Compact.{Compact}

@@ -19,13 +19,13 @@ pub enum SealFault {
     Memory,
 }
 
-impl From<fed_ports::Memory> for SealFault {
+impl From<fed_base::Memory> for SealFault {
     ghost use Rattle.std.specs.Prelude.{◌≡◌};
     ghost use Rattle.sealed.specs.declared.fault.SealFault.TheVariants.{Memory};
 
     ghost from_gives = { λ _ fault. fault ≡ Memory };
 
-    fn from(_: fed_ports::Memory) -> Self {
+    fn from(_: fed_base::Memory) -> Self {
         SealFault::Memory
     }
 }

@@ -6,7 +6,7 @@ ghost use Rattle.jws_form.specs.Compact.{IsCompact};
 ghost use Rattle.slh_dsa.specs.Verifying.{Verifies};
 ghost use Rattle.sealed.specs.Seals.{Pair, IsSealed, IsUnsealed};
 
-use fed_ports::{Duplicate, Memory, Text};
+use fed_base::{Duplicate, Memory, Text};
 use std::alloc::Global;
 use std::marker::Model;
 

@@ -13,7 +13,7 @@ ghost use Rattle.sealed.specs.Seals.{IsSealedBy};
 ghost use Rattle.sealed.specs.Sealing.{IsObject, header_of, sealed_payload, sealed_text, signer_name};
 
 use fed_json::{Json, text_member, write_tree};
-use fed_ports::{Memory, Seq, Text};
+use fed_base::{Memory, Seq, Text};
 use jwk_set::thumbprint;
 use jws_form::{ALGORITHM, join, signing_input};
 use slh_dsa::{KeyPair, SIGNATURE_BYTES, sign};

@@ -1,7 +1,7 @@
 // The answer of a test.
 
 use crate::pairs::{Sealed, Unsealed};
-use fed_ports::{Duplicate, Memory};
+use fed_base::{Duplicate, Memory};
 use std::alloc::Global;
 
 /// What the test of a text under a key answers.

@@ -1,7 +1,7 @@
 // Tests of signatures.
 
 ghost use Rattle.std.specs.Prelude.{◌≡◌, ℕ, List, Some, None, Err, IfOk, MatchResult, if◌then◌else◌};
-ghost use Rattle.fed_ports.specs.Causes.{next_count};
+ghost use Rattle.fed_base.specs.Counts.{next_count};
 ghost use Rattle.jws_form.specs.Compact.{IsCompact};
 ghost use Rattle.jwk_set.specs.KeySets.{key_named};
 ghost use Rattle.sealed.specs.declared.fault.SealFault.TheVariants.{NoKid, NoKey};
@@ -11,7 +11,7 @@ ghost use Rattle.sealed.specs.Seals.{IsSealedBy};
 use crate::fault::SealFault;
 use crate::pairs::{Sealed, Unsealed};
 use crate::tested::Tested;
-use fed_ports::{Duplicate, Ledger, Memory, Steps};
+use fed_base::{Duplicate, Ledger, Memory, Steps};
 use jwk_set::JwkSet;
 use jws_form::Compact;
 use slh_dsa::verify;

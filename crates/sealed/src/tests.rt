@@ -5,7 +5,7 @@ ghost use Rattle.jws_form.specs.Compact.{IsCompact};
 
 use super::*;
 use fed_json::{Json, is_whole, read_tree};
-use fed_ports::{Duplicate, Plain, Steps, Text};
+use fed_base::{Duplicate, Plain, Steps, Text};
 use jwk_set::JwkSet;
 use jws_form::{Compact, FormFault, split};
 use slh_dsa::KeyPair;

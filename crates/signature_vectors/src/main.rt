@@ -7,7 +7,7 @@
 ghost use Rattle.std.specs.Prelude.{◌≡◌, ◌↔◌, IsTrue};
 ghost use Rattle.slh_dsa.specs.Verifying.{Verifies};
 
-use fed_ports::{Plain, Steps};
+use fed_base::{Plain, Steps};
 use slh_dsa::verify;
 use std::alloc::Global;
 use std::io;

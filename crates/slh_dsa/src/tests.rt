@@ -5,7 +5,7 @@ ghost use Rattle.std.specs.Prelude.{◌<◌};
 mod signatures;
 
 use super::*;
-use fed_ports::{Plain, Steps};
+use fed_base::{Plain, Steps};
 use signatures::{OF_NOTHING, OF_THOUSAND_BYTES};
 use std::process::Abort;
 

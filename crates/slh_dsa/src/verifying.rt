@@ -1,12 +1,12 @@
 // Checking signatures (FIPS 205 sections 9.3 and 10.3).
 
 ghost use Rattle.std.specs.Prelude.{◌≡◌, ◌≢◌, ◌↔◌, IsTrue, length, false};
-ghost use Rattle.fed_ports.specs.Causes.{next_count};
+ghost use Rattle.fed_base.specs.Counts.{next_count};
 ghost use Rattle.slh_dsa.specs.Verifying.{Verifies, root_from, signature_bytes};
 
 use crate::bytes::part;
 use crate::digest::{leaf_of, md_of, tree_of};
-use fed_ports::{Ledger, Steps};
+use fed_base::{Ledger, Steps};
 use fors::{FORS_BYTES, fors_key_from_sig_with};
 use slh_hash::{P128S, SeedHash, h_msg};
 use wots_xmss::{HYPERTREE_BYTES, hyper_key_from_sig_with};

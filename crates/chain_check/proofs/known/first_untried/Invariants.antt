@@ -1,5 +1,5 @@
 use Rattle.chain_check.specs.Judging.{texts_of}
-use Rattle.chain_check.specs.Places.{HoldsBelow}
+use Rattle.fed_base.specs.Places.{HoldsBelow}
 use Rattle.chain_check.specs.Stages.{claims_in}
 use Rattle.chain_check.proofs.JudgingLaws.{KnownAt, SealedAt}
 use Rattle.chain_check.proofs.known.first_untried.Given as goal

@@ -1,5 +1,5 @@
 use Rattle.std.proofs.Common.{◌≢◌}
-use Rattle.chain_check.specs.Places.{HoldsBelow}
+use Rattle.fed_base.specs.Places.{HoldsBelow}
 use Rattle.chain_check.specs.Names.{issuer_at}
 use Rattle.chain_check.specs.Stages.{claims_in}
 use Rattle.chain_check.proofs.names.is_distinct.Given as goal

@@ -1,5 +1,5 @@
 use Rattle.chain_check.specs.Counts.{Counts, CountsAll}
-use Rattle.chain_check.specs.Places.{HoldsBelow}
+use Rattle.fed_base.specs.Places.{HoldsBelow}
 use Rattle.chain_check.specs.Signatures.{NamesOneKey, SignedAt}
 use Rattle.chain_check.proofs.SignatureLaws.{most_at}
 use Rattle.chain_check.specs.Stages.{claims_in, texts_in}

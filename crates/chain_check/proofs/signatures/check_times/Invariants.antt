@@ -1,4 +1,4 @@
-use Rattle.chain_check.specs.Places.{HoldsBelow}
+use Rattle.fed_base.specs.Places.{HoldsBelow}
 use Rattle.chain_check.specs.Signatures.{CurrentAt}
 use Rattle.chain_check.specs.Stages.{claims_in}
 use Rattle.chain_check.proofs.signatures.check_times.Given as goal

@@ -1,5 +1,5 @@
 use Rattle.std.proofs.Common.{◌≡◌, ◌<◌, ◌∙◌, sym, ap, refl, Some, true≢false, subst}
-use Rattle.fed_ports.specs.Times.{moment_limit}
+use Rattle.fed_base.specs.Moments.{moment_limit}
 use Rattle.fed.specs.Rings.{ring_tree}
 use Rattle.fed.proofs.RingLaws.{is_found}
 use Rattle.fed.proofs.ring.read_ring.Goals as goal

@@ -1,6 +1,6 @@
 use Rattle.std.proofs.Common.{◌≡◌, ◌∙◌, sym, ap, subst, true}
 use Rattle.policy_merge.specs.Policies.{types_formed}
-use Rattle.fed_ports.specs.Answers.{unless}
+use Rattle.fed_base.specs.Answers.{unless}
 use Rattle.policy_merge.specs.Combining.{Gives, conflict_in}
 use Rattle.policy_merge.proofs.Least.{combined_first}
 use Rattle.policy_merge.proofs.ConflictNames.{combined-utf8}
