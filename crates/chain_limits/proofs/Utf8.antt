@@ -13,7 +13,7 @@ use Rattle.fed_json.specs.Trees.{find, as_text, as_list, as_object, optional, te
 use Rattle.fed_json.proofs.Accessors.{Text-as_text, List-as_list, Object-as_object, well_formed-find}
 use Rattle.fed_json.proofs.Layers.{well_formed-Text, well_formed-List, well_formed-Object}
 use Rattle.chain_limits.specs.declared.constraints.Constraints.{Constraints}
-use Rattle.chain_limits.specs.Reading.{HoldsUtf8, Texts, constraints_in, excluded_in, max_path_in, members_of, naming_in, permitted_in, reading, together, types_in}
+use Rattle.chain_limits.specs.Reading.{HoldsUtf8, Texts, constraints_in, excluded_in, max_path_in, members_of, naming_in, permitted_in, constraints_of, together, types_in}
 
 -- ---- what stands behind a result
 
@@ -92,8 +92,8 @@ excluded_texts (Some x) texts each is = subst (All IsUtf8) is each
 
 -- ---- the whole
 
-pub HoldsUtf8-reading : (tree : Json) (limits : Constraints) → reading tree ≡ Some limits → IsWellFormed tree → HoldsUtf8 limits
-unfolding reading
+pub HoldsUtf8-reading : (tree : Json) (limits : Constraints) → constraints_of tree ≡ Some limits → IsWellFormed tree → HoldsUtf8 limits
+unfolding constraints_of
 HoldsUtf8-reading tree limits e formed =
     let members = and_then-some constraints_in (as_object tree) limits e in
     let part = parts (max_path_in members.0) (option_and_then permitted_in (naming_in members.0)) (option_and_then excluded_in (naming_in members.0)) (types_in members.0) limits members.2 in

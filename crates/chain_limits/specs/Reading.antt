@@ -55,20 +55,20 @@ constraints_in members =
     together (max_path_in members) (option_and_then permitted_in naming) (option_and_then excluded_in naming) (types_in members)
 
 -- the constraints that the tree tells, where it has their form (section 6.2)
-unfoldable pub reading : Json → Option Constraints
-reading tree = option_and_then constraints_in (as_object tree)
+unfoldable pub constraints_of : Json → Option Constraints
+constraints_of tree = option_and_then constraints_in (as_object tree)
 
 -- the answer is what is expected, and Shape where there is nothing; of want of memory nothing is said
-abbrev pub Gives : {X : Type 0} → Result X LimitShape → Option X → Type 0
-Gives (Ok x) expected = expected ≡ Some x
-Gives (Err Shape) expected = expected ≡ None
-Gives (Err Memory) expected = Unit {0}
+abbrev pub Reads : {X : Type 0} → Result X LimitShape → Option X → Type 0
+Reads (Ok x) expected = expected ≡ Some x
+Reads (Err Shape) expected = expected ≡ None
+Reads (Err Memory) expected = Unit {0}
 
--- `Gives` of the members that a reference points to
-abbrev pub GivesObject : Result (Bor (List Member)) LimitShape → Option (List Member) → Type 0
-GivesObject (Ok members) expected = expected ≡ Some members.now
-GivesObject (Err Shape) expected = expected ≡ None
-GivesObject (Err Memory) expected = ⊥
+-- `Reads` of the members that a reference points to
+abbrev pub ReadsObject : Result (Bor (List Member)) LimitShape → Option (List Member) → Type 0
+ReadsObject (Ok members) expected = expected ≡ Some members.now
+ReadsObject (Err Shape) expected = expected ≡ None
+ReadsObject (Err Memory) expected = ⊥
 
 -- each name and each type is UTF-8 (RFC 8259 section 8.1)
 pub record HoldsUtf8 (limits : Constraints) : Type 0 where

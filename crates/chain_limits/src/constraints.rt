@@ -23,7 +23,7 @@ pub struct Constraints {
 
 impl Constraints {
     ghost use Rattle.fed_json.specs.Forms.{IsWellFormed};
-    ghost use Rattle.chain_limits.specs.Reading.{Gives, HoldsUtf8, no_constraints, reading};
+    ghost use Rattle.chain_limits.specs.Reading.{Reads, HoldsUtf8, no_constraints, constraints_of};
 
     /// What a statement without the claim `constraints` sets: no limit. It takes no memory.
     pub fn none(alloc: Global) -> Constraints
@@ -41,7 +41,7 @@ impl Constraints {
     /// `naming_constraints` an object whose `permitted` and `excluded` are lists of texts, and `allowed_entity_types` a
     /// list of texts. Each of them may be missing; `Shape` where one is there in another form.
     pub fn read(alloc: Global, tree: &Json) -> Result<Constraints, LimitShape>
-        ensures constraints { Gives result (reading tree.now) }
+        ensures constraints { Reads result (constraints_of tree.now) }
         ensures utf8 { IsWellFormed tree.now → IfOk result HoldsUtf8 }
     {
         let members = object(tree)?;

@@ -2,7 +2,7 @@
 
 ghost use Rattle.std.specs.Prelude.{◌^◌};
 ghost use Rattle.fed_json.specs.Trees.{as_object, count_below as count_in, find as value_at, optional, texts_of};
-ghost use Rattle.chain_limits.specs.Reading.{Gives, GivesObject, naming_in};
+ghost use Rattle.chain_limits.specs.Reading.{Reads, ReadsObject, naming_in};
 
 use crate::shape::LimitShape;
 use fed_json::{Json, Member, copied_texts, count_below, find};
@@ -14,7 +14,7 @@ const COUNTS: u64 = 1 << 32;
 
 /// The members of an object.
 pub(crate) fn object(tree: &Json) -> Result<&[Member], LimitShape>
-    ensures { GivesObject result (as_object tree.now) }
+    ensures { ReadsObject result (as_object tree.now) }
 {
     match tree {
         Json::Object(members) => Ok(members.as_slice()),
@@ -24,7 +24,7 @@ pub(crate) fn object(tree: &Json) -> Result<&[Member], LimitShape>
 
 /// The members of the naming constraints; none where these are missing.
 pub(crate) fn naming(members: &[Member]) -> Result<&[Member], LimitShape>
-    ensures { GivesObject result (naming_in members.now) }
+    ensures { ReadsObject result (naming_in members.now) }
 {
     match find(members, b"naming_constraints") {
         Some(tree) => object(tree),
@@ -34,7 +34,7 @@ pub(crate) fn naming(members: &[Member]) -> Result<&[Member], LimitShape>
 
 /// The whole number below 2^32 under the name, if one is there.
 pub(crate) fn count(members: &[Member], name: &[u8]) -> Result<Option<u64>, LimitShape>
-    ensures { Gives result (optional (count_in (2 ^ 32)) (value_at name.now members.now)) }
+    ensures { Reads result (optional (count_in (2 ^ 32)) (value_at name.now members.now)) }
 {
     let Some(tree) = find(members, name) else {
         return Ok(None);
@@ -51,7 +51,7 @@ pub(crate) fn texts(
     members: &[Member],
     name: &[u8],
 ) -> Result<Option<Seq<Text>>, LimitShape>
-    ensures { Gives result (optional texts_of (value_at name.now members.now)) }
+    ensures { Reads result (optional texts_of (value_at name.now members.now)) }
 {
     let Some(tree) = find(members, name) else {
         return Ok(None);

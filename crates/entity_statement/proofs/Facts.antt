@@ -16,7 +16,7 @@ use Rattle.fed_json.proofs.Layers.{well_formed-List, well_formed-Text, whole-Obj
 use Rattle.policy_merge.specs.Metadata.{is_metadata, is_object_of}
 use Rattle.policy_merge.specs.Policies.{is_null}
 use Rattle.chain_limits.specs.declared.constraints.Constraints.{Constraints}
-use Rattle.chain_limits.specs.Reading.{HoldsUtf8, Texts, no_constraints, reading as limits_in}
+use Rattle.chain_limits.specs.Reading.{HoldsUtf8, Texts, no_constraints, constraints_of}
 use Rattle.chain_limits.proofs.Utf8.{HoldsUtf8-reading, and_then-some, map-some, members_formed}
 use Rattle.entity_statement.specs.declared.fault.StatementFault.TheVariants.{Missing, Shape}
 use Rattle.entity_statement.specs.declared.marks.MarkEntry.{MarkEntry}
@@ -103,9 +103,9 @@ metadata-is members m e =
 pub constraints-utf8 : (own : Bool) (members : List Member) (limits : Constraints) → constraints_in own members ≡ Ok limits → members_well_formed members ≡ true → HoldsUtf8 limits
 unfolding constraints_in
 constraints-utf8 own members limits e well =
-    said-fact HoldsUtf8 no_constraints (placed (not own) (formed limits_in) (codes "constraints")) (find (codes "constraints") members) limits
+    said-fact HoldsUtf8 no_constraints (placed (not own) (formed constraints_of) (codes "constraints")) (find (codes "constraints") members) limits
     (record { permitted = tt; excluded = All-nil IsUtf8; types = tt })
-    (λ tree found says. HoldsUtf8-reading tree limits (placed-ok (not own) limits_in _ tree limits says) (well_formed-find _ members tree found well)) e
+    (λ tree found says. HoldsUtf8-reading tree limits (placed-ok (not own) constraints_of _ tree limits says) (well_formed-find _ members tree found well)) e
 
 -- ---- texts of marks, issuers and owners are UTF-8
 

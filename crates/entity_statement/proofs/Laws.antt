@@ -7,19 +7,19 @@ use Rattle.std.proofs.lemmas.Bool.{true≢false}
 use Rattle.fed_base.specs.Answers.{◌>>=◌}
 use Rattle.fed_json.specs.declared.tree.Json.{Json}
 use Rattle.fed_json.specs.declared.tree.Member.{Member}
-use Rattle.fed_json.specs.Reading.{reading}
+use Rattle.fed_json.specs.Reading.{tree_in}
 use Rattle.fed_json.specs.Trees.{as_object, find, texts_of}
 use Rattle.fed_json.proofs.Accessors.{Object-as_object, as_object-Object}
 use Rattle.fed_json.proofs.Booleans.{both_true, left_true, right_true}
 use Rattle.jws_form.specs.declared.compact.Compact.{Compact}
 use Rattle.jwk_set.specs.declared.jwk.Jwk.{Jwk}
 use Rattle.jwk_set.specs.declared.fault.SetFault.{SetFault}
-use Rattle.jwk_set.specs.KeySets.{reading as keys_in}
+use Rattle.jwk_set.specs.KeySets.{key_set_in}
 use Rattle.jwk_set.proofs.Sets.{found as set_found, only as set_only}
 use Rattle.policy_merge.specs.Metadata.{IsMetadata}
 use Rattle.policy_merge.specs.Shapes.{policy_shape}
 use Rattle.policy_merge.proofs.Order.{bytes_eq-itself, equal-bytes_eq}
-use Rattle.chain_limits.specs.Reading.{Texts, no_constraints, reading as limits_in}
+use Rattle.chain_limits.specs.Reading.{Texts, no_constraints, constraints_of}
 use Rattle.entity_statement.specs.declared.fault.StatementFault.{StatementFault}
 use Rattle.entity_statement.specs.declared.fault.StatementFault.TheVariants.{Missing, Shape, Tree, Typ}
 use Rattle.entity_statement.specs.declared.statement.Statement.{Statement}
@@ -59,7 +59,7 @@ keyed-ok (Err f) keys e = cc e
 keys-are : (name : Name) (members : List Member) (keys : List Jwk) → required name key_set members ≡ Ok keys → HoldsKeys name members keys
 keys-are name members keys e =
     let found = then-ok (ok_or (find name members) (Missing name)) (key_set name) keys e in
-    (found.0, ok_or-ok (find name members) (Missing name) found.0 found.1, set_found found.0 keys (keyed-ok (keys_in found.0) keys found.2))
+    (found.0, ok_or-ok (find name members) (Missing name) found.0 found.1, set_found found.0 keys (keyed-ok (key_set_in found.0) keys found.2))
 
 keys-of : (name : Name) (members : List Member) (keys : List Jwk) → HoldsKeys name members keys → required name key_set members ≡ Ok keys
 keys-of name members keys h = ap (λ o. ok_or o (Missing name) >>= key_set name) h.1 ∙ ap keyed (set_only h.0 keys h.2)
@@ -226,19 +226,19 @@ operators-row members s c =
     may-of (Unit {0}) (λ tree. (s.iss ≢ s.sub) × AreOperators tree) tt (placed below critical_operators name) (find name members) tt (λ none. refl)
     (λ tree is. ap (λ b. in_place b name >>= λ is. critical_operators name tree) (ap not (others-of s.iss s.sub is.0)) ∙ operators-of name tree is.1) c.metadata_policy_crit
 
-constraints-say : (members : List Member) (s : Claims) → Rows members s → MaySay (codes "constraints") members (s.constraints ≡ no_constraints) (λ tree. (s.iss ≢ s.sub) × (limits_in tree ≡ Some s.constraints))
+constraints-say : (members : List Member) (s : Claims) → Rows members s → MaySay (codes "constraints") members (s.constraints ≡ no_constraints) (λ tree. (s.iss ≢ s.sub) × (constraints_of tree ≡ Some s.constraints))
 unfolding constraints_in
 constraints-say members s r =
     let below = not (bytes_eq s.iss s.sub) in
-    may-is (s.constraints ≡ no_constraints) (λ tree. (s.iss ≢ s.sub) × (limits_in tree ≡ Some s.constraints)) no_constraints (placed below (formed limits_in) (codes "constraints")) (find (codes "constraints") members) s.constraints sym
-    (λ tree e. let is = placed-is below limits_in _ tree s.constraints e in (others-are s.iss s.sub is.0, is.1)) r.constraints
+    may-is (s.constraints ≡ no_constraints) (λ tree. (s.iss ≢ s.sub) × (constraints_of tree ≡ Some s.constraints)) no_constraints (placed below (formed constraints_of) (codes "constraints")) (find (codes "constraints") members) s.constraints sym
+    (λ tree e. let is = placed-is below constraints_of _ tree s.constraints e in (others-are s.iss s.sub is.0, is.1)) r.constraints
 
 constraints-row : (members : List Member) (s : Claims) → SaysClaims members s → constraints_in (bytes_eq s.iss s.sub) members ≡ Ok s.constraints
 unfolding constraints_in
 constraints-row members s c =
     let below = not (bytes_eq s.iss s.sub) in
-    may-of (s.constraints ≡ no_constraints) (λ tree. (s.iss ≢ s.sub) × (limits_in tree ≡ Some s.constraints)) no_constraints (placed below (formed limits_in) (codes "constraints")) (find (codes "constraints") members) s.constraints sym
-    (λ tree is. placed-of below limits_in _ tree s.constraints (ap not (others-of s.iss s.sub is.0)) is.1) c.constraints
+    may-of (s.constraints ≡ no_constraints) (λ tree. (s.iss ≢ s.sub) × (constraints_of tree ≡ Some s.constraints)) no_constraints (placed below (formed constraints_of) (codes "constraints")) (find (codes "constraints") members) s.constraints sym
+    (λ tree is. placed-of below constraints_of _ tree s.constraints (ap not (others-of s.iss s.sub is.0)) is.1) c.constraints
 
 -- a claim that is read in a configuration alone
 listed-says : {X : Type 0} (form : Json → Option (List X)) (name : Name) (members : List Member) (a b : Identifier) (xs : List X)
@@ -339,20 +339,20 @@ passes false m x e = cc e
 pub found : (c : Compact) (s : Claims) → claims_of c ≡ Ok s → IsStatement c s
 unfolding claims_of claims_of_tree
 found c s e =
-    let test = passes (is_statement_type c.typ) (ok_or (reading c.payload) Tree >>= claims_of_tree) s e in
-    let tree = then-ok (ok_or (reading c.payload) Tree) claims_of_tree s test.1 in
+    let test = passes (is_statement_type c.typ) (ok_or (tree_in c.payload) Tree >>= claims_of_tree) s e in
+    let tree = then-ok (ok_or (tree_in c.payload) Tree) claims_of_tree s test.1 in
     let object = then-ok (ok_or (as_object tree.0) Tree) claims_in s tree.2 in
     record {
       typed = typed c.typ test.0;
       members = object.0;
-      object = ok_or-ok (reading c.payload) Tree tree.0 tree.1 ∙ ap Some (Object-as_object tree.0 object.0 (ok_or-ok (as_object tree.0) Tree object.0 object.1));
+      object = ok_or-ok (tree_in c.payload) Tree tree.0 tree.1 ∙ ap Some (Object-as_object tree.0 object.0 (ok_or-ok (as_object tree.0) Tree object.0 object.1));
       says = says object.0 s (rows object.0 s object.2);
     }
 
 pub only : (c : Compact) (s : Claims) → IsStatement c s → claims_of c ≡ Ok s
 unfolding claims_of claims_of_tree
 only c s is =
-    let claims : Result Claims StatementFault = ok_or (reading c.payload) Tree >>= claims_of_tree in
+    let claims : Result Claims StatementFault = ok_or (tree_in c.payload) Tree >>= claims_of_tree in
     ap (λ t. cond (is_statement_type t) claims (Err Typ)) is.typed
     ∙ ap (λ b. cond b claims (Err Typ)) (bytes_eq-itself statement_type)
     ∙ ap (λ o. ok_or o Tree >>= claims_of_tree) is.object

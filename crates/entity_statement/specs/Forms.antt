@@ -8,7 +8,7 @@ use Rattle.fed_json.specs.declared.tree.Json.{Json}
 use Rattle.fed_json.specs.declared.tree.Member.{Member}
 use Rattle.fed_json.specs.Trees.{as_list, as_object, as_text, count_below, each, find, text_at, texts_of}
 use Rattle.entity_id.specs.Identifiers.{identifier_of}
-use Rattle.jwk_set.specs.KeySets.{reading}
+use Rattle.jwk_set.specs.KeySets.{key_set_in}
 use Rattle.policy_merge.specs.Metadata.{is_metadata}
 use Rattle.entity_statement.specs.declared.marks.MarkEntry.{MarkEntry}
 use Rattle.entity_statement.specs.declared.marks.Issuers.{Issuers}
@@ -78,7 +78,7 @@ issuers_of tree = option_and_then (each issuers_in) (as_object tree)
 abbrev pub owner_with : List ℕ → List Member → Option OwnerClaims
 owner_with mark_type members =
     option_and_then (λ sub. option_map (λ keys. record { mark_type = mark_type; sub = sub; keys = keys })
-    (option_and_then (λ tree. result_ok (reading tree)) (find (codes "jwks") members)))
+    (option_and_then (λ tree. result_ok (key_set_in tree)) (find (codes "jwks") members)))
     (option_and_then identifier (find (codes "sub") members))
 
 -- the owner of a type of marks (section 3.1.2, `trust_mark_owners`)

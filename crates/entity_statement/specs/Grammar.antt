@@ -5,14 +5,14 @@ use Rattle.fed_base.specs.Moments.{moment_limit}
 use Rattle.fed_json.specs.declared.tree.Json.{Json, Text, Int, Object}
 use Rattle.fed_json.specs.declared.tree.Member.{Member}
 use Rattle.fed_json.specs.Trees.{find, texts_of}
-use Rattle.fed_json.specs.Reading.{reading}
+use Rattle.fed_json.specs.Reading.{tree_in}
 use Rattle.entity_id.specs.Identifiers.{IsIdentifier}
 use Rattle.jws_form.specs.declared.compact.Compact.{Compact}
 use Rattle.jwk_set.specs.declared.jwk.Jwk.{Jwk}
 use Rattle.jwk_set.specs.KeySets.{IsKeySet}
 use Rattle.policy_merge.specs.Metadata.{IsMetadata}
 use Rattle.policy_merge.specs.Shapes.{policy_shape}
-use Rattle.chain_limits.specs.Reading.{no_constraints, reading as limits_in}
+use Rattle.chain_limits.specs.Reading.{no_constraints, constraints_of}
 use Rattle.entity_statement.specs.Claims.{Claims, Identifier, no_metadata}
 use Rattle.entity_statement.specs.Forms.{hints_of, marks_of, issuers_of, owners_of}
 use Rattle.entity_statement.specs.Table.{Name, is_operator, statement_type}
@@ -49,7 +49,7 @@ pub record SaysClaims (members : List Member) (s : Claims) : Type 0 where
   pub metadata : MaySay (codes "metadata") members (s.metadata ≡ no_metadata) (λ tree. IsMetadata tree × (s.metadata ≡ tree))
   pub metadata_policy : MaySay (codes "metadata_policy") members (s.policy ≡ []) (λ tree. (s.iss ≢ s.sub) × (policy_shape tree ≡ Some s.policy))
   pub metadata_policy_crit : MaySay (codes "metadata_policy_crit") members (Unit {0}) (λ tree. (s.iss ≢ s.sub) × AreOperators tree)
-  pub constraints : MaySay (codes "constraints") members (s.constraints ≡ no_constraints) (λ tree. (s.iss ≢ s.sub) × (limits_in tree ≡ Some s.constraints))
+  pub constraints : MaySay (codes "constraints") members (s.constraints ≡ no_constraints) (λ tree. (s.iss ≢ s.sub) × (constraints_of tree ≡ Some s.constraints))
   pub trust_marks : s.iss ≡ s.sub → MaySay (codes "trust_marks") members (s.marks ≡ []) (λ tree. marks_of tree ≡ Some s.marks)
   pub trust_mark_issuers : s.iss ≡ s.sub → MaySay (codes "trust_mark_issuers") members (s.issuers ≡ []) (λ tree. issuers_of tree ≡ Some s.issuers)
   pub trust_mark_owners : s.iss ≡ s.sub → MaySay (codes "trust_mark_owners") members (s.owners ≡ []) (λ tree. owners_of tree ≡ Some s.owners)
@@ -59,5 +59,5 @@ pub record SaysClaims (members : List Member) (s : Claims) : Type 0 where
 pub record IsStatement (c : Compact) (s : Claims) : Type 0 where
   pub typed : c.typ ≡ Some statement_type
   pub members : List Member
-  pub object : reading c.payload ≡ Some (Object members)
+  pub object : tree_in c.payload ≡ Some (Object members)
   pub says : SaysClaims members s

@@ -6,17 +6,17 @@ use Rattle.fed_base.specs.Answers.{◌>>=◌}
 use Rattle.fed_json.specs.declared.tree.Json.{Json}
 use Rattle.fed_json.specs.declared.tree.Member.{Member}
 use Rattle.fed_json.specs.Trees.{as_object, find, texts_of}
-use Rattle.fed_json.specs.Reading.{reading}
+use Rattle.fed_json.specs.Reading.{tree_in}
 use Rattle.jws_form.specs.declared.compact.Compact.{Compact}
 use Rattle.jwk_set.specs.declared.jwk.Jwk.{Jwk}
 use Rattle.jwk_set.specs.declared.fault.SetFault.{SetFault}
-use Rattle.jwk_set.specs.KeySets.{reading as keys_in}
+use Rattle.jwk_set.specs.KeySets.{key_set_in}
 use Rattle.policy_merge.specs.Policies.{Types}
 use Rattle.policy_merge.specs.Names.{operator_name}
 use Rattle.policy_merge.specs.Shapes.{policy_shape}
 use Rattle.policy_merge.specs.declared.operator.Operator.{Operator}
 use Rattle.policy_merge.specs.declared.operator.Operator.TheVariants.{Value, Add, Default, OneOf, SubsetOf, SupersetOf, Essential}
-use Rattle.chain_limits.specs.Reading.{Texts, no_constraints, reading as limits_in}
+use Rattle.chain_limits.specs.Reading.{Texts, no_constraints, constraints_of}
 use Rattle.chain_limits.specs.declared.constraints.Constraints.{Constraints}
 use Rattle.entity_statement.specs.declared.fault.StatementFault.{StatementFault}
 use Rattle.entity_statement.specs.declared.fault.StatementFault.TheVariants.{Typ, Tree, Missing, Shape, Keys, Misplaced, Critical, Memory}
@@ -118,7 +118,7 @@ keyed (Err fault) = Err (Keys fault)
 
 -- the claim is a set of keys (section 3.1.1, `jwks`)
 abbrev pub key_set : Column (List Jwk)
-key_set name tree = keyed (keys_in tree)
+key_set name tree = keyed (key_set_in tree)
 
 -- the claims that every statement has (section 3.1.1)
 pub record CommonClaims : Type 0 where
@@ -161,7 +161,7 @@ policy_crit_in own members = optional tt (codes "metadata_policy_crit") (placed 
 
 -- the limits that a superior sets (section 3.1.3, `constraints`)
 unfoldable pub constraints_in : Bool → List Member → Result Constraints StatementFault
-constraints_in own members = optional no_constraints (codes "constraints") (placed (not own) (formed limits_in)) members
+constraints_in own members = optional no_constraints (codes "constraints") (placed (not own) (formed constraints_of)) members
 
 -- the trust marks of a configuration (section 3.1.2, `trust_marks`)
 unfoldable pub marks_in : Bool → List Member → Result (List MarkEntry) StatementFault
@@ -219,4 +219,4 @@ claims_of_tree tree = ok_or (as_object tree) Tree >>= claims_in
 
 -- what a text says as a statement: its claims, or the first fault (section 3.1)
 unfoldable pub claims_of : Compact → Result Claims StatementFault
-claims_of c = if is_statement_type c.typ then (ok_or (reading c.payload) Tree >>= claims_of_tree) else Err Typ
+claims_of c = if is_statement_type c.typ then (ok_or (tree_in c.payload) Tree >>= claims_of_tree) else Err Typ

@@ -6,7 +6,7 @@ use Rattle.std.specs.Result.{result_ok}
 use Rattle.hex.specs.Hex.{decode_sized}
 use Rattle.fed_json.specs.declared.tree.Json.{Json}
 use Rattle.fed_json.specs.Forms.{whole}
-use Rattle.fed_json.specs.Reading.{reading}
+use Rattle.fed_json.specs.Reading.{tree_in}
 use Rattle.fed.specs.Issues.{issue_reply, of_tree, of_object, sealed_reply}
 use Rattle.fed.specs.Keygens.{keygen_reply, of_seeds, made}
 use Rattle.fed.specs.Answers.{named, wants_input, text_of, IsMomentFor, Readings, IsReply, MayBe, IsNamed, IsReached, IsTextRead, FixesFile, FixesInput}
@@ -191,7 +191,7 @@ keygen_small at exp text = of_digits (result_ok (decode_sized text 48))
 
 issue_small : (keys text : List ℕ) → (issue_reply keys text).status ≤ 2
 unfolding issue_reply of_tree of_object sealed_reply
-issue_small keys text = of_reading (reading text)
+issue_small keys text = of_reading (tree_in text)
   where
     of_tests : (a b c : Bool) (sealed : List ℕ) → (cond a (refused (codes "Form")) (cond b (refused (codes "TooLong")) (cond c (refused (codes "Form")) (plain 0 sealed)))).status ≤ 2
     of_tests true b c sealed = lit≤ tt

@@ -9,7 +9,7 @@ use Rattle.fed_base.specs.Moments.{moment_limit}
 use Rattle.fed_json.specs.declared.tree.Json.{Json, Int, Text}
 use Rattle.fed_json.specs.declared.tree.Member.{Member}
 use Rattle.fed_json.specs.Members.{text_member}
-use Rattle.fed_json.specs.Reading.{reading}
+use Rattle.fed_json.specs.Reading.{tree_in}
 use Rattle.fed_json.specs.Trees.{as_text, count_below, if_below}
 use Rattle.fed_json.proofs.Accessors.{as_text-Text, as_int-Int, as_list-List, as_object-Object}
 use Rattle.fed.specs.Rings.{IsRing, number_member, live_key, ring_tree, key_fields, key_in, fields_in}
@@ -33,7 +33,7 @@ found_again key iat exp size bytes =
     rw (as_object-Object, as_list-List, as_object-Object, seeded key.seeds size bytes, counted key.iat iat, counted key.exp exp) refl
 
 -- and nothing else is
-pub is_found : (text : List ℕ) (tree : Json) (key : LiveKey) → reading text ≡ Some tree → IsRing text key → (tree ≡ ring_tree key) × (fields_in tree ≡ Some key)
+pub is_found : (text : List ℕ) (tree : Json) (key : LiveKey) → tree_in text ≡ Some tree → IsRing text key → (tree ≡ ring_tree key) × (fields_in tree ≡ Some key)
 is_found text tree key read ring =
     let same : tree ≡ ring_tree key = cc (sym read ∙ ring.reads) in
     let order = ring.order in

@@ -9,19 +9,19 @@ use Rattle.chain_check.specs.declared.reason.Reason.TheVariants.{Form, Names, Ti
 use Rattle.chain_check.specs.declared.verdict.Verdict.{Verdict}
 use Rattle.chain_check.specs.declared.verdict.Verdict.TheVariants.{Valid, Refused}
 use Rattle.fed_json.specs.Compact.{compact, quoted}
-use Rattle.fed_json.specs.Reading.{reading}
+use Rattle.fed_json.specs.Reading.{tree_in}
 use Rattle.fed_json.specs.Trees.{texts_of}
-use Rattle.jwk_set.specs.KeySets.{reading as set_of}
+use Rattle.jwk_set.specs.KeySets.{key_set_in}
 use Rattle.jwk_set.specs.declared.jwk.Jwk.{Jwk}
 use Rattle.policy_merge.specs.Names.{operator_name}
 
 -- the keys of a file that is a key set in JSON (RFC 7517 section 5)
 abbrev pub keys_in : List ℕ → Option (List Jwk)
-keys_in file = option_and_then (λ tree. result_ok (set_of tree)) (reading file)
+keys_in file = option_and_then (λ tree. result_ok (key_set_in tree)) (tree_in file)
 
 -- the texts of an input that is a list of texts in JSON (RFC 8259 section 5)
 abbrev pub chain_in : List ℕ → Option (List (List ℕ))
-chain_in input = option_and_then texts_of (reading input)
+chain_in input = option_and_then texts_of (tree_in input)
 
 -- a reason: its name, and where policies are the reason the entity type and the parameter as JSON strings and the operators by name
 abbrev pub reason_text : Reason → List ℕ

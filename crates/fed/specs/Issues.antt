@@ -4,7 +4,7 @@ use Rattle.entity_statement.specs.Table.{claims_of_tree, statement_type}
 use Rattle.fed_json.specs.declared.tree.Json.{Json}
 use Rattle.fed_json.specs.Compact.{compact}
 use Rattle.fed_json.specs.Forms.{whole}
-use Rattle.fed_json.specs.Reading.{reading}
+use Rattle.fed_json.specs.Reading.{tree_in}
 use Rattle.fed_json.specs.Trees.{as_object}
 use Rattle.sealed.specs.Sealing.{sealed_text}
 use Rattle.fed.specs.Replies.{plain, bad_input, refused}
@@ -33,4 +33,4 @@ of_tree keys (Some tree) = if is_some (as_object tree) then of_object keys tree 
 
 -- the claims are a JSON object
 unfoldable pub issue_reply : List ℕ → List ℕ → Reply
-issue_reply keys input = of_tree keys (reading input)
+issue_reply keys input = of_tree keys (tree_in input)

@@ -7,7 +7,7 @@ use Rattle.fed_base.specs.Moments.{moment_limit}
 use Rattle.fed_json.specs.declared.tree.Json.{Json, Int, List as ListOf, Object}
 use Rattle.fed_json.specs.declared.tree.Member.{Member}
 use Rattle.fed_json.specs.Members.{text_member}
-use Rattle.fed_json.specs.Reading.{member_of, reading}
+use Rattle.fed_json.specs.Reading.{member_of, tree_in}
 use Rattle.fed_json.specs.Trees.{as_list, as_object, count_below, find, text_at}
 use Rattle.fed.specs.declared.ring.LiveKey.{LiveKey}
 
@@ -27,7 +27,7 @@ ring_tree key = Object (member_of (codes "keys") (ListOf (live_key key ∷ [])) 
 
 -- the bytes are a JSON text of a ring of this key, the key's moments are in their order and below 2^62, and its seeds have 48 bytes
 pub record IsRing (bytes : List ℕ) (key : LiveKey) : Type 0 where
-  pub reads : reading bytes ≡ Some (ring_tree key)
+  pub reads : tree_in bytes ≡ Some (ring_tree key)
   pub order : key.iat < key.exp
   pub small : key.exp < moment_limit
   pub size : length key.seeds ≡ 48

@@ -2,7 +2,7 @@
 
 ghost use Rattle.std.specs.Prelude.{◌≡◌, IfOk, IsSome, is_some};
 ghost use Rattle.fed_json.specs.Forms.{IsWellFormed};
-ghost use Rattle.fed_json.specs.Reading.{Gives, reading};
+ghost use Rattle.fed_json.specs.Reading.{Reads, tree_in};
 ghost use Rattle.fed_json.specs.Trees.{as_object};
 ghost use Rattle.fed.specs.Issues.{claims_read, issue_reply, of_object};
 ghost use Rattle.fed.specs.Sealings.{IsSealedReply};
@@ -39,7 +39,7 @@ pub fn issue(alloc: Global, keys: &KeyPair, input: Text) -> Result<Reply, Memory
 
 /// The tree of the input, whose memory is free after it.
 fn read_input(alloc: Global, input: Text) -> Result<Json, TreeFault>
-    ensures tree { Gives result (reading input) }
+    ensures tree { Reads result (tree_in input) }
     ensures well_formed { IfOk result IsWellFormed }
 {
     read_tree(alloc, input.as_slice())

@@ -20,7 +20,7 @@ use Rattle.fed_json.proofs.Layers.{nesting-Null, nesting-Bool, nesting-Int, nest
 use Rattle.fed_json.proofs.Booleans.{both_true}
 use Rattle.fed_json.proofs.Names.{names}
 use Rattle.fed_json.specs.Forms.{rising, well_formed, nesting, greatest}
-use Rattle.fed_json.specs.Reading.{number_tree, reading, tree_of, items_of, members_of, member_of}
+use Rattle.fed_json.specs.Reading.{number_tree, tree_in, tree_of, items_of, members_of, member_of}
 
 -- the tree of a value
 abbrev pub value_tree : Value → Json
@@ -79,14 +79,14 @@ mutual
   nesting-members_of (data_of.member name d ms) = ap₂ max (nesting-tree_of d) (nesting-members_of ms)
 
 -- what the text reads as, from the value that was read
-pub reading_found : (text : List ℕ) (d : Data) → IsUtf8 text → read text ≡ Some d → reading text ≡ Some (tree_of d)
-unfolding reading
+pub reading_found : (text : List ℕ) (d : Data) → IsUtf8 text → read text ≡ Some d → tree_in text ≡ Some (tree_of d)
+unfolding tree_in
 reading_found text d utf8 found = ap (λ b. cond b (option_map tree_of (read text)) None) (is_utf8-from_IsUtf8 text utf8) ∙ ap (option_map tree_of) found
 
 refused : (text : List ℕ) (b : Bool) → is_utf8 text ≡ b → (IsUtf8 text → read text ≡ None) → cond b (option_map tree_of (read text)) None ≡ None
 refused text true e none = ap (option_map tree_of) (none (IsUtf8-from_is_utf8 text e))
 refused text false e none = refl
 
-pub reading_none : (text : List ℕ) → (IsUtf8 text → read text ≡ None) → reading text ≡ None
-unfolding reading
+pub reading_none : (text : List ℕ) → (IsUtf8 text → read text ≡ None) → tree_in text ≡ None
+unfolding tree_in
 reading_none text none = refused text (is_utf8 text) refl none

@@ -39,11 +39,11 @@ abbrev mutual
   members_of (data_of.member name d ms) = member_of name (tree_of d) ∷ members_of ms
 
 -- the tree that the text reads as, where it is UTF-8 and serde_json finds a value in it (RFC 8259 section 9)
-unfoldable pub reading : List ℕ → Option Json
-reading text = if is_utf8 text then option_map tree_of (read text) else None
+unfoldable pub tree_in : List ℕ → Option Json
+tree_in text = if is_utf8 text then option_map tree_of (read text) else None
 
 -- the answer is the tree that is expected, and Syntax where there is none; of want of memory nothing is said
-abbrev pub Gives : Result Json TreeFault → Option Json → Type 0
-Gives (Ok tree) expected = expected ≡ Some tree
-Gives (Err Syntax) expected = expected ≡ None
-Gives (Err Memory) expected = Unit {0}
+abbrev pub Reads : Result Json TreeFault → Option Json → Type 0
+Reads (Ok tree) expected = expected ≡ Some tree
+Reads (Err Syntax) expected = expected ≡ None
+Reads (Err Memory) expected = Unit {0}

@@ -3,7 +3,7 @@
 ghost use Rattle.std.specs.Prelude.{◌≡◌, ◌≤◌, ◌↔◌, IfOk, IsTrue};
 ghost use Rattle.std.specs.List.{list_all};
 ghost use Rattle.fed_json.specs.Forms.{IsWellFormed, IsWhole, HasOdd, nesting, well_formed, members_well_formed};
-ghost use Rattle.fed_json.specs.Reading.{Gives, reading, tree_of, items_of, members_of, number_tree};
+ghost use Rattle.fed_json.specs.Reading.{Reads, tree_in, tree_of, items_of, members_of, number_tree};
 ghost use Rattle.serde_json.specs.View.{view, items_view, members_view, number_view};
 
 use crate::fault::TreeFault;
@@ -18,7 +18,7 @@ use std::alloc::Global;
 /// `Syntax` where the text isn't JSON, nests deeper than 127, isn't UTF-8, has a lone surrogate, or holds a number
 /// whose nearest double isn't finite.
 pub fn read_tree(alloc: Global, text: &[u8]) -> Result<Json, TreeFault>
-    ensures tree { Gives result (reading text.now) }
+    ensures tree { Reads result (tree_in text.now) }
     ensures well_formed { IfOk result IsWellFormed }
     ensures whole { IfOk result (λ tree. IsWhole tree ↔ ¬ HasOdd tree) }
     ensures shallow { IfOk result (λ tree. nesting tree ≤ 127) }

@@ -5,7 +5,7 @@ ghost use Rattle.std.specs.List.{list_all};
 ghost use Rattle.std.specs.Str.{IsUtf8};
 ghost use Rattle.fed_json.specs.Compact.{compact};
 ghost use Rattle.fed_json.specs.Forms.{IsWhole, nesting, in_bounds, whole, members_whole};
-ghost use Rattle.fed_json.specs.Reading.{reading};
+ghost use Rattle.fed_json.specs.Reading.{tree_in};
 ghost use Rattle.fed_json.specs.Values.{StandsFor, ItemsStandFor, MembersStandFor};
 ghost use Rattle.fed_json.specs.declared.tree.Json.{Int};
 ghost use Rattle.serde_json.specs.View.{view, items_view, members_view};
@@ -20,7 +20,7 @@ use std::alloc::Global;
 pub fn write_tree(alloc: Global, tree: &Json) -> Result<Text, Memory>
     requires { IsWhole tree.now }
     ensures text { IfOk result (λ text. text ≡ compact tree.now) }
-    ensures reads_back { IfOk result (λ text. nesting tree.now ≤ 127 → reading text ≡ Some tree.now) }
+    ensures reads_back { IfOk result (λ text. nesting tree.now ≤ 127 → tree_in text ≡ Some tree.now) }
 {
     let bytes = value(alloc, tree)?.to_vec(alloc)?;
     Ok(Text::from_vec(bytes))

@@ -9,7 +9,7 @@ use Rattle.std.specs.List.{list_all}
 use Rattle.std.proofs.lemmas.List.Folds.{list_all-append}
 use Rattle.jwk_set.specs.Keys.{key_in, is_key}
 use Rattle.jwk_set.proofs.Names.{are_distinct-snoc}
-use Rattle.jwk_set.specs.KeySets.{repeats_kid, distinct_after, are_distinct, listed_in, IsKeySet, keys_after, reading}
+use Rattle.jwk_set.specs.KeySets.{repeats_kid, distinct_after, are_distinct, listed_in, IsKeySet, keys_after, key_set_in}
 
 -- ---- the keys of a set are answered
 
@@ -31,8 +31,8 @@ keys_after-is earlier (k ∷ keys) (m ∷ members) each distinct =
     was_not true e = cc e
     was_not false e = refl
 
-pub only : (tree : Json) (keys : List Jwk) → IsKeySet tree keys → reading tree ≡ Ok keys
-unfolding reading are_distinct
+pub only : (tree : Json) (keys : List Jwk) → IsKeySet tree keys → key_set_in tree ≡ Ok keys
+unfolding key_set_in are_distinct
 only tree keys is = ap (λ o. ok_or o NotSet >>= keys_after []) is.listed ∙ keys_after-is [] keys is.members is.each is.distinct
 
 -- ---- what is answered are the keys of a set
@@ -81,8 +81,8 @@ set_of tree keys (Some members) listed e =
       distinct = subst (λ ks. distinct_after [] ks ≡ true) (sym all.joined) all.distinct;
     }
 
-pub found : (tree : Json) (keys : List Jwk) → reading tree ≡ Ok keys → IsKeySet tree keys
-unfolding reading
+pub found : (tree : Json) (keys : List Jwk) → key_set_in tree ≡ Ok keys → IsKeySet tree keys
+unfolding key_set_in
 found tree keys e = set_of tree keys (listed_in tree) refl e
 
 -- ---- the loop

@@ -12,7 +12,7 @@ use Rattle.fed_json.proofs.Booleans.{left_true, right_true}
 use Rattle.fed_json.proofs.Layers.{whole-Object, whole-List}
 use Rattle.jwk_set.specs.declared.jwk.Jwk.{Jwk}
 use Rattle.jwk_set.specs.Keys.{key_in, is_key}
-use Rattle.jwk_set.specs.KeySets.{are_distinct, listed_in, reading, max_keys}
+use Rattle.jwk_set.specs.KeySets.{are_distinct, listed_in, key_set_in, max_keys}
 use Rattle.jwk_set.specs.Trees.{key_tree, set_tree}
 use Rattle.fed_json.proofs.Accessors.{as_object-Object, as_list-List}
 use Rattle.jwk_set.proofs.Sets.{list_all-snoc, only}
@@ -57,7 +57,7 @@ pub written_whole : (trees : List Json) (keys : List Jwk) (count : ℕ) → Writ
 written_whole trees keys count all = whole-Object (set_members trees) ∙ rw (whole-List trees ∙ all.whole_all, ascii (codes "keys") refl) refl
 
 pub written_read : (trees : List Json) (keys : List Jwk) (count : ℕ) → Written trees keys count → length keys ≤ count → length keys ≤ max_keys → are_distinct keys ≡ true
-    → reading (Object (set_members trees)) ≡ Ok keys
+    → key_set_in (Object (set_members trees)) ≡ Ok keys
 unfolding listed_in
 written_read trees keys count all past few distinct =
     let same : length trees ≡ length keys = ap length (all.are ∙ ap (map key_tree) (take_all count keys past)) ∙ length-map keys key_tree in

@@ -76,5 +76,5 @@ keys_after earlier (member ∷ members) = do
   if repeats_kid earlier key then Err (DoubleKid (length earlier)) else keys_after (earlier ++ key ∷ []) members
 
 -- the keys that the tree is a set of, or its first fault
-unfoldable pub reading : Json → Result (List Jwk) SetFault
-reading tree = ok_or (listed_in tree) NotSet >>= keys_after []
+unfoldable pub key_set_in : Json → Result (List Jwk) SetFault
+key_set_in tree = ok_or (listed_in tree) NotSet >>= keys_after []

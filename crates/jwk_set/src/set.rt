@@ -29,14 +29,14 @@ impl JwkSet {
     ghost use Rattle.fed_json.specs.Forms.{IsWellFormed, IsWhole};
     ghost use Rattle.jwk_set.specs.declared.jwk.Jwk.{Jwk};
     ghost use Rattle.jwk_set.specs.declared.jwk.Jwk.TheVariants.{Own};
-    ghost use Rattle.jwk_set.specs.KeySets.{GivesBy, IsKeySet, key_named, reading};
+    ghost use Rattle.jwk_set.specs.KeySets.{GivesBy, IsKeySet, key_named, key_set_in};
     ghost use Rattle.jwk_set.specs.Trees.{set_tree};
 
     /// The keys of a set's tree, or its first fault, in the order of [`SetFault`].
-    #[tactic(auto, unfolding(crate::specs::KeySets::reading))]
+    #[tactic(auto, unfolding(crate::specs::KeySets::key_set_in))]
     pub fn read(alloc: Global, tree: &Json) -> Result<JwkSet, SetFault>
         requires { IsWellFormed tree.now }
-        ensures exact { GivesBy (λ set. set.keys) result (reading tree.now) }
+        ensures exact { GivesBy (λ set. set.keys) result (key_set_in tree.now) }
         ensures found { IfOk result (λ set. IsKeySet tree.now set.keys) }
         ensures only { (keys : List Jwk) → IsKeySet tree.now keys → GivesBy (λ set. set.keys) result (Ok keys) }
     {
@@ -68,7 +68,7 @@ impl JwkSet {
     pub fn write(&self, alloc: Global) -> Result<Json, Memory>
         ensures tree { IfOk result (λ tree. tree ≡ set_tree self.now.keys) }
         ensures whole { IfOk result IsWhole }
-        ensures reads_back { IfOk result (λ tree. reading tree ≡ Ok self.now.keys) }
+        ensures reads_back { IfOk result (λ tree. key_set_in tree ≡ Ok self.now.keys) }
     {
         let mut trees = Seq::new(alloc);
         for key in self.keys.as_slice() {

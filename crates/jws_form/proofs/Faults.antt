@@ -6,7 +6,7 @@ use Rattle.base64.specs.GeneralPurpose.{IsBytes}
 use Rattle.fed_json.specs.declared.tree.Json.{Json, Text, Object}
 use Rattle.fed_json.specs.declared.tree.Member.{Member}
 use Rattle.fed_json.specs.Trees.{find, as_text, as_object}
-use Rattle.fed_json.specs.Reading.{reading}
+use Rattle.fed_json.specs.Reading.{tree_in}
 use Rattle.jws_form.specs.declared.compact.Compact.{Compact}
 use Rattle.fed_base.specs.Answers.{◌>>=◌}
 use Rattle.jws_form.specs.declared.fault.FormFault.{FormFault}
@@ -58,18 +58,18 @@ refused Fault (Ok t) (Ok k) (Ok a) true fault at_typ at_kid at_alg at_crit other
 refused Fault (Ok t) (Ok k) (Ok a) false fault at_typ at_kid at_alg at_crit other e = unnamed Fault (is_ours a) (t, k) fault e (other a refl)
 
 -- the text has one header
-one_header : (x header : List ℕ) (members : List Member) → decoded (part x 0) ≡ Some header → HasHeader x members → reading header ≡ Some (Object members)
+one_header : (x header : List ℕ) (members : List Member) → decoded (part x 0) ≡ Some header → HasHeader x members → tree_in header ≡ Some (Object members)
 one_header x header members is has =
     let same = sym is ∙ ap decoded has.part_is ∙ decoded-base64url has.bytes (read_bytes has.bytes _ has.reads) in
     let bytes : header ≡ has.bytes = cc same in
-    ap reading bytes ∙ has.reads
+    ap tree_in bytes ∙ has.reads
 
-one_object : (header : List ℕ) (a b : List Member) → reading header ≡ Some (Object a) → reading header ≡ Some (Object b) → a ≡ b
+one_object : (header : List ℕ) (a b : List Member) → tree_in header ≡ Some (Object a) → tree_in header ≡ Some (Object b) → a ≡ b
 one_object header a b first second =
     let same = sym (as_object-Object a) ∙ ap (λ o. option_and_then as_object o) (sym first ∙ second) ∙ as_object-Object b in
     cc same
 
-header_refused : (x header : List ℕ) (members : List Member) (name : List ℕ) (fault : FormFault) → decoded (part x 0) ≡ Some header → reading header ≡ Some (Object members)
+header_refused : (x header : List ℕ) (members : List Member) (name : List ℕ) (fault : FormFault) → decoded (part x 0) ≡ Some header → tree_in header ≡ Some (Object members)
     → ((ms : List Member) → HasTexts ms → IsTextWhere name ms) → text_of (find name members) ≡ Err fault → HasFault x fault
 header_refused x header members name fault is reads texts e = subst (HasFault x) (text_fault (find name members) fault e)
     (λ ms has are. no_text name members fault e (subst (IsTextWhere name) (one_object header ms members (one_header x header ms is has) reads) (texts ms are)))
@@ -84,7 +84,7 @@ not_ours o name is other = λ ours.
     let named : name ≡ Some algorithm = cc same in
     true≢false (sym (ap is_ours named) ∙ other)
 
-members_refused : (x header : List ℕ) (members : List Member) (fault : FormFault) → part x 0 ≡ base64url header → decoded (part x 0) ≡ Some header → reading header ≡ Some (Object members)
+members_refused : (x header : List ℕ) (members : List Member) (fault : FormFault) → part x 0 ≡ base64url header → decoded (part x 0) ≡ Some header → tree_in header ≡ Some (Object members)
     → names_of members ≡ Err fault → HasFault x fault
 unfolding names_of
 members_refused x header members fault spelled is reads e =
@@ -98,15 +98,15 @@ members_refused x header members fault spelled is reads e =
     e
 
 object_refused : (x header : List ℕ) (o : Option (List Member)) (fault : FormFault) → part x 0 ≡ base64url header → decoded (part x 0) ≡ Some header
-    → option_and_then as_object (reading header) ≡ o → (ok_or o Header >>= names_of) ≡ Err fault → HasFault x fault
+    → option_and_then as_object (tree_in header) ≡ o → (ok_or o Header >>= names_of) ≡ Err fault → HasFault x fault
 object_refused x header None fault spelled is object e =
     let told : Header ≡ fault = cc e in
     subst (HasFault x) told (λ ms has are. let clash = sym object ∙ ap (λ r. option_and_then as_object r) (one_header x header ms is has) ∙ as_object-Object ms in cc clash)
-object_refused x header (Some members) fault spelled is object e = members_refused x header members fault spelled is (was_read (reading header) members object) e
+object_refused x header (Some members) fault spelled is object e = members_refused x header members fault spelled is (was_read (tree_in header) members object) e
 
 names_refused : (x header : List ℕ) (fault : FormFault) → part x 0 ≡ base64url header → decoded (part x 0) ≡ Some header → names_in header ≡ Err fault → HasFault x fault
 unfolding names_in
-names_refused x header fault spelled is e = object_refused x header (option_and_then as_object (reading header)) fault spelled is refl e
+names_refused x header fault spelled is e = object_refused x header (option_and_then as_object (tree_in header)) fault spelled is refl e
 
 -- ---- the parts
 

@@ -8,7 +8,7 @@ use Rattle.fed_json.specs.declared.tree.Json.{Json, Text, Object}
 use Rattle.fed_json.specs.declared.tree.Member.{Member}
 use Rattle.fed_json.specs.Trees.{find, as_text, as_object}
 use Rattle.fed_json.specs.Forms.{IsWhole, well_formed, has_odd, members_well_formed}
-use Rattle.fed_json.specs.Reading.{reading}
+use Rattle.fed_json.specs.Reading.{tree_in}
 use Rattle.fed_json.proofs.Layers.{well_formed-Object}
 use Rattle.fed_base.specs.Answers.{◌>>=◌}
 use Rattle.jws_form.specs.declared.fault.FormFault.{FormFault}
@@ -41,8 +41,8 @@ was_utf8 true o tree e = refl
 was_utf8 false o tree e = cc e
 
 -- a text that reads is UTF-8, and so bytes
-pub read_bytes : (bytes : List ℕ) (tree : Json) → reading bytes ≡ Some tree → IsBytes bytes
-unfolding reading
+pub read_bytes : (bytes : List ℕ) (tree : Json) → tree_in bytes ≡ Some tree → IsBytes bytes
+unfolding tree_in
 read_bytes bytes tree is = IsBytes-from_IsUtf8 bytes (IsUtf8-from_is_utf8 bytes (was_utf8 (is_utf8 bytes) _ tree is))
 
 pub header_bytes : (bytes : List ℕ) (typ kid : Option (List ℕ)) → IsHeaderText bytes typ kid → IsBytes bytes
@@ -114,8 +114,8 @@ was_read (Some tree) members e = ap Some (Object-as_object tree members e)
 pub names_in_ok : (bytes : List ℕ) (names : Option (List ℕ) × Option (List ℕ)) → names_in bytes ≡ Ok names → IfSome names.0 IsUtf8 → IfSome names.1 IsUtf8 → IsHeaderText bytes names.0 names.1
 unfolding names_in
 names_in_ok bytes names e typ kid =
-    let seen = object_seen (option_and_then as_object (reading bytes)) names e in
-    record { tree = Object seen.0; reads = was_read (reading bytes) seen.0 seen.1; says = names_of_ok seen.0 names seen.2; typ_utf8 = typ; kid_utf8 = kid }
+    let seen = object_seen (option_and_then as_object (tree_in bytes)) names e in
+    record { tree = Object seen.0; reads = was_read (tree_in bytes) seen.0 seen.1; says = names_of_ok seen.0 names seen.2; typ_utf8 = typ; kid_utf8 = kid }
 
 -- ---- a header that is written
 
@@ -127,7 +127,7 @@ whole_formed : (formed odd : Bool) → (formed && odd) ≡ true → formed ≡ t
 whole_formed true odd e = refl
 whole_formed false odd e = e
 
-pub IsHeaderText-written : (bytes : List ℕ) (tree : Json) (typ kid : Option (List ℕ)) → IsWhole tree → reading bytes ≡ Some tree → IsHeader tree typ kid → IsHeaderText bytes typ kid
+pub IsHeaderText-written : (bytes : List ℕ) (tree : Json) (typ kid : Option (List ℕ)) → IsWhole tree → tree_in bytes ≡ Some tree → IsHeader tree typ kid → IsHeaderText bytes typ kid
 IsHeaderText-written bytes tree typ kid whole reads says =
     let formed : members_well_formed says.members ≡ true = sym (well_formed-Object says.members) ∙ ap well_formed (sym says.object_is) ∙ whole_formed (well_formed tree) (not (has_odd tree)) whole in
     record {

@@ -4,7 +4,7 @@ use Rattle.base64.specs.GeneralPurpose.{IsBytes}
 use Rattle.fed_json.specs.declared.tree.Json.{Text, Object}
 use Rattle.fed_json.specs.declared.tree.Member.{Member}
 use Rattle.fed_json.specs.Trees.{find}
-use Rattle.fed_json.specs.Reading.{reading}
+use Rattle.fed_json.specs.Reading.{tree_in}
 use Rattle.jws_form.specs.declared.fault.FormFault.{FormFault}
 use Rattle.jws_form.specs.declared.fault.FormFault.TheVariants.{TooLong, Parts, Base64, Header, Crit, Algorithm, Memory}
 use Rattle.base64url.specs.Base64url.{base64url}
@@ -20,7 +20,7 @@ part x number = slice_index_or (parts_of x) number []
 pub record HasHeader (x : List ℕ) (members : List Member) : Type 0 where
   pub bytes : List ℕ
   pub part_is : part x 0 ≡ base64url bytes
-  pub reads : reading bytes ≡ Some (Object members)
+  pub reads : tree_in bytes ≡ Some (Object members)
 
 -- the member of that name is absent or a text (RFC 7515 section 4)
 abbrev pub IsTextWhere : List ℕ → List Member → Type 0

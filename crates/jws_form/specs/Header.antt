@@ -4,7 +4,7 @@ use Rattle.std.specs.Str.{IsUtf8}
 use Rattle.fed_json.specs.declared.tree.Json.{Json, Text, Object}
 use Rattle.fed_json.specs.declared.tree.Member.{Member}
 use Rattle.fed_json.specs.Trees.{find}
-use Rattle.fed_json.specs.Reading.{reading}
+use Rattle.fed_json.specs.Reading.{tree_in}
 
 -- the value of `alg`, the parameter set of FIPS 205 that every text is signed with
 abbrev pub algorithm : List ℕ
@@ -23,7 +23,7 @@ pub record IsHeader (tree : Json) (typ kid : Option (List ℕ)) : Type 0 where
 -- the bytes are a JSON text of such a tree, whose texts are UTF-8 (RFC 8259 section 8.1)
 pub record IsHeaderText (bytes : List ℕ) (typ kid : Option (List ℕ)) : Type 0 where
   pub tree : Json
-  pub reads : reading bytes ≡ Some tree
+  pub reads : tree_in bytes ≡ Some tree
   pub says : IsHeader tree typ kid
   pub typ_utf8 : IfSome typ IsUtf8
   pub kid_utf8 : IfSome kid IsUtf8

@@ -6,7 +6,7 @@ use Rattle.base64.specs.GeneralPurpose.{IsBytes}
 use Rattle.fed_json.specs.declared.tree.Json.{Json}
 use Rattle.fed_json.specs.declared.tree.Member.{Member}
 use Rattle.fed_json.specs.Trees.{find, as_text, as_object, optional}
-use Rattle.fed_json.specs.Reading.{reading}
+use Rattle.fed_json.specs.Reading.{tree_in}
 use Rattle.fed_base.specs.Answers.{◌>>=◌}
 use Rattle.jws_form.specs.declared.compact.Compact.{Compact}
 use Rattle.jws_form.specs.declared.fault.FormFault.{FormFault}
@@ -50,7 +50,7 @@ names_of members = do
 
 -- the same of a JSON text (RFC 7515 section 5.2, steps 3 to 5)
 unfoldable pub names_in : List ℕ → Result (Option (List ℕ) × Option (List ℕ)) FormFault
-names_in bytes = ok_or (option_and_then as_object (reading bytes)) Header >>= names_of
+names_in bytes = ok_or (option_and_then as_object (tree_in bytes)) Header >>= names_of
 
 -- the bytes of a part, by its number (RFC 7515 section 2)
 unfoldable pub bytes_of : ℕ → List ℕ → Result (List ℕ) FormFault

@@ -2,7 +2,7 @@ use Rattle.std.proofs.Common.{◌∙◌, ap, sym, Some}
 use Rattle.serde_json.specs.View.{view}
 use Rattle.fed_json.specs.Forms.{nesting}
 use Rattle.fed_json.specs.Compact.{compact}
-use Rattle.fed_json.specs.Reading.{reading}
+use Rattle.fed_json.specs.Reading.{tree_in}
 use Rattle.fed_json.proofs.Readings.{reading_found, nesting-tree_of}
 use Rattle.fed_json.proofs.Compacts.{compact-tree_of}
 use Rattle.fed_json.proofs.write.write_tree.Goals as goal
@@ -17,4 +17,4 @@ returns-clause-reads_back c shallow =
     let stands = c.in_ok-value.ensures in
     let deep = sym (nesting-tree_of (view c.in_ok-value.field-0)) ∙ ap nesting stands.tree_is in
     let read_back = reading_found _ _ c.in_ok-bytes.ensures.utf8 (c.in_ok-bytes.ensures.reads_back (rw deep shallow)) in
-    ap reading c.from_vec.ensures ∙ read_back ∙ ap Some stands.tree_is
+    ap tree_in c.from_vec.ensures ∙ read_back ∙ ap Some stands.tree_is

@@ -1,7 +1,7 @@
 use Rattle.std.proofs.Common.{◌≡◌, length, ◌≤◌, ap, ◌∙◌, subst, rules}
 use Rattle.fed_json.specs.declared.tree.Json.{Object}
 use Rattle.fed_json.specs.Forms.{whole}
-use Rattle.jwk_set.specs.KeySets.{reading}
+use Rattle.jwk_set.specs.KeySets.{key_set_in}
 use Rattle.jwk_set.proofs.WrittenSets.{set_members, written_tree, written_whole, written_read}
 use Rattle.jwk_set.proofs.set.JwkSet.write.Goals as goal
 
@@ -20,4 +20,4 @@ pub returns-clause-reads_back : goal.returns-clause-reads_back
 returns-clause-reads_back c =
     let is : Object c.push-2.new.self ≡ Object (set_members c.loop-key.trees) = search rules in
     let past = subst (λ keys. length keys ≤ c.loop-key.key-index) c.as_slice-key-items.ensures c.loop-key-test.false in
-    ap reading is ∙ written_read c.loop-key.trees c.args.self.now.keys c.loop-key.key-index c.loop-key.invariant past c.args.self.now.few c.args.self.now.distinct
+    ap key_set_in is ∙ written_read c.loop-key.trees c.args.self.now.keys c.loop-key.key-index c.loop-key.invariant past c.args.self.now.few c.args.self.now.distinct
