@@ -4,9 +4,9 @@ ghost use Rattle.std.specs.Prelude.{◌≡◌, IfOk, None};
 ghost use Rattle.policy_merge.specs.Combining.{conflict_in};
 
 use crate::{ApplyFault, apply};
-use fed_json::{TreeFault, is_whole, read_tree, write_tree};
+use fed_json::{TreeFault, is_metadata, is_whole, read_tree, write_tree};
 use fed_base::{Duplicate, Memory, Text};
-use policy_merge::{Operator, Policy, PolicyFault, PolicyShape, is_metadata};
+use policy_merge::{Operator, Policy, PolicyFault, PolicyShape};
 use std::alloc::Global;
 use std::test::Fail;
 
