@@ -1,12 +1,11 @@
 -- What a policy holds: entity types, their parameters and the operators of each (OpenID Federation 1.0 section 6.1).
-use Rattle.std.specs.Prelude.{List, [], Option, None, map, Bool, true, false, ◌&&◌, not}
+use Rattle.std.specs.Prelude.{List, [], None, map, Bool, ◌&&◌, not}
 use Rattle.std.specs.Option.{option_map_or}
 use Rattle.std.specs.List.{list_all}
 use Rattle.std.specs.Str.{is_utf8}
 use Rattle.fed_json.specs.Forms.{rising, whole}
-use Rattle.fed_json.specs.declared.tree.Json.{Json, out-Json}
-use Rattle.fed_json.specs.declared.tree.Json.TheOpen.{Json-F}
-use Rattle.fed_json.specs.declared.tree.Member.{Member}
+use Rattle.fed_base.specs.Values.{if_there}
+use Rattle.fed_json.specs.Trees.{is_null}
 use Rattle.fed_json.specs.declared.named.Named.{Named}
 use Rattle.policy_merge.specs.declared.operators.Operators.{Operators}
 use Rattle.fed_json.specs.Tables.{Name, item_of}
