@@ -9,7 +9,8 @@ use Rattle.std.specs.List.{list_all}
 use Rattle.std.proofs.lemmas.List.Folds.{list_all-append}
 use Rattle.jwk_set.specs.Keys.{key_in, is_key}
 use Rattle.jwk_set.proofs.Names.{are_distinct-snoc}
-use Rattle.jwk_set.specs.KeySets.{repeats_kid, distinct_after, are_distinct, listed_in, IsKeySet, keys_after, key_set_in}
+use Rattle.jwk_set.specs.KeySets.{repeats_kid, distinct_after, are_distinct, IsKeySet, keys_after, key_set_in}
+use Rattle.jwk_set.specs.Listed.{listed_in}
 
 -- ---- the keys of a set are answered
 

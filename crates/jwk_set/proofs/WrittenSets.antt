@@ -12,7 +12,8 @@ use Rattle.fed_json.proofs.Booleans.{left_true, right_true}
 use Rattle.fed_json.proofs.Layers.{whole-Object, whole-List}
 use Rattle.jwk_set.specs.declared.jwk.Jwk.{Jwk}
 use Rattle.jwk_set.specs.Keys.{key_in, is_key}
-use Rattle.jwk_set.specs.KeySets.{are_distinct, listed_in, key_set_in, max_keys}
+use Rattle.jwk_set.specs.KeySets.{are_distinct, key_set_in}
+use Rattle.jwk_set.specs.Listed.{listed_in, max_keys}
 use Rattle.jwk_set.specs.Trees.{key_tree, set_tree}
 use Rattle.fed_json.proofs.Accessors.{as_object-Object, as_list-List}
 use Rattle.jwk_set.proofs.Sets.{list_all-snoc, only}

@@ -1,15 +1,16 @@
 -- A set of keys (RFC 7517 section 5), and the keys that a tree gives.
-use Rattle.std.specs.Prelude.{◌≡◌, ℕ, List, [], ◌∷◌, ◌++◌, length, map, codes, bytes_eq, Bool, true, false, ◌&&◌, not, nat_le, IsTrue, Option, Some, None, ok_or, Result, Ok, Err, if◌then◌else◌}
+use Rattle.std.specs.Prelude.{◌≡◌, ℕ, List, [], ◌∷◌, ◌++◌, length, map, codes, bytes_eq, Bool, true, false, ◌&&◌, not, IsTrue, Option, Some, None, ok_or, Result, Ok, Err, if◌then◌else◌}
 use Rattle.std.specs.Option.{option_and_then}
 use Rattle.std.specs.List.{list_any}
 use Rattle.fed_json.specs.declared.tree.Json.{Json}
-use Rattle.fed_json.specs.Trees.{as_object, as_list, find, text_at}
+use Rattle.fed_json.specs.Trees.{as_object, text_at}
 use Rattle.fed_base.specs.Answers.{◌>>=◌}
 use Rattle.jwk_set.specs.declared.jwk.Jwk.{Jwk}
 use Rattle.jwk_set.specs.declared.jwk.Jwk.TheVariants.{Own, Foreign}
 use Rattle.jwk_set.specs.declared.fault.SetFault.{SetFault}
 use Rattle.jwk_set.specs.declared.fault.SetFault.TheVariants.{NotSet, Shape, DoubleKid, Memory}
 use Rattle.jwk_set.specs.Keys.{key_in}
+use Rattle.jwk_set.specs.Listed.{listed_in}
 
 -- the name of a key, where it is a text (RFC 7517 section 4.5)
 abbrev pub kid_of : Jwk → Option (List ℕ)
@@ -41,19 +42,6 @@ key_named kid [] = None
 key_named kid (Own k public ∷ keys) = if bytes_eq k kid then Some public else key_named kid keys
 key_named kid (Foreign tree ∷ keys) = key_named kid keys
 
--- how many keys a set has at most
-abbrev pub max_keys : ℕ
-max_keys = 64
-
--- the list, where it has at most so many members
-abbrev pub unless_many : List Json → Option (List Json)
-unless_many list = if nat_le (length list) max_keys then Some list else None
-
--- the list `keys` of an object (RFC 7517 section 5.1)
-unfoldable pub listed_in : Json → Option (List Json)
-listed_in tree =
-    option_and_then unless_many (option_and_then as_list (option_and_then (find (codes "keys")) (as_object tree)))
-
 -- the tree is a set of these keys: each member has the form of its key, and no two have one kid
 pub record IsKeySet (tree : Json) (keys : List Jwk) : Type 0 where
   pub members : List Json
@@ -66,6 +54,10 @@ abbrev pub GivesBy : {X Y : Type 0} → (X → Y) → Result X SetFault → Resu
 GivesBy view (Ok x) expected = expected ≡ Ok (view x)
 GivesBy view (Err Memory) expected = Unit {0}
 GivesBy view (Err fault) expected = expected ≡ Err fault
+
+-- the same of an answer that is seen as it stands
+abbrev pub Gives : {X : Type 0} → Result X SetFault → Result X SetFault → Type 0
+Gives = GivesBy (λ x. x)
 
 -- the keys that the members are, after the earlier keys, or the fault of the first member that has one: its
 -- form is looked at first, then its kid

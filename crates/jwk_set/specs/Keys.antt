@@ -1,7 +1,8 @@
 -- One key of a set (RFC 7517 section 4): a key of this project's algorithm, or a foreign one.
-use Rattle.std.specs.Prelude.{ℕ, List, length, codes, bytes_eq, Bool, false, ◌&&◌, not, nat_lt, Option, Some, None, option_map, is_some, is_none, if◌then◌else◌}
+use Rattle.std.specs.Prelude.{ℕ, List, length, codes, bytes_eq, Bool, false, ◌&&◌, not, nat_lt, Option, Some, None, is_some, is_none, if◌then◌else◌}
 use Rattle.std.specs.Option.{option_and_then, option_map_or}
 use Rattle.std.specs.Str.{is_utf8}
+use Rattle.fed_base.specs.Values.{◌>>=◌}
 use Rattle.base64url.specs.Base64url.{decoded_32}
 use Rattle.fed_json.specs.declared.tree.Json.{Json}
 use Rattle.fed_json.specs.declared.tree.Member.{Member}
@@ -39,7 +40,10 @@ public_at members = option_and_then decoded_32 (text_at (codes "pub") members)
 unfoldable pub own_key : List Member → Option Jwk
 own_key members =
     if is_some (find (codes "priv") members) then None
-    else option_and_then (λ kid. option_map (λ public. Own kid public) (public_at members)) (name_at members)
+    else (do
+      kid ← name_at members
+      public ← public_at members
+      Some (Own kid public))
 
 -- the key with these members, by its type (RFC 7517 section 4.1) and its algorithm
 unfoldable pub key_of : Json → List Member → Option Jwk

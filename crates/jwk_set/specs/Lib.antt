@@ -1,4 +1,5 @@
 pub mod Keys
+pub mod Listed
 pub mod KeySets
 pub mod Trees
 pub mod Thumbprints

@@ -9,8 +9,8 @@ ghost use Rattle.jwk_set.specs.Keys.{is_text_at, is_own, own_key, key_of, key_in
 ghost use Rattle.jwk_set.specs.Trees.{key_tree, own_tree};
 
 use base64url::{decode_32, encode_32};
-use fed_json::{Json, Member, find, is_whole, text_at, text_member};
 use fed_base::{Duplicate, Memory, Seq, Text};
+use fed_json::{Json, Member, find, is_whole, text_at, text_member};
 use jws_form::ALGORITHM;
 use std::alloc::Global;
 

@@ -5,19 +5,20 @@ ghost use Rattle.std.specs.Option.{option_copied};
 ghost use Rattle.std.specs.List.{list_all};
 ghost use Rattle.fed_json.specs.Forms.{IsWellFormed, well_formed};
 ghost use Rattle.jwk_set.specs.Keys.{is_key};
-ghost use Rattle.jwk_set.specs.KeySets.{GivesBy, are_distinct, keys_after, kid_of, listed_in, max_keys, repeats_kid};
+ghost use Rattle.jwk_set.specs.KeySets.{Gives, are_distinct, keys_after, kid_of, repeats_kid};
+ghost use Rattle.jwk_set.specs.Listed.{listed_in, max_keys};
 
 use crate::fault::SetFault;
 use crate::jwk::{Jwk, read_key};
-use fed_json::{Json, find, text_at};
 use fed_base::{Seq, Text};
+use fed_json::{Json, find, text_at};
 use std::alloc::Global;
 
 /// How many keys a set has at most.
 const MAX_KEYS: usize = 64;
 
 /// The members of a set: the list `keys` of its object.
-#[tactic(auto, unfolding(crate::specs::KeySets::listed_in))]
+#[tactic(auto, unfolding(crate::specs::Listed::listed_in))]
 pub(crate) fn listed_in(tree: &Json) -> Option<&[Json]>
     ensures listed { option_copied result ≡ listed_in tree.now }
     ensures few { IfSome result (λ members. length members.now ≤ max_keys) }
@@ -36,7 +37,7 @@ pub(crate) fn listed_in(tree: &Json) -> Option<&[Json]>
 pub(crate) fn read_keys(alloc: Global, members: &[Json]) -> Result<Seq<Jwk>, SetFault>
     requires few { length members.now ≤ max_keys }
     requires formed { IsTrue (list_all well_formed members.now) }
-    ensures exact { GivesBy (λ keys. keys) result (keys_after [] members.now) }
+    ensures exact { Gives result (keys_after [] members.now) }
     ensures few { IfOk result (λ keys. length keys ≡ length members.now) }
     ensures formed { IfOk result (λ keys. IsTrue (list_all is_key keys)) }
     ensures distinct { IfOk result (λ keys. IsTrue (are_distinct keys)) }

@@ -1,4 +1,4 @@
-//! Sets of public keys (RFC 7517), as OpenID Federation 1.0 carries them in `jwks`.
+//! Layer 2, texts: sets of public keys (RFC 7517), as OpenID Federation 1.0 carries them in `jwks`.
 //!
 //! A key of the algorithm SLH-DSA-SHA2-128s is taken apart; a key of any other is kept as it was read, and verifies
 //! nothing. The crates above read sets from statements, find the key that a signed text names, and name their own keys

@@ -3,13 +3,14 @@
 ghost use Rattle.std.specs.Prelude.{◌≤◌, length, IsTrue};
 ghost use Rattle.std.specs.List.{list_all};
 ghost use Rattle.jwk_set.specs.Keys.{is_key};
-ghost use Rattle.jwk_set.specs.KeySets.{are_distinct, max_keys};
+ghost use Rattle.jwk_set.specs.KeySets.{are_distinct};
+ghost use Rattle.jwk_set.specs.Listed.{max_keys};
 
 use crate::fault::SetFault;
 use crate::jwk::{Jwk, write_key};
 use crate::keys::{listed_in, read_keys};
-use fed_json::{Json, Member};
 use fed_base::{Duplicate, Memory, Seq, Text};
+use fed_json::{Json, Member};
 use std::alloc::Global;
 
 /// A set of at most 64 public keys (RFC 7517 section 5), of which no two have one `kid`.
