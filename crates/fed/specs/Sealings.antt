@@ -1,25 +1,16 @@
 -- What `issue` seals verifies under the signer's key (RFC 7515 section 5.2).
-use Rattle.std.specs.Prelude.{◌≡◌, ◌≤◌, ℕ, List, [], ◌∷◌, ◌++◌, length, Option, Some}
+use Rattle.std.specs.Prelude.{◌≡◌, ℕ, List, [], ◌∷◌, ◌++◌, Option, Some}
 use Rattle.fed_ports.specs.Bytes.{Appends}
 use Rattle.fed_ports.specs.Stores.{Files, IsFile}
-use Rattle.jws_form.specs.Compact.{max_bytes}
-use Rattle.jwk_set.specs.declared.jwk.Jwk.{Jwk}
-use Rattle.jwk_set.specs.KeySets.{key_named}
-use Rattle.slh_hash.specs.declared.params.TheConstants.{P128S}
-use Rattle.slh_dsa.specs.Keys.{public_key}
-use Rattle.sealed.specs.Seals.{IsSealedBy}
-use Rattle.sealed.specs.Sealing.{signer_name}
+use Rattle.sealed.specs.Sealing.{IsSealedFor}
 use Rattle.fed.specs.declared.command.Command.{Command}
 use Rattle.fed.specs.declared.command.Command.TheVariants.{Verify, Keygen, Issue, Check, Help, Version, Faulty}
 use Rattle.fed.specs.declared.reply.Reply.{Reply}
 use Rattle.fed.specs.declared.ring.LiveKey.{LiveKey}
 use Rattle.fed.specs.Rings.{IsRing}
 
--- a text of at most 262,144 bytes is sealed by each set in which the key of these seeds stands under its thumbprint (RFC 7638)
-abbrev pub IsSealedFor : List ℕ → List ℕ → Type 0
-IsSealedFor seeds text = length text ≤ max_bytes → (set : List Jwk) → key_named (signer_name seeds) set ≡ Some (public_key P128S seeds) → IsSealedBy text set
-
--- a line is such a text and its line end
+-- a line is a text that each set seals in which the key of these seeds stands under its thumbprint (RFC 7638), up to 262,144 bytes,
+-- and its line end
 abbrev pub IsSealedLine : List ℕ → List ℕ → Type 0
 IsSealedLine seeds line = (text : List ℕ) × (line ≡ text ++ 10 ∷ []) × IsSealedFor seeds text
 

@@ -1,2 +1,3 @@
+pub mod DecidingLaws
 pub mod Headers
 pub mod Sealings

@@ -6,7 +6,7 @@ use Rattle.fed_json.specs.declared.tree.Json.{Json}
 use Rattle.fed_json.specs.Compact.{compact}
 use Rattle.jws_form.specs.declared.compact.Compact.{Compact}
 use Rattle.jws_form.specs.Compact.{IsCompact, joined, max_bytes, signing_input_of}
-use Rattle.jws_form.proofs.Laws.{only}
+use Rattle.jws_form.proofs.Laws.{IsCompact-unique}
 use Rattle.jwk_set.specs.declared.jwk.Jwk.{Jwk}
 use Rattle.jwk_set.specs.KeySets.{key_named}
 use Rattle.jwk_set.specs.Thumbprints.{thumbprint_of}
@@ -18,30 +18,24 @@ use Rattle.sealed.specs.declared.fault.SealFault.{SealFault}
 use Rattle.sealed.specs.declared.fault.SealFault.TheVariants.{NoKid, NoKey, BadSignature, Memory}
 use Rattle.sealed.specs.Answers.{IsChecked, Decides}
 use Rattle.sealed.specs.Seals.{Pair, IsSealed, IsUnsealed, IsSealedBy, named_key}
-use Rattle.sealed.specs.Sealing.{header_of, signed_of, sealed_payload, signer_name}
+use Rattle.sealed.specs.Sealing.{IsSealedFor, header_of, signed_of, sealed_payload, signer_name}
 
 -- ---- a text is one compact text
 
-same_parts : (x : List ℕ) (c d : Compact) → IsCompact x c → IsCompact x d → c ≡ d
-same_parts x c d is_c is_d = let e = sym (only x c is_c) ∙ only x d is_d in cc e
-
 -- a seal speaks of the parts that its text has
 pub sealed_verifies : (pair : Pair) (c : Compact) → IsSealed pair → IsCompact pair.text c → Verifies pair.public c.signed c.signature
-sealed_verifies pair c seal is = subst (λ d. Verifies pair.public d.signed d.signature) (same_parts pair.text seal.compact c seal.splits is) seal.verifies
+sealed_verifies pair c seal is = subst (λ d. Verifies pair.public d.signed d.signature) (IsCompact-unique pair.text seal.compact c seal.splits is) seal.verifies
 
 -- and so does a miss
 pub unsealed_fails : (pair : Pair) (c : Compact) → IsUnsealed pair → IsCompact pair.text c → ¬ Verifies pair.public c.signed c.signature
-unsealed_fails pair c miss is = subst (λ d. ¬ Verifies pair.public d.signed d.signature) (same_parts pair.text miss.compact c miss.splits is) miss.fails
-
-pub whole_of : (x : List ℕ) (c : Compact) → IsCompact x c → IsCompact c.whole c
-whole_of x c is = subst (λ y. IsCompact y c) (sym is.whole_is) is
+unsealed_fails pair c miss is = subst (λ d. ¬ Verifies pair.public d.signed d.signature) (IsCompact-unique pair.text miss.compact c miss.splits is) miss.fails
 
 -- ---- what the answers for a set decide
 
 sealed_named : (c : Compact) (keys : List Jwk) (seal : IsSealedBy c.whole keys) → IsCompact c.whole c
     → (public : List ℕ) × (named_key c keys ≡ Some public) × Verifies public c.signed c.signature
 sealed_named c keys seal is =
-    let same = same_parts c.whole seal.compact c seal.splits is in
+    let same = IsCompact-unique c.whole seal.compact c seal.splits is in
     (seal.public, ap (λ d. named_key d keys) (sym same) ∙ seal.named, subst (λ d. Verifies seal.public d.signed d.signature) same seal.verifies)
 
 nameless : (kid : Option (List ℕ)) (keys : List Jwk) → kid ≡ None → option_and_then (λ k. key_named k keys) kid ≡ None
@@ -81,12 +75,12 @@ compact_of text typ kid payload signed signature = record { whole = text; typ = 
 
 pub sealed_by : (r : Result (List ℕ) NoMemory) (keys typ kid payload signed signature : List ℕ) → kid ≡ signer_name keys
     → IfOk r (λ text. length text ≤ max_bytes → IsCompact text (compact_of text typ kid payload signed signature)) → Verifies (public_key P128S keys) signed signature
-    → IfOk r (λ text. length text ≤ max_bytes → (set : List Jwk) → key_named (signer_name keys) set ≡ Some (public_key P128S keys) → IsSealedBy text set)
+    → IfOk r (IsSealedFor keys)
 sealed_by (Err e) keys typ kid payload signed signature named splits verifies = tt
-sealed_by (Ok text) keys typ kid payload signed signature named splits verifies = λ short set has. record {
+sealed_by (Ok text) keys typ kid payload signed signature named splits verifies = λ set can. record {
   compact = compact_of text typ kid payload signed signature;
-  splits = splits short;
+  splits = splits can.short;
   public = public_key P128S keys;
-  named = ap (λ k. key_named k set) named ∙ has;
+  named = ap (λ k. key_named k set) named ∙ can.named;
   verifies = verifies;
 }

@@ -7,11 +7,7 @@ use Rattle.sealed.specs.declared.fault.SealFault.{SealFault}
 use Rattle.sealed.specs.declared.fault.SealFault.TheVariants.{NoKid, NoKey, BadSignature, Memory}
 use Rattle.sealed.specs.declared.tested.Tested.{Tested}
 use Rattle.sealed.specs.declared.tested.Tested.TheVariants.{Yes, No}
-use Rattle.sealed.specs.Seals.{Pair, named_key}
-
--- the pair of the text and the key
-abbrev pub pair_of : Compact → List ℕ → Pair
-pair_of compact public = record { text = compact.whole; public = public }
+use Rattle.sealed.specs.Seals.{Pair, pair_of, named_key}
 
 -- the signature verifies under the key (RFC 7515 section 5.2, step 8)
 abbrev pub HasSignature : Compact → List ℕ → Type 0
@@ -19,13 +15,13 @@ HasSignature compact public = Verifies public compact.signed compact.signature
 
 -- Yes exactly where the signature verifies
 abbrev pub IsTested : Compact → List ℕ → Tested → Type 0
-IsTested compact public (Yes seal) = (seal ≡ pair_of compact public) × HasSignature compact public
-IsTested compact public (No miss) = (miss ≡ pair_of compact public) × ¬ HasSignature compact public
+IsTested compact public (Yes seal) = (seal ≡ pair_of compact.whole public) × HasSignature compact public
+IsTested compact public (No miss) = (miss ≡ pair_of compact.whole public) × ¬ HasSignature compact public
 
 -- the answer for a text under the keys of a set: each comes only where it says, and no two say the same
 abbrev pub IsChecked : Compact → List Jwk → Result Pair SealFault → Type 0
 IsChecked compact keys (Ok seal) =
-    (named_key compact keys ≡ Some seal.public) × (seal ≡ pair_of compact seal.public) × HasSignature compact seal.public
+    (named_key compact keys ≡ Some seal.public) × (seal ≡ pair_of compact.whole seal.public) × HasSignature compact seal.public
 IsChecked compact keys (Err NoKid) = compact.kid ≡ None
 IsChecked compact keys (Err NoKey) = (kid : List ℕ) × (compact.kid ≡ Some kid) × (named_key compact keys ≡ None)
 IsChecked compact keys (Err BadSignature) =

@@ -1,3 +1,4 @@
 pub mod Seals
+pub mod Deciding
 pub mod Answers
 pub mod Sealing

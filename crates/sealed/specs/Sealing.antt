@@ -1,15 +1,18 @@
 -- The text that a key pair seals claims, or any payload, as (RFC 7515 section 5.1).
-use Rattle.std.specs.Prelude.{ℕ, List, [], ◌∷◌, codes, IsSome}
+use Rattle.std.specs.Prelude.{◌≡◌, ◌≤◌, ℕ, List, [], ◌∷◌, length, codes, Some, IsSome}
 use Rattle.fed_json.specs.declared.tree.Json.{Json, Object}
 use Rattle.fed_json.specs.Compact.{compact}
-use Rattle.jws_form.specs.Compact.{signing_input_of, joined}
+use Rattle.jws_form.specs.Compact.{max_bytes, signing_input_of, joined}
 use Rattle.jws_form.specs.Header.{algorithm}
 use Rattle.fed_json.specs.Members.{text_member}
 use Rattle.fed_json.specs.Trees.{as_object}
+use Rattle.jwk_set.specs.declared.jwk.Jwk.{Jwk}
+use Rattle.jwk_set.specs.KeySets.{key_named}
 use Rattle.jwk_set.specs.Thumbprints.{thumbprint_of}
 use Rattle.slh_hash.specs.declared.params.TheConstants.{P128S}
 use Rattle.slh_dsa.specs.Keys.{public_key}
 use Rattle.slh_dsa.specs.Signing.{signature_of}
+use Rattle.sealed.specs.Seals.{IsSealedBy}
 
 -- the claims are an object (RFC 7519 section 4)
 abbrev pub IsObject : Json → Type 0
@@ -35,3 +38,13 @@ sealed_payload keys typ payload = joined (signed_of keys typ payload) (signature
 -- the same of claims, as compact JSON
 abbrev pub sealed_text : List ℕ → List ℕ → Json → List ℕ
 sealed_text keys typ claims = sealed_payload keys typ (compact claims)
+
+-- what a set seals of what these keys sign: a text that isn't too long to be taken apart, under the signer's key by its name
+-- (RFC 7515 section 4.1.4)
+pub record IsSealable (keys text : List ℕ) (set : List Jwk) : Type 0 where
+  pub short : length text ≤ max_bytes
+  pub named : key_named (signer_name keys) set ≡ Some (public_key P128S keys)
+
+-- the text is sealed by each set that can seal it (RFC 7515 section 5.2)
+abbrev pub IsSealedFor : List ℕ → List ℕ → Type 0
+IsSealedFor keys text = (set : List Jwk) → IsSealable keys text set → IsSealedBy text set

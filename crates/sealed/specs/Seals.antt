@@ -12,6 +12,10 @@ pub record Pair : Type 0 where
   pub text : List ℕ
   pub public : List ℕ
 
+-- the pair of a text and a key
+abbrev pub pair_of : List ℕ → List ℕ → Pair
+pair_of text public = record { text = text; public = public }
+
 -- the text is a compact text, and its signature verifies under the key
 pub record IsSealed (pair : Pair) : Type 0 where
   pub compact : Compact

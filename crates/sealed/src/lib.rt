@@ -1,4 +1,4 @@
-//! Signed texts of OpenID Federation 1.0 with the key under which they verify (RFC 7515 section 5.2).
+//! Layer 3, signatures: signed texts of OpenID Federation 1.0 with the key under which they verify (RFC 7515 section 5.2).
 //!
 //! A [`Sealed`] is made by a test of a signature, or where its signature is known to verify, so that to hold one is to
 //! know that its text verifies. The crates above test pairs of a text and a key, look whether a text is sealed by a key

@@ -4,7 +4,7 @@ ghost use Rattle.std.specs.Prelude.{◌≡◌, IfOk};
 ghost use Rattle.jws_form.specs.declared.compact.Compact.{Compact};
 ghost use Rattle.jws_form.specs.Compact.{IsCompact};
 ghost use Rattle.slh_dsa.specs.Verifying.{Verifies};
-ghost use Rattle.sealed.specs.Seals.{Pair, IsSealed, IsUnsealed};
+ghost use Rattle.sealed.specs.Seals.{Pair, pair_of, IsSealed, IsUnsealed};
 
 use fed_base::{Duplicate, Memory, Text};
 use std::alloc::Global;
@@ -20,25 +20,24 @@ pub struct Sealed {
 impl Model for Sealed {
     ghost Value = { Pair };
 
-    ghost view = { λ pair. record { text = pair.text; public = pair.public } };
+    ghost view = { λ pair. pair_of pair.text pair.public };
 
-    ghost invariant = { λ pair. IsSealed (record { text = pair.text; public = pair.public }) };
+    ghost invariant = { λ pair. IsSealed (pair_of pair.text pair.public) };
 }
 
 impl Sealed {
     /// The pair of a text and a key under which it is known to verify. No signature is checked.
     pub fn known(alloc: Global, text: &Text, public: [u8; 32]) -> Result<Sealed, Memory>
-        requires { IsSealed (record { text = text.now; public = public }) }
-        ensures { IfOk result (λ pair. pair ≡ record { text = text.now; public = public }) }
+        requires { IsSealed (pair_of text.now public) }
+        ensures { IfOk result (λ pair. pair ≡ pair_of text.now public) }
     {
-        let text = text.copy(alloc)?;
-        Ok(Sealed { text, public })
+        Ok(Sealed::of(text.copy(alloc)?, public))
     }
 
     /// The pair of a text that is moved and a key under which it verifies.
     pub(crate) fn of(text: Text, public: [u8; 32]) -> Sealed
-        requires { IsSealed (record { text = text; public = public }) }
-        ensures { result ≡ record { text = text; public = public } }
+        requires { IsSealed (pair_of text public) }
+        ensures { result ≡ pair_of text public }
     {
         Sealed { text, public }
     }
@@ -64,11 +63,7 @@ impl Sealed {
 
 impl Duplicate for Sealed {
     fn copy(&self, alloc: Global) -> Result<Self, Memory> {
-        let text = self.text.copy(alloc)?;
-        Ok(Sealed {
-            text,
-            public: self.public,
-        })
+        Ok(Sealed::of(self.text.copy(alloc)?, self.public))
     }
 }
 
@@ -82,16 +77,16 @@ pub struct Unsealed {
 impl Model for Unsealed {
     ghost Value = { Pair };
 
-    ghost view = { λ pair. record { text = pair.text; public = pair.public } };
+    ghost view = { λ pair. pair_of pair.text pair.public };
 
-    ghost invariant = { λ pair. IsUnsealed (record { text = pair.text; public = pair.public }) };
+    ghost invariant = { λ pair. IsUnsealed (pair_of pair.text pair.public) };
 }
 
 impl Unsealed {
     /// The pair of a text that is moved and a key under which it doesn't verify.
     pub(crate) fn of(text: Text, public: [u8; 32]) -> Unsealed
-        requires { IsUnsealed (record { text = text; public = public }) }
-        ensures { result ≡ record { text = text; public = public } }
+        requires { IsUnsealed (pair_of text public) }
+        ensures { result ≡ pair_of text public }
     {
         Unsealed { text, public }
     }
@@ -117,10 +112,6 @@ impl Unsealed {
 
 impl Duplicate for Unsealed {
     fn copy(&self, alloc: Global) -> Result<Self, Memory> {
-        let text = self.text.copy(alloc)?;
-        Ok(Unsealed {
-            text,
-            public: self.public,
-        })
+        Ok(Unsealed::of(self.text.copy(alloc)?, self.public))
     }
 }

@@ -1,16 +1,10 @@
 // Texts that are signed.
 
-ghost use Rattle.std.specs.Prelude.{◌≡◌, ◌≤◌, List, Some, IfOk, length};
+ghost use Rattle.std.specs.Prelude.{◌≡◌, ◌≤◌, Some, IfOk};
 ghost use Rattle.std.specs.Str.{IsUtf8};
 ghost use Rattle.fed_json.specs.Forms.{IsWhole, nesting};
-ghost use Rattle.jws_form.specs.Compact.{max_bytes};
 ghost use Rattle.jws_form.specs.Header.{IsHeader};
-ghost use Rattle.jwk_set.specs.declared.jwk.Jwk.{Jwk};
-ghost use Rattle.jwk_set.specs.KeySets.{key_named};
-ghost use Rattle.slh_hash.specs.declared.params.TheConstants.{P128S};
-ghost use Rattle.slh_dsa.specs.Keys.{public_key};
-ghost use Rattle.sealed.specs.Seals.{IsSealedBy};
-ghost use Rattle.sealed.specs.Sealing.{IsObject, header_of, sealed_payload, sealed_text, signer_name};
+ghost use Rattle.sealed.specs.Sealing.{IsObject, IsSealedFor, header_of, sealed_payload, sealed_text};
 
 use fed_json::{Json, text_member, write_tree};
 use fed_base::{Memory, Seq, Text};
@@ -25,9 +19,7 @@ pub fn seal(alloc: Global, keys: &KeyPair, typ: &Text, claims: &Json) -> Result<
     requires whole { IsWhole claims.now }
     requires object { IsObject claims.now }
     ensures text { IfOk result (λ text. text ≡ sealed_text keys.now typ.now claims.now) }
-    ensures sealed { IfOk result (λ text. length text ≤ max_bytes
-        → (set : List Jwk) → key_named (signer_name keys.now) set ≡ Some (public_key P128S keys.now)
-        → IsSealedBy text set) }
+    ensures sealed { IfOk result (IsSealedFor keys.now) }
 {
     let payload = write_tree(alloc, claims)?;
     seal_payload(alloc, keys, typ, payload.as_slice())
@@ -44,9 +36,7 @@ pub fn seal_payload(
 ) -> Result<Text, Memory>
     requires typ { IsUtf8 typ.now }
     ensures text { IfOk result (λ text. text ≡ sealed_payload keys.now typ.now payload.now) }
-    ensures sealed { IfOk result (λ text. length text ≤ max_bytes
-        → (set : List Jwk) → key_named (signer_name keys.now) set ≡ Some (public_key P128S keys.now)
-        → IsSealedBy text set) }
+    ensures sealed { IfOk result (IsSealedFor keys.now) }
 {
     let kid = thumbprint(alloc, &keys.public())?;
     let header = header(alloc, &kid, typ)?;
