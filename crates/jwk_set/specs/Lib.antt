@@ -1,5 +1,5 @@
+pub mod KeySets
 pub mod Keys
 pub mod Listed
-pub mod KeySets
-pub mod Trees
 pub mod Thumbprints
+pub mod Trees

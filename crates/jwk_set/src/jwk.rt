@@ -67,7 +67,7 @@ pub(crate) fn read_key(alloc: Global, tree: &Json) -> Result<Option<Jwk>, Memory
     }
 }
 
-/// The key of such members, which has a name, 32 bytes of public key and no private part.
+// The key of such members, which has a name, 32 bytes of public key and no private part.
 #[tactic(auto, unfolding(crate::specs::Keys::own_key))]
 fn read_own(alloc: Global, members: &[Member]) -> Result<Option<Jwk>, Memory>
     requires { IsTrue (members_well_formed members.now) }
@@ -90,7 +90,7 @@ fn read_own(alloc: Global, members: &[Member]) -> Result<Option<Jwk>, Memory>
     Ok(Some(Jwk::Own { kid, public }))
 }
 
-/// Whether the members are of this project's key type and algorithm (RFC 7517 sections 4.1 and 4.4).
+// Whether the members are of this project's key type and algorithm (RFC 7517 sections 4.1 and 4.4).
 #[tactic(auto, unfolding(crate::specs::Keys::is_own))]
 fn is_own(members: &[Member]) -> bool
     ensures { result ≡ is_own members.now }
@@ -98,7 +98,7 @@ fn is_own(members: &[Member]) -> bool
     is_text_at(members, b"kty", KEY_TYPE) && is_text_at(members, b"alg", ALGORITHM)
 }
 
-/// Whether the member of that name is that text.
+// Whether the member of that name is that text.
 fn is_text_at(members: &[Member], name: &[u8], text: &[u8]) -> bool
     ensures { result ≡ is_text_at name.now text.now members.now }
 {
@@ -122,7 +122,7 @@ pub fn write_key(alloc: Global, key: &Jwk) -> Result<Json, Memory>
     }
 }
 
-/// The tree of an own key, with its members in byte order.
+// The tree of an own key, with its members in byte order.
 fn write_own(alloc: Global, kid: &Text, public: &[u8; 32]) -> Result<Json, Memory>
     requires { IsTrue (is_key (Own kid.now public.now)) }
     ensures tree { IfOk result (λ tree. tree ≡ own_tree kid.now public.now) }

@@ -56,7 +56,7 @@ pub(crate) fn read_keys(alloc: Global, members: &[Json]) -> Result<Seq<Jwk>, Set
     Ok(keys)
 }
 
-/// Whether one of the keys has the `kid` of this one.
+// Whether one of the keys has the `kid` of this one.
 #[tactic(auto, unfolding(crate::specs::KeySets::repeats_kid))]
 fn repeats_kid(keys: &[Jwk], key: &Jwk) -> bool
     ensures { result ≡ repeats_kid keys.now key.now }
@@ -68,7 +68,7 @@ fn repeats_kid(keys: &[Jwk], key: &Jwk) -> bool
     }
 }
 
-/// The name of a key, where it is a text.
+// The name of a key, where it is a text.
 fn kid_of(key: &Jwk) -> Option<&Text>
     ensures { option_copied result ≡ kid_of key.now }
 {

@@ -1,4 +1,4 @@
-pub mod Seals
-pub mod Deciding
 pub mod Answers
+pub mod Deciding
 pub mod Sealing
+pub mod Seals

@@ -6,8 +6,8 @@ ghost use Rattle.fed_json.specs.Forms.{IsWhole, nesting};
 ghost use Rattle.jws_form.specs.Header.{IsHeader};
 ghost use Rattle.sealed.specs.Sealing.{IsObject, IsSealedFor, header_of, sealed_payload, sealed_text};
 
-use fed_json::{Json, text_member, write_tree};
 use fed_base::{Memory, Seq, Text};
+use fed_json::{Json, text_member, write_tree};
 use jwk_set::thumbprint;
 use jws_form::{ALGORITHM, join, signing_input};
 use slh_dsa::{KeyPair, SIGNATURE_BYTES, sign};
@@ -46,7 +46,7 @@ pub fn seal_payload(
     join(alloc, &signed, &signature)
 }
 
-/// The header of a text that the key of that name signs: `alg`, `kid` and `typ`.
+// The header of a text that the key of that name signs: `alg`, `kid` and `typ`.
 fn header(alloc: Global, kid: &Text, typ: &Text) -> Result<Json, Memory>
     requires kid { IsUtf8 kid.now }
     requires typ { IsUtf8 typ.now }

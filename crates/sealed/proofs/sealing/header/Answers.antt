@@ -6,6 +6,9 @@ use Rattle.sealed.specs.Sealing.{header_of}
 use Rattle.sealed.proofs.Headers.{header_whole}
 use Rattle.sealed.proofs.sealing.header.Goals as goal
 
+pub returns-clause-tree : goal.returns-clause-tree
+returns-clause-tree c = search rules
+
 pub returns-clause-whole : goal.returns-clause-whole
 returns-clause-whole c =
     let is : Object c.push-3.new.self ≡ header_of c.args.kid.now c.args.typ.now = search rules in

@@ -1,4 +1,4 @@
-use Rattle.std.proofs.Common.{◌≡◌, Some, sym, ap, ◌∙◌, subst}
+use Rattle.std.proofs.Common.{◌≡◌, Some, sym, subst, rules}
 use Rattle.std.specs.Str.{IsUtf8}
 use Rattle.slh_hash.specs.declared.params.TheConstants.{P128S}
 use Rattle.slh_dsa.specs.Keys.{public_key}
@@ -17,13 +17,14 @@ returns-clause-text c =
     let named : c.in_ok-kid.kid ≡ signer_name c.args.keys.now = name_is c.args.keys.now c.public.result c.in_ok-kid.kid c.public.ensures c.in_ok-kid.ensures in
     let is : c.in_ok-signed.signed ≡ signed_of c.args.keys.now c.args.typ.now c.args.payload.now =
     signed_is c.args.keys.now c.args.typ.now c.in_ok-kid.kid c.args.payload.now c.in_ok-signed.signed c.in_ok-header.header named c.in_ok-header.ensures.tree c.in_ok-signed.ensures.text in
+    let made : c.sign.new.signature ≡ signature_of P128S c.args.keys.now c.in_ok-signed.signed = cc in
     text_is c.join.result c.args.keys.now c.args.typ.now c.args.payload.now c.in_ok-signed.signed c.sign.new.signature is
-    (c.sign.ensures.written ∙ ap (signature_of P128S c.args.keys.now) c.as_slice.ensures) c.join.ensures.text
+    made c.join.ensures.text
 
 pub returns-clause-sealed : goal.returns-clause-sealed
 returns-clause-sealed c =
     let named : c.in_ok-kid.kid ≡ signer_name c.args.keys.now = name_is c.args.keys.now c.public.result c.in_ok-kid.kid c.public.ensures c.in_ok-kid.ensures in
+    let verifies : Verifies (public_key P128S c.args.keys.now) c.in_ok-signed.signed c.sign.new.signature = search rules in
     let input = c.in_ok-signed.ensures.reads (Some c.args.typ.now) (Some c.in_ok-kid.kid) c.in_ok-header.ensures.names c.in_ok-header.ensures.shallow in
     sealed_by c.join.result c.args.keys.now c.args.typ.now c.in_ok-kid.kid c.args.payload.now c.in_ok-signed.signed c.sign.new.signature named
-    (c.join.ensures.splits c.args.payload.now (Some c.args.typ.now) (Some c.in_ok-kid.kid) input)
-    (subst (λ m. Verifies (public_key P128S c.args.keys.now) m c.sign.new.signature) c.as_slice.ensures c.sign.ensures.verifies)
+    (c.join.ensures.splits c.args.payload.now (Some c.args.typ.now) (Some c.in_ok-kid.kid) input) verifies

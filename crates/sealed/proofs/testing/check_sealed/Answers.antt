@@ -4,6 +4,9 @@ use Rattle.sealed.specs.Answers.{IsChecked}
 use Rattle.sealed.proofs.Sealings.{decided}
 use Rattle.sealed.proofs.testing.check_sealed.Goals as goal
 
+pub returns-in_default-clause-nameless : goal.returns-in_default-clause-nameless
+returns-in_default-clause-nameless g c = search rules
+
 pub returns-in_default-clause-decides : goal.returns-in_default-clause-decides
 returns-in_default-clause-decides g c =
     let checked : IsChecked c.args.compact.now c.args.set.now.keys (Err NoKid) = search rules in decided c.args.compact.now c.args.set.now.keys (Err NoKid) c.requires checked

@@ -1,0 +1,5 @@
+use Rattle.std.proofs.Common.{rules}
+use Rattle.sealed.proofs.pairs.UnsealedDuplicate.copy.Goals as goal
+
+pub of-requires : goal.of-requires
+of-requires c = search rules
