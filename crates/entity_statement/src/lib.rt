@@ -9,6 +9,7 @@ mod claims;
 mod fault;
 mod forms;
 mod marks;
+mod parts;
 mod reading;
 mod signed;
 mod statement;
