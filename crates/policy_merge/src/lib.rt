@@ -18,8 +18,6 @@ mod policy;
 mod read;
 mod scope;
 mod sides;
-#[cfg(test)]
-mod tests;
 
 pub use combining::{holds_all, is_member};
 pub use fault::{PolicyFault, PolicyShape};
