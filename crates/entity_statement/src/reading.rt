@@ -13,8 +13,8 @@ use crate::claims::{check_metadata, hints_in};
 use crate::fault::StatementFault;
 use crate::parts::{Common, read_common, read_marks, read_rules};
 use crate::statement::Statement;
-use fed_json::{Json, Member};
 use fed_base::{Seq, Text};
+use fed_json::{Json, Member};
 use std::alloc::Global;
 
 /// The `typ` of the header of an entity statement (OpenID Federation 1.0 section 3.1).
