@@ -6,6 +6,7 @@ use Rattle.std.specs.List.{list_all}
 use Rattle.std.proofs.lemmas.Bool.{and_parts}
 use Rattle.std.proofs.lemmas.List.Elements.{All-nil, All-cons}
 use Rattle.std.proofs.lemmas.Str.{IsUtf8-from_is_utf8}
+use Rattle.fed_base.specs.Values.{◌>>=◌}
 use Rattle.fed_json.specs.declared.tree.Json.{Json}
 use Rattle.fed_json.specs.declared.tree.Member.{Member}
 use Rattle.fed_json.specs.Forms.{IsWellFormed, well_formed, members_well_formed}
@@ -13,7 +14,7 @@ use Rattle.fed_json.specs.Trees.{find, as_text, as_list, as_object, optional, te
 use Rattle.fed_json.proofs.Accessors.{Text-as_text, List-as_list, Object-as_object, well_formed-find}
 use Rattle.fed_json.proofs.Layers.{well_formed-Text, well_formed-List, well_formed-Object}
 use Rattle.chain_limits.specs.declared.constraints.Constraints.{Constraints}
-use Rattle.chain_limits.specs.Reading.{HoldsUtf8, Texts, constraints_in, excluded_in, max_path_in, members_of, naming_in, permitted_in, constraints_of, together, types_in}
+use Rattle.chain_limits.specs.Reading.{HoldsUtf8, Texts, constraints_of, excluded_in, max_path_in, members_of, naming_in, permitted_in, types_in}
 
 -- ---- what stands behind a result
 
@@ -22,26 +23,13 @@ pub and_then-some : {X Y : Type 0} (f : X → Option Y) (o : Option X) (y : Y) �
 and_then-some f None y e = cc e
 and_then-some f (Some x) y e = (x, refl, e)
 
+then-some : {X Y : Type 0} (o : Option X) (f : X → Option Y) (y : Y) → (o >>= f) ≡ Some y → (x : X) × (o ≡ Some x) × (f x ≡ Some y)
+then-some None f y e = cc e
+then-some (Some x) f y e = (x, refl, e)
+
 pub map-some : {X Y : Type 0} (f : X → Y) (o : Option X) (y : Y) → option_map f o ≡ Some y → (x : X) × (o ≡ Some x) × (f x ≡ y)
 map-some f None y e = cc e
 map-some f (Some x) y e = (x, refl, cc e)
-
--- the four parts of constraints
-record Parts (a : Option (Option ℕ)) (b c d : Option (Option Texts)) (limits : Constraints) : Type 0 where
-  permitted : b ≡ Some limits.permitted
-  excluded : (x : Option Texts) × (c ≡ Some x) × (unwrap_or x [] ≡ limits.excluded)
-  types : d ≡ Some limits.types
-
--- constraints come of their parts alone
-parts : (a : Option (Option ℕ)) (b c d : Option (Option Texts)) (limits : Constraints) → together a b c d ≡ Some limits → Parts a b c d limits
-parts (Some a) (Some b) (Some c) (Some d) limits e =
-    let told : Constraints = record { max_path = a; permitted = b; excluded = unwrap_or c []; types = d } in
-    let same : told ≡ limits = cc e in
-    record { permitted = ap (λ l. Some l.permitted) same; excluded = (c, refl, ap (λ l. l.excluded) same); types = ap (λ l. Some l.types) same }
-parts None b c d limits e = cc e
-parts (Some a) None c d limits e = cc e
-parts (Some a) (Some b) None d limits e = cc e
-parts (Some a) (Some b) (Some c) None limits e = cc e
 
 -- ---- the texts of a list
 
@@ -86,23 +74,27 @@ naming_formed None naming e formed = let none : [] ≡ naming = cc e in ap membe
 naming_formed (Some tree) naming e formed = members_formed tree naming e formed
 
 -- a list, or the empty one where it is missing
-excluded_texts : (x : Option Texts) (texts : Texts) → IfSome x (All IsUtf8) → unwrap_or x [] ≡ texts → All IsUtf8 texts
-excluded_texts None texts each is = subst (All IsUtf8) is (All-nil IsUtf8)
-excluded_texts (Some x) texts each is = subst (All IsUtf8) is each
+excluded_texts : (x : Option Texts) → IfSome x (All IsUtf8) → All IsUtf8 (unwrap_or x [])
+excluded_texts None each = All-nil IsUtf8
+excluded_texts (Some x) each = each
 
 -- ---- the whole
 
 pub HoldsUtf8-reading : (tree : Json) (limits : Constraints) → constraints_of tree ≡ Some limits → IsWellFormed tree → HoldsUtf8 limits
 unfolding constraints_of
 HoldsUtf8-reading tree limits e formed =
-    let members = and_then-some constraints_in (as_object tree) limits e in
-    let part = parts (max_path_in members.0) (option_and_then permitted_in (naming_in members.0)) (option_and_then excluded_in (naming_in members.0)) (types_in members.0) limits members.2 in
+    let members = then-some (as_object tree) _ limits e in
+    let naming = then-some (naming_in members.0) _ limits members.2 in
+    let max_path = then-some (max_path_in members.0) _ limits naming.2 in
+    let permitted = then-some (permitted_in naming.0) _ limits max_path.2 in
+    let excluded = then-some (excluded_in naming.0) _ limits permitted.2 in
+    let types = then-some (types_in members.0) _ limits excluded.2 in
+    let made : Constraints = record { max_path = max_path.0; permitted = permitted.0; excluded = unwrap_or excluded.0 []; types = types.0 } in
+    let same : made ≡ limits = cc (types.2) in
     let whole = members_formed tree members.0 members.1 formed in
-    let below = λ (naming : List Member) (is : naming_in members.0 ≡ Some naming). naming_formed (find (codes "naming_constraints") members.0) naming is (found_formed _ members.0 whole) in
-    let permitted = and_then-some permitted_in (naming_in members.0) limits.permitted part.permitted in
-    let excluded = and_then-some excluded_in (naming_in members.0) part.excluded.0 part.excluded.1 in
-    record {
-      permitted = optional-texts _ limits.permitted permitted.2 (found_formed _ permitted.0 (below permitted.0 permitted.1));
-      excluded = excluded_texts part.excluded.0 limits.excluded (optional-texts _ part.excluded.0 excluded.2 (found_formed _ excluded.0 (below excluded.0 excluded.1))) part.excluded.2;
-      types = optional-texts _ limits.types part.types (found_formed _ members.0 whole);
-    }
+    let below = naming_formed (find (codes "naming_constraints") members.0) naming.0 naming.1 (found_formed _ members.0 whole) in
+    subst HoldsUtf8 {x = made} same (record {
+      permitted = optional-texts _ permitted.0 permitted.1 (found_formed _ naming.0 below);
+      excluded = excluded_texts excluded.0 (optional-texts _ excluded.0 excluded.1 (found_formed _ naming.0 below));
+      types = optional-texts _ types.0 types.1 (found_formed _ members.0 whole);
+    })

@@ -1,7 +1,6 @@
 -- The constraints that a JSON object tells (OpenID Federation 1.0 section 6.2).
 use Rattle.std.specs.Prelude.{◌≡◌, ◌^◌, ℕ, List, [], codes, All, Option, Some, None, unwrap_or, IfSome, Result, Ok, Err, IsUtf8}
-use Rattle.std.specs.Borrow.{Bor}
-use Rattle.std.specs.Option.{option_and_then}
+use Rattle.fed_base.specs.Values.{◌>>=◌}
 use Rattle.fed_json.specs.declared.tree.Json.{Json}
 use Rattle.fed_json.specs.declared.tree.Member.{Member}
 use Rattle.fed_json.specs.Trees.{find, as_object, count_below, optional, texts_of}
@@ -42,33 +41,26 @@ excluded_in naming = optional texts_of (find (codes "excluded") naming)
 abbrev pub types_in : List Member → Option (Option Texts)
 types_in members = optional texts_of (find (codes "allowed_entity_types") members)
 
--- the parts together, where each has its form (section 6.2)
-abbrev pub together : Option (Option ℕ) → Option (Option Texts) → Option (Option Texts) → Option (Option Texts) → Option Constraints
-together (Some max_path) (Some permitted) (Some excluded) (Some types) =
-    Some (record { max_path = max_path; permitted = permitted; excluded = unwrap_or excluded []; types = types })
-together _ _ _ _ = None
-
--- the constraints of an object of these members (section 6.2)
-abbrev pub constraints_in : List Member → Option Constraints
-constraints_in members =
-    let naming = naming_in members in
-    together (max_path_in members) (option_and_then permitted_in naming) (option_and_then excluded_in naming) (types_in members)
-
 -- the constraints that the tree tells, where it has their form (section 6.2)
 unfoldable pub constraints_of : Json → Option Constraints
-constraints_of tree = option_and_then constraints_in (as_object tree)
+constraints_of tree = do
+  members ← as_object tree
+  naming ← naming_in members
+  max_path ← max_path_in members
+  permitted ← permitted_in naming
+  excluded ← excluded_in naming
+  types ← types_in members
+  Some (record { max_path = max_path; permitted = permitted; excluded = unwrap_or excluded []; types = types })
+
+-- the answer says what is expected, and Shape where there is nothing; of want of memory nothing is said
+abbrev pub ReadsBy : {X Y : Type 0} → (X → Y) → Result X LimitShape → Option Y → Type 0
+ReadsBy view (Ok x) expected = expected ≡ Some (view x)
+ReadsBy view (Err Shape) expected = expected ≡ None
+ReadsBy view (Err Memory) expected = Unit {0}
 
 -- the answer is what is expected, and Shape where there is nothing; of want of memory nothing is said
 abbrev pub Reads : {X : Type 0} → Result X LimitShape → Option X → Type 0
-Reads (Ok x) expected = expected ≡ Some x
-Reads (Err Shape) expected = expected ≡ None
-Reads (Err Memory) expected = Unit {0}
-
--- `Reads` of the members that a reference points to
-abbrev pub ReadsObject : Result (Bor (List Member)) LimitShape → Option (List Member) → Type 0
-ReadsObject (Ok members) expected = expected ≡ Some members.now
-ReadsObject (Err Shape) expected = expected ≡ None
-ReadsObject (Err Memory) expected = ⊥
+Reads = ReadsBy (λ x. x)
 
 -- each name and each type is UTF-8 (RFC 8259 section 8.1)
 pub record HoldsUtf8 (limits : Constraints) : Type 0 where

@@ -4,8 +4,8 @@ ghost use Rattle.std.specs.Prelude.{◌≡◌, IfOk};
 
 use crate::reading::{count, naming, object, texts};
 use crate::shape::LimitShape;
-use fed_json::Json;
 use fed_base::{Duplicate, Memory, Seq, Text};
+use fed_json::Json;
 use std::alloc::Global;
 
 /// The constraints of a statement (OpenID Federation 1.0 section 6.2). Members of other names are left unread.
@@ -40,6 +40,7 @@ impl Constraints {
     /// Reads the claim `constraints` (OpenID Federation 1.0 section 6.2). `max_path_length` is a whole number below 2^32,
     /// `naming_constraints` an object whose `permitted` and `excluded` are lists of texts, and `allowed_entity_types` a
     /// list of texts. Each of them may be missing; `Shape` where one is there in another form.
+    #[tactic(auto, unfolding(crate::specs::Reading::constraints_of))]
     pub fn read(alloc: Global, tree: &Json) -> Result<Constraints, LimitShape>
         ensures constraints { Reads result (constraints_of tree.now) }
         ensures utf8 { IsWellFormed tree.now → IfOk result HoldsUtf8 }

@@ -2,11 +2,11 @@
 
 ghost use Rattle.std.specs.Prelude.{◌^◌};
 ghost use Rattle.fed_json.specs.Trees.{as_object, count_below as count_in, find as value_at, optional, texts_of};
-ghost use Rattle.chain_limits.specs.Reading.{Reads, ReadsObject, naming_in};
+ghost use Rattle.chain_limits.specs.Reading.{Reads, ReadsBy, naming_in};
 
 use crate::shape::LimitShape;
-use fed_json::{Json, Member, copied_texts, count_below, find};
 use fed_base::{Seq, Text};
+use fed_json::{Json, Member, copied_texts, count_below, find};
 use std::alloc::Global;
 
 /// What a number of entities is below (section 6.2.1).
@@ -14,7 +14,7 @@ const COUNTS: u64 = 1 << 32;
 
 /// The members of an object.
 pub(crate) fn object(tree: &Json) -> Result<&[Member], LimitShape>
-    ensures { ReadsObject result (as_object tree.now) }
+    ensures { ReadsBy (λ members. members.now) result (as_object tree.now) }
 {
     match tree {
         Json::Object(members) => Ok(members.as_slice()),
@@ -24,7 +24,7 @@ pub(crate) fn object(tree: &Json) -> Result<&[Member], LimitShape>
 
 /// The members of the naming constraints; none where these are missing.
 pub(crate) fn naming(members: &[Member]) -> Result<&[Member], LimitShape>
-    ensures { ReadsObject result (naming_in members.now) }
+    ensures { ReadsBy (λ members. members.now) result (naming_in members.now) }
 {
     match find(members, b"naming_constraints") {
         Some(tree) => object(tree),

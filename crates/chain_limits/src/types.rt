@@ -7,8 +7,8 @@ ghost use Rattle.chain_limits.specs.Types.{names_type, is_allowed, types_allowed
 
 use crate::constraints::Constraints;
 use crate::place::Place;
-use fed_json::Json;
 use fed_base::{Duplicate, Memory, Seq, Text};
+use fed_json::Json;
 use std::alloc::Global;
 
 /// The type that every entity of a federation may have.

@@ -1,5 +1,5 @@
 -- Which texts identify an entity, and the host that each names (OpenID Federation 1.0 section 1.2).
-use Rattle.std.specs.Prelude.{◌≡◌, ◌≤◌, ℕ, ◌==◌, ◌&&◌, ◌||◌, List, [], length, codes, nat_lt, nat_le, nat_eq, Bool, not, IsTrue, IsFalse, Option, Some, None, option_map, unwrap_or, is_none, Result, Ok, Err, IsOk, IsErr, is_ok, if◌then◌else◌}
+use Rattle.std.specs.Prelude.{◌≡◌, ◌≤◌, ℕ, ◌==◌, ◌&&◌, ◌||◌, List, [], length, codes, nat_lt, nat_le, nat_eq, Bool, not, IsTrue, IsFalse, Option, None, option_map, unwrap_or, Result, Ok, Err, IsOk, IsErr, is_ok, if◌then◌else◌}
 use Rattle.std.specs.List.{list_all, list_any, starts_with, All, AllPass}
 use Rattle.std.specs.Result.{result_ok}
 use Rattle.url.specs.Host.{host_text}
@@ -29,23 +29,22 @@ pub record IsIdentifier (text : List ℕ) : Type 0 where
   pub bare : All (λ b. IsFalse (is_extra b)) text
   pub url : IsOk (parse_url None text)
 
--- the first fault of a text that identifies none
-unfoldable pub fault_of : List ℕ → Option IdFault
-fault_of text =
-    if nat_lt 2048 (length text) || not (list_all is_plain text) then Some NotUrl
-    else (if not (has_web_scheme text) then Some Scheme
-    else (if list_any is_extra text then Some Extra
-    else (if is_ok (parse_url None text) then None else Some NotUrl)))
+-- the identifier that the text is, or the text's first fault (section 1.2)
+unfoldable pub identifier_in : List ℕ → Result (List ℕ) IdFault
+identifier_in text =
+    if nat_lt 2048 (length text) || not (list_all is_plain text) then Err NotUrl
+    else (if not (has_web_scheme text) then Err Scheme
+    else (if list_any is_extra text then Err Extra
+    else (if is_ok (parse_url None text) then Ok text else Err NotUrl)))
 
--- the entity that the text identifies, where it has no fault
+-- the identifier that the text is, where it is one (section 1.2)
 abbrev pub identifier_of : List ℕ → Option (List ℕ)
-identifier_of text = if is_none (fault_of text) then Some text else None
+identifier_of text = result_ok (identifier_in text)
 
--- the answer is the text where it has no fault, else its first fault; of want of memory nothing is said
-abbrev pub Gives : Result (List ℕ) IdFault → List ℕ → Option IdFault → Type 0
-Gives (Ok id) text fault = (fault ≡ None) × (id ≡ text)
-Gives (Err Memory) text fault = Unit {0}
-Gives (Err f) text fault = fault ≡ Some f
+-- the answer is the one that is expected; of want of memory nothing is said
+abbrev pub Gives : Result (List ℕ) IdFault → Result (List ℕ) IdFault → Type 0
+Gives (Err Memory) expected = Unit {0}
+Gives answer expected = expected ≡ answer
 
 -- the host of a URL as the URL writes it, without the port: a domain in lower case, an address in its usual form (URL Standard section 3)
 abbrev pub host_in : Parts → List ℕ

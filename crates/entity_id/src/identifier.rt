@@ -3,7 +3,7 @@
 ghost use Rattle.std.specs.Prelude.{◌≡◌, None, true, IfOk, OnOk, IsOkUnless, IsAscii, IsUtf8};
 ghost use Rattle.std.specs.List.{list_all, list_any};
 ghost use Rattle.url.specs.Parser.{parse_url};
-ghost use Rattle.entity_id.specs.Identifiers.{is_plain, is_extra, has_web_scheme, fault_of, identifier_of, host_of, Gives, IsIdentifier, ParsesTo};
+ghost use Rattle.entity_id.specs.Identifiers.{is_plain, is_extra, has_web_scheme, identifier_in, identifier_of, host_of, Gives, IsIdentifier, ParsesTo};
 ghost use Rattle.entity_id.specs.Urls.{well_known_of};
 
 use crate::fault::IdFault;
@@ -42,9 +42,9 @@ impl Model for EntityId {
 impl EntityId {
     /// Reads an identifier: a URL of the web with neither query, fragment nor user information. Of several faults the
     /// first in the order of [`IdFault`] is answered, but that a text with none of these marks is no URL comes last.
-    #[tactic(auto, unfolding(crate::specs::Identifiers::fault_of))]
+    #[tactic(auto, unfolding(crate::specs::Identifiers::identifier_in))]
     pub fn read(alloc: Global, text: &[u8]) -> Result<EntityId, IdFault>
-        ensures fault { Gives result text.now (fault_of text.now) }
+        ensures exact { Gives result (identifier_in text.now) }
         ensures found { OnOk result (IsIdentifier text.now) }
         ensures only { IsIdentifier text.now → IsOkUnless result IdFault.Memory }
     {

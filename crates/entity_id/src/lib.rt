@@ -1,4 +1,4 @@
-//! Entity identifiers (OpenID Federation 1.0 section 1.2) and what is read off them.
+//! Layer 2, texts: entity identifiers (OpenID Federation 1.0 section 1.2) and what is read off them.
 //!
 //! An identifier is a URL of the web with neither query, fragment nor user information. It is kept and compared as the
 //! text that it was read from. The crates above take from it the host that naming constraints are about (section 6.2.2),
@@ -8,8 +8,6 @@
 mod fault;
 mod identifier;
 mod names;
-#[cfg(test)]
-mod tests;
 mod urls;
 
 pub use fault::IdFault;

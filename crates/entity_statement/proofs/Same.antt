@@ -26,27 +26,41 @@ utf8 limits = hlevel (props, facts)
 tests : {X : Type 0} (test : X → Bool) (x : X) → IsProp (IsTrue (test x))
 tests test x = hlevel facts
 
-pub same_statement : (a b : Statement) → a.iss ≡ b.iss → a.sub ≡ b.sub → a.iat ≡ b.iat → a.exp ≡ b.exp → a.jwks ≡ b.jwks → a.hints ≡ b.hints → a.metadata ≡ b.metadata
-    → a.policy ≡ b.policy → a.constraints ≡ b.constraints → a.marks ≡ b.marks → a.issuers ≡ b.issuers → a.owners ≡ b.owners → a ≡ b
-same_statement a b iss sub iat exp jwks hints metadata policy constraints marks issuers owners = λ i. record {
-  iss = iss i;
-  sub = sub i;
-  iat = iat i;
-  exp = exp i;
-  jwks = jwks i;
-  hints = hints i;
-  metadata = metadata i;
-  policy = policy i;
-  constraints = constraints i;
-  marks = marks i;
-  issuers = issuers i;
-  owners = owners i;
-  issued = over (λ n. n < moment_limit) moments iat a.issued b.issued i;
-  ends = over (λ n. n < moment_limit) moments exp a.ends b.ends i;
-  once = over (λ ids. IsTrue (all_differ ids)) (tests all_differ) hints a.once b.once i;
-  parameters = over IsMetadata (tests is_metadata) metadata a.parameters b.parameters i;
-  names = over HoldsUtf8 utf8 constraints a.names b.names i;
-  marks_utf8 = over (λ ms. IsTrue (list_all mark_utf8 ms)) (tests (list_all mark_utf8)) marks a.marks_utf8 b.marks_utf8 i;
-  issuers_utf8 = over (λ ms. IsTrue (list_all issuers_utf8 ms)) (tests (list_all issuers_utf8)) issuers a.issuers_utf8 b.issuers_utf8 i;
-  owners_utf8 = over (λ os. IsTrue (list_all (λ o. is_utf8 o.mark_type) os)) (tests (list_all (λ o. is_utf8 o.mark_type))) owners a.owners_utf8 b.owners_utf8 i;
+-- two statements say the same of each claim
+pub record SaysTheSame (a b : Statement) : Type 0 where
+  pub iss : a.iss ≡ b.iss
+  pub sub : a.sub ≡ b.sub
+  pub iat : a.iat ≡ b.iat
+  pub exp : a.exp ≡ b.exp
+  pub jwks : a.jwks ≡ b.jwks
+  pub hints : a.hints ≡ b.hints
+  pub metadata : a.metadata ≡ b.metadata
+  pub policy : a.policy ≡ b.policy
+  pub constraints : a.constraints ≡ b.constraints
+  pub marks : a.marks ≡ b.marks
+  pub issuers : a.issuers ≡ b.issuers
+  pub owners : a.owners ≡ b.owners
+
+pub same_statement : (a b : Statement) → SaysTheSame a b → a ≡ b
+same_statement a b same = λ i. record {
+  iss = same.iss i;
+  sub = same.sub i;
+  iat = same.iat i;
+  exp = same.exp i;
+  jwks = same.jwks i;
+  hints = same.hints i;
+  metadata = same.metadata i;
+  policy = same.policy i;
+  constraints = same.constraints i;
+  marks = same.marks i;
+  issuers = same.issuers i;
+  owners = same.owners i;
+  issued = over (λ n. n < moment_limit) moments same.iat a.issued b.issued i;
+  ends = over (λ n. n < moment_limit) moments same.exp a.ends b.ends i;
+  once = over (λ ids. IsTrue (all_differ ids)) (tests all_differ) same.hints a.once b.once i;
+  parameters = over IsMetadata (tests is_metadata) same.metadata a.parameters b.parameters i;
+  names = over HoldsUtf8 utf8 same.constraints a.names b.names i;
+  marks_utf8 = over (λ ms. IsTrue (list_all mark_utf8 ms)) (tests (list_all mark_utf8)) same.marks a.marks_utf8 b.marks_utf8 i;
+  issuers_utf8 = over (λ ms. IsTrue (list_all issuers_utf8 ms)) (tests (list_all issuers_utf8)) same.issuers a.issuers_utf8 b.issuers_utf8 i;
+  owners_utf8 = over (λ os. IsTrue (list_all (λ o. is_utf8 o.mark_type) os)) (tests (list_all (λ o. is_utf8 o.mark_type))) same.owners a.owners_utf8 b.owners_utf8 i;
 }

@@ -1,7 +1,7 @@
 -- What an entity statement says (OpenID Federation 1.0 section 3.1).
 use Rattle.std.specs.Prelude.{ℕ, List, [], Bool, ◌&&◌}
 use Rattle.std.specs.List.{list_all}
-use Rattle.std.specs.Str.{is_utf8, bytes_eq}
+use Rattle.std.specs.Str.{is_utf8}
 use Rattle.fed_json.specs.declared.tree.Json.{Json, Object}
 use Rattle.jwk_set.specs.declared.jwk.Jwk.{Jwk}
 use Rattle.policy_merge.specs.Policies.{Types}
@@ -19,6 +19,25 @@ pub record OwnerClaims : Type 0 where
   pub mark_type : List ℕ
   pub sub : Identifier
   pub keys : List Jwk
+
+-- the claims that every statement has (section 3.1.1)
+pub record CommonClaims : Type 0 where
+  pub iss : Identifier
+  pub sub : Identifier
+  pub iat : ℕ
+  pub exp : ℕ
+  pub keys : List Jwk
+
+-- what a superior rules for its subordinate (section 3.1.3)
+pub record RuleClaims : Type 0 where
+  pub policy : Types
+  pub constraints : Constraints
+
+-- what a configuration says of trust marks (section 3.1.2)
+pub record MarkClaims : Type 0 where
+  pub marks : List MarkEntry
+  pub issuers : List Issuers
+  pub owners : List OwnerClaims
 
 -- the claims that are read, where those that are absent say nothing (sections 3.1.1 to 3.1.3)
 pub record Claims : Type 0 where
@@ -42,10 +61,6 @@ told_owner o = record { mark_type = o.mark_type; sub = o.sub; keys = o.jwks.keys
 -- what a statement without the claim `metadata` says: no type (section 3.1.1)
 abbrev pub no_metadata : Json
 no_metadata = Object []
-
--- a statement of an entity about itself is its configuration (section 3.1)
-abbrev pub is_configuration : Claims → Bool
-is_configuration s = bytes_eq s.iss s.sub
 
 -- the texts of a mark's entry are UTF-8 (RFC 8259 section 8.1)
 abbrev pub mark_utf8 : MarkEntry → Bool

@@ -22,8 +22,7 @@ use Rattle.entity_statement.specs.declared.fault.StatementFault.{StatementFault}
 use Rattle.entity_statement.specs.declared.fault.StatementFault.TheVariants.{Typ, Tree, Missing, Shape, Keys, Misplaced, Critical, Memory}
 use Rattle.entity_statement.specs.declared.marks.MarkEntry.{MarkEntry}
 use Rattle.entity_statement.specs.declared.marks.Issuers.{Issuers}
-use Rattle.entity_statement.specs.declared.reading.Common.{Common}
-use Rattle.entity_statement.specs.Claims.{Claims, Identifier, OwnerClaims, no_metadata}
+use Rattle.entity_statement.specs.Claims.{Claims, CommonClaims, Identifier, MarkClaims, OwnerClaims, RuleClaims, no_metadata}
 use Rattle.entity_statement.specs.Forms.{identifier, moment, hints_of, metadata_of, marks_of, issuers_of, owners_of}
 
 -- ---- answers
@@ -120,19 +119,7 @@ keyed (Err fault) = Err (Keys fault)
 abbrev pub key_set : Column (List Jwk)
 key_set name tree = keyed (key_set_in tree)
 
--- the claims that every statement has (section 3.1.1)
-pub record CommonClaims : Type 0 where
-  pub iss : Identifier
-  pub sub : Identifier
-  pub iat : ℕ
-  pub exp : ℕ
-  pub keys : List Jwk
-
--- what these claims say, the key set by its keys (section 3.1.1)
-abbrev pub told_common : Common → CommonClaims
-told_common c = record { iss = c.iss; sub = c.sub; iat = c.iat; exp = c.exp; keys = c.jwks.keys }
-
--- what they say, or the first fault; `crit` comes before all (section 3.1.1)
+-- the claims that every statement has, or the first fault; `crit` comes before all (section 3.1.1)
 unfoldable pub common_in : List Member → Result CommonClaims StatementFault
 common_in members = do
   understood ← optional tt (codes "crit") critical members
@@ -175,17 +162,29 @@ mark_issuers_in own members = read_where own [] (optional [] (codes "trust_mark_
 unfoldable pub mark_owners_in : Bool → List Member → Result (List OwnerClaims) StatementFault
 mark_owners_in own members = read_where own [] (optional [] (codes "trust_mark_owners") (formed owners_of) members)
 
+-- what a superior rules for its subordinate, or the first fault (section 3.1.3)
+unfoldable pub rules_in : Bool → List Member → Result RuleClaims StatementFault
+rules_in own members = do
+  policy ← policy_in own members
+  understood ← policy_crit_in own members
+  constraints ← constraints_in own members
+  Ok (record { policy = policy; constraints = constraints })
+
+-- what a configuration says of trust marks, or the first fault (section 3.1.2)
+unfoldable pub mark_claims_in : Bool → List Member → Result MarkClaims StatementFault
+mark_claims_in own members = do
+  marks ← marks_in own members
+  issuers ← mark_issuers_in own members
+  owners ← mark_owners_in own members
+  Ok (record { marks = marks; issuers = issuers; owners = owners })
+
 -- the claims beside the common ones, of a configuration or of a subordinate statement (sections 3.1.1 to 3.1.3)
 unfoldable pub further_in : CommonClaims → List Member → Result Claims StatementFault
 further_in common members = do
   hints ← hints_in (bytes_eq common.iss common.sub) members
   metadata ← metadata_in members
-  policy ← policy_in (bytes_eq common.iss common.sub) members
-  understood ← policy_crit_in (bytes_eq common.iss common.sub) members
-  constraints ← constraints_in (bytes_eq common.iss common.sub) members
-  marks ← marks_in (bytes_eq common.iss common.sub) members
-  issuers ← mark_issuers_in (bytes_eq common.iss common.sub) members
-  owners ← mark_owners_in (bytes_eq common.iss common.sub) members
+  rules ← rules_in (bytes_eq common.iss common.sub) members
+  said ← mark_claims_in (bytes_eq common.iss common.sub) members
   Ok (record {
     iss = common.iss;
     sub = common.sub;
@@ -194,11 +193,11 @@ further_in common members = do
     keys = common.keys;
     hints = hints;
     metadata = metadata;
-    policy = policy;
-    constraints = constraints;
-    marks = marks;
-    issuers = issuers;
-    owners = owners;
+    policy = rules.policy;
+    constraints = rules.constraints;
+    marks = said.marks;
+    issuers = said.issuers;
+    owners = said.owners;
   })
 
 -- the claims of an object: what they say, or the first fault in the table's order (section 3.1)

@@ -1,7 +1,22 @@
 -- What the values of the code say.
 use Rattle.std.specs.Prelude.{map}
+use Rattle.entity_statement.specs.declared.parts.Common.{Common}
+use Rattle.entity_statement.specs.declared.parts.Rules.{Rules}
+use Rattle.entity_statement.specs.declared.parts.Marks.{Marks}
 use Rattle.entity_statement.specs.declared.statement.Statement.{Statement}
-use Rattle.entity_statement.specs.Claims.{Claims, told_owner}
+use Rattle.entity_statement.specs.Claims.{Claims, CommonClaims, MarkClaims, RuleClaims, told_owner}
+
+-- the claims that every statement has, the key set by its keys (section 3.1.1)
+abbrev pub told_common : Common → CommonClaims
+told_common c = record { iss = c.iss; sub = c.sub; iat = c.iat; exp = c.exp; keys = c.jwks.keys }
+
+-- what a superior rules (section 3.1.3)
+abbrev pub told_rules : Rules → RuleClaims
+told_rules r = record { policy = r.policy; constraints = r.constraints }
+
+-- what a configuration says of trust marks, the owners' key sets by their keys (section 3.1.2)
+abbrev pub told_marks : Marks → MarkClaims
+told_marks m = record { marks = m.marks; issuers = m.issuers; owners = map told_owner m.owners }
 
 -- the claims of a statement, its key sets by their keys (sections 3.1.1 to 3.1.3)
 abbrev pub told : Statement → Claims

@@ -13,8 +13,8 @@ use crate::marks::{Issuers, MarkEntry, Owner, read_issuers, read_marks, read_own
 use crate::table::{formed, in_place, required};
 use chain_limits::{Constraints, LimitShape};
 use entity_id::EntityId;
-use fed_json::{Member, copied_texts, find, is_metadata};
 use fed_base::{Duplicate, Memory, Seq, Text};
+use fed_json::{Member, copied_texts, find, is_metadata};
 use jwk_set::{JwkSet, SetFault};
 use policy_merge::{Operator, Policy, PolicyShape};
 use std::alloc::Global;

@@ -6,8 +6,8 @@ ghost use Rattle.fed_json.specs.Trees.{each};
 ghost use Rattle.entity_statement.specs.Forms.{hints_of, identifier, moment, once};
 
 use entity_id::EntityId;
-use fed_json::{Json, count_below};
 use fed_base::{MOMENT_LIMIT, Memory, Seq};
+use fed_json::{Json, count_below};
 use std::alloc::Global;
 
 /// How many hints an entity has at most.

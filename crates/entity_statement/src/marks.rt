@@ -8,8 +8,8 @@ ghost use Rattle.entity_statement.specs.Forms.{issuers_in, issuers_of, mark_of, 
 
 use crate::forms::identifier;
 use entity_id::EntityId;
-use fed_json::{Json, Member, copied_texts, find, text_at};
 use fed_base::{Duplicate, Memory, Seq, Text};
+use fed_json::{Json, Member, copied_texts, find, text_at};
 use jwk_set::{JwkSet, SetFault};
 use std::alloc::Global;
 

@@ -1,38 +1,24 @@
 // The table of claims, row by row.
 
-ghost use Rattle.std.specs.Prelude.{◌≡◌, ◌<◌, codes, unwrap_or, IfOk, IsTrue};
+ghost use Rattle.std.specs.Prelude.{◌≡◌, ◌<◌, codes, unwrap_or, IsTrue};
 ghost use Rattle.std.specs.Option.{option_copied};
 ghost use Rattle.fed_base.specs.Moments.{moment_limit};
 ghost use Rattle.fed_json.specs.Forms.{members_well_formed};
 ghost use Rattle.fed_json.specs.Trees.{find as value_at};
 ghost use Rattle.entity_statement.specs.Claims.{no_metadata};
-ghost use Rattle.entity_statement.specs.Told.{told};
-ghost use Rattle.entity_statement.specs.Table.{GivesBy, claims_in, common_in, further_in, is_statement_type, told_common};
+ghost use Rattle.entity_statement.specs.Told.{told, told_common};
+ghost use Rattle.entity_statement.specs.Table.{GivesBy, claims_in, further_in, is_statement_type};
 
-use crate::claims::{
-    check_critical, check_metadata, check_policy_crit, constraints_in, hints_in, identifier_at,
-    keys_in, mark_issuers_in, mark_owners_in, marks_in, moment_at, policy_in,
-};
+use crate::claims::{check_metadata, hints_in};
 use crate::fault::StatementFault;
+use crate::parts::{Common, read_common, read_marks, read_rules};
 use crate::statement::Statement;
-use entity_id::EntityId;
-use fed_json::{Json, Member};
 use fed_base::{Seq, Text};
-use jwk_set::JwkSet;
+use fed_json::{Json, Member};
 use std::alloc::Global;
 
 /// The `typ` of the header of an entity statement (OpenID Federation 1.0 section 3.1).
 pub const STATEMENT_TYPE: &[u8] = b"entity-statement+jwt";
-
-/// The claims that every statement has.
-#[derive(Drop)]
-struct Common {
-    iss: EntityId,
-    sub: EntityId,
-    iat: u64,
-    exp: u64,
-    jwks: JwkSet,
-}
 
 /// Whether the header's type is that of an entity statement.
 pub(crate) fn is_statement_type(typ: Option<&Text>) -> bool
@@ -51,28 +37,6 @@ pub(crate) fn read_claims(alloc: Global, members: Seq<Member>) -> Result<Stateme
     read_further(alloc, common, members)
 }
 
-#[tactic(auto, unfolding(crate::specs::Table::common_in))]
-fn read_common(alloc: Global, claims: &[Member]) -> Result<Common, StatementFault>
-    requires { IsTrue (members_well_formed claims.now) }
-    ensures claims { GivesBy told_common result (common_in claims.now) }
-    ensures issued { IfOk result (λ common. common.iat < moment_limit) }
-    ensures ends { IfOk result (λ common. common.exp < moment_limit) }
-{
-    check_critical(alloc, claims)?;
-    let iss = identifier_at(alloc, claims, b"iss")?;
-    let sub = identifier_at(alloc, claims, b"sub")?;
-    let iat = moment_at(alloc, claims, b"iat")?;
-    let exp = moment_at(alloc, claims, b"exp")?;
-    let jwks = keys_in(alloc, claims)?;
-    Ok(Common {
-        iss,
-        sub,
-        iat,
-        exp,
-        jwks,
-    })
-}
-
 #[tactic(auto, unfolding(crate::specs::Table::further_in))]
 fn read_further(
     alloc: Global,
@@ -88,12 +52,8 @@ fn read_further(
     let own = common.iss == common.sub;
     let hints = hints_in(alloc, claims, own)?;
     check_metadata(alloc, claims)?;
-    let policy = policy_in(alloc, claims, own)?;
-    check_policy_crit(alloc, claims, own)?;
-    let constraints = constraints_in(alloc, claims, own)?;
-    let marks = marks_in(alloc, claims, own)?;
-    let issuers = mark_issuers_in(alloc, claims, own)?;
-    let owners = mark_owners_in(alloc, claims, own)?;
+    let rules = read_rules(alloc, claims, own)?;
+    let marks = read_marks(alloc, claims, own)?;
     Ok(Statement {
         iss: common.iss,
         sub: common.sub,
@@ -102,11 +62,11 @@ fn read_further(
         jwks: common.jwks,
         hints,
         metadata: take_metadata(alloc, members),
-        policy,
-        constraints,
-        marks,
-        issuers,
-        owners,
+        policy: rules.policy,
+        constraints: rules.constraints,
+        marks: marks.marks,
+        issuers: marks.issuers,
+        owners: marks.owners,
     })
 }
 

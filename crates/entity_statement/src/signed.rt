@@ -5,7 +5,7 @@ ghost use Rattle.entity_statement.specs.Signed.{IsReading};
 
 use crate::fault::StatementFault;
 use crate::statement::Statement;
-use fed_base::Memory;
+use fed_base::{Duplicate, Memory};
 use jws_form::{Compact, FormFault, split};
 use std::alloc::Global;
 
@@ -32,5 +32,13 @@ impl SignedStatement {
             Err(StatementFault::Memory) => Err(Memory),
             Err(_) => Ok(None),
         }
+    }
+}
+
+impl Duplicate for SignedStatement {
+    fn copy(&self, alloc: Global) -> Result<Self, Memory> {
+        let compact = self.compact.copy(alloc)?;
+        let statement = self.statement.copy(alloc)?;
+        Ok(SignedStatement { compact, statement })
     }
 }

@@ -12,11 +12,12 @@ ghost use Rattle.entity_statement.specs.Forms.{all_differ};
 
 use crate::fault::StatementFault;
 use crate::marks::{Issuers, MarkEntry, Owner};
+use crate::parts::{copy_common, copy_marks, copy_rules};
 use crate::reading::{is_statement_type, read_claims};
 use chain_limits::Constraints;
 use entity_id::EntityId;
-use fed_json::{Json, TreeFault, find, read_tree, text_at};
 use fed_base::{Duplicate, Memory, Seq, Text};
+use fed_json::{Json, TreeFault, find, read_tree, text_at};
 use jwk_set::JwkSet;
 use jws_form::Compact;
 use policy_merge::Policy;
@@ -133,19 +134,24 @@ impl Statement {
 
 impl Duplicate for Statement {
     fn copy(&self, alloc: Global) -> Result<Self, Memory> {
+        let common = copy_common(alloc, self)?;
+        let hints = self.hints.copy(alloc)?;
+        let metadata = self.metadata.copy(alloc)?;
+        let rules = copy_rules(alloc, self)?;
+        let marks = copy_marks(alloc, self)?;
         Ok(Statement {
-            iss: self.iss.copy(alloc)?,
-            sub: self.sub.copy(alloc)?,
-            iat: self.iat,
-            exp: self.exp,
-            jwks: self.jwks.copy(alloc)?,
-            hints: self.hints.copy(alloc)?,
-            metadata: self.metadata.copy(alloc)?,
-            policy: self.policy.copy(alloc)?,
-            constraints: self.constraints.copy(alloc)?,
-            marks: self.marks.copy(alloc)?,
-            issuers: self.issuers.copy(alloc)?,
-            owners: self.owners.copy(alloc)?,
+            iss: common.iss,
+            sub: common.sub,
+            iat: common.iat,
+            exp: common.exp,
+            jwks: common.jwks,
+            hints,
+            metadata,
+            policy: rules.policy,
+            constraints: rules.constraints,
+            marks: marks.marks,
+            issuers: marks.issuers,
+            owners: marks.owners,
         })
     }
 }

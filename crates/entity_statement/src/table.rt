@@ -8,8 +8,8 @@ ghost use Rattle.entity_statement.specs.Table.{Gives, GivesBy, in_place};
 ghost use Rattle.entity_statement.specs.declared.fault.StatementFault.TheVariants.{Missing, Shape};
 
 use crate::fault::StatementFault;
-use fed_json::{Json, Member, find};
 use fed_base::Text;
+use fed_json::{Json, Member, find};
 use std::alloc::Global;
 
 /// The value of a claim that must be there.

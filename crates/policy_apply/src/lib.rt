@@ -8,8 +8,6 @@ mod acting;
 mod applying;
 mod fault;
 mod stop;
-#[cfg(test)]
-mod tests;
 
 pub use applying::apply;
 pub use fault::ApplyFault;

@@ -15,8 +15,6 @@ mod operators;
 mod policy;
 mod read;
 mod scope;
-#[cfg(test)]
-mod tests;
 
 pub use fault::{PolicyFault, PolicyShape};
 pub use merging::{Parameters, Types, operators_of, parameters_of};

@@ -1,7 +1,18 @@
-use Rattle.std.proofs.Common.{refl}
 use Rattle.entity_statement.proofs.Same.{same_statement}
 use Rattle.entity_statement.proofs.statement.StatementDuplicate.copy.Goals as goal
 
 pub returns : goal.returns
-returns c = same_statement _ c.args.self.now c.in_ok-copy.ensures c.in_ok-copy-2.ensures refl refl c.in_ok-copy-3.ensures c.in_ok-copy-4.ensures c.in_ok-copy-5.ensures c.in_ok-copy-6.ensures
-    c.in_ok-copy-7.ensures c.in_ok-copy-8.ensures c.in_ok-copy-9.ensures c.in_ok-copy-10.ensures
+returns c = same_statement _ c.args.self.now (record {
+  iss = c.in_ok-common.ensures.iss;
+  sub = c.in_ok-common.ensures.sub;
+  iat = c.in_ok-common.ensures.iat;
+  exp = c.in_ok-common.ensures.exp;
+  jwks = c.in_ok-common.ensures.jwks;
+  hints = c.in_ok-hints.ensures;
+  metadata = c.in_ok-metadata.ensures;
+  policy = c.in_ok-rules.ensures.policy;
+  constraints = c.in_ok-rules.ensures.constraints;
+  marks = c.in_ok-marks.ensures.marks;
+  issuers = c.in_ok-marks.ensures.issuers;
+  owners = c.in_ok-marks.ensures.owners;
+})

@@ -1,0 +1,52 @@
+//! Rows that show what the calls on identifiers, limits and metadata policies answer.
+//!
+//! Each line of the input is a row: the name of a call or of a group of calls, then what it is given, with a tab before each part. For each
+//! row the program writes a line with what was answered. A line that begins with `#` tells what the rows behind it are about, and is
+//! written as it stands.
+#![tactic(auto)]
+
+mod identifier_rows;
+mod limit_rows;
+mod policy_rows;
+mod words;
+
+use fed_base::{Memory, Text};
+use std::alloc::Global;
+use std::io;
+use words::cut;
+
+/// What is answered to a row.
+fn answer(alloc: Global, row: &str) -> Result<Text, Memory> {
+    let (kind, given) = cut(row);
+    match kind {
+        "identifier" => identifier_rows::identifier(alloc, given),
+        "identifier_of_length" => identifier_rows::of_length(alloc, given),
+        "urls" => identifier_rows::urls(alloc, given),
+        "name" => identifier_rows::name(alloc, given),
+        "constraints" => limit_rows::constraints(alloc, given),
+        "limits" => limit_rows::limits(alloc, given),
+        "types" => limit_rows::types(alloc, given),
+        "merge" => policy_rows::merge(alloc, given),
+        "apply" => policy_rows::apply_both(alloc, given),
+        _ => Text::of(alloc, b"no such row"),
+    }
+}
+
+fn main(rt: HostRuntime) -> io::Result<()> {
+    let alloc = rt.alloc();
+    for line in rt.lines(alloc) {
+        let line = line?;
+        if line.as_str().starts_with('#') {
+            println!(rt; "{}", line.as_str())?;
+            continue;
+        }
+        match answer(alloc, line.as_str()) {
+            Ok(told) => match std::str::from_utf8(told.as_slice()) {
+                Ok(told) => println!(rt; "{told}")?,
+                Err(_) => println!(rt; "no UTF-8")?,
+            },
+            Err(Memory) => println!(rt; "out of memory")?,
+        }
+    }
+    Ok(())
+}

@@ -1,0 +1,193 @@
+// Rows about metadata policies.
+
+ghost use Rattle.std.specs.Prelude.{◌≡◌, IfOk, None};
+ghost use Rattle.policy_merge.specs.Combining.{conflict_in};
+ghost use Rattle.policy_merge.specs.Metadata.{IsMetadata};
+
+use crate::words::{add_word, cut};
+use fed_base::{Duplicate, Memory, Seq, Text};
+use fed_json::{Json, TreeFault, is_whole, read_tree, write_tree};
+use policy_apply::{ApplyFault, apply};
+use policy_merge::{Named, Operator, Operators, Policy, PolicyFault, PolicyShape, is_metadata};
+use std::alloc::Global;
+
+// The policy of a text, and the empty one where there is no text.
+fn read(alloc: Global, text: &str) -> Result<Policy, PolicyShape> {
+    if text.is_empty() {
+        return Ok(Policy::empty(alloc));
+    }
+    match read_tree(alloc, text.as_bytes()) {
+        Ok(tree) => Policy::read(alloc, &tree),
+        Err(TreeFault::Syntax) => Err(PolicyShape::Shape),
+        Err(TreeFault::Memory) => Err(PolicyShape::Memory),
+    }
+}
+
+fn add_tree(alloc: Global, out: &mut Text, operator: Operator, tree: &Json) -> Result<(), Memory> {
+    add_word(out, operator.name().as_bytes())?;
+    if is_whole(tree) {
+        let text = write_tree(alloc, tree)?;
+        add_word(out, text.as_slice())?;
+    }
+    Ok(())
+}
+
+fn add_value(
+    alloc: Global,
+    out: &mut Text,
+    operator: Operator,
+    tree: &Option<Json>,
+) -> Result<(), Memory> {
+    match tree {
+        Some(tree) => add_tree(alloc, out, operator, tree),
+        None => Ok(()),
+    }
+}
+
+fn add_list(
+    alloc: Global,
+    out: &mut Text,
+    operator: Operator,
+    list: &Option<Seq<Json>>,
+) -> Result<(), Memory> {
+    match list {
+        Some(list) => add_tree(alloc, out, operator, &Json::List(list.copy(alloc)?)),
+        None => Ok(()),
+    }
+}
+
+fn add_operators(alloc: Global, out: &mut Text, operators: &Operators) -> Result<(), Memory> {
+    add_value(alloc, out, Operator::Value, &operators.value)?;
+    add_list(alloc, out, Operator::Add, &operators.add)?;
+    add_value(alloc, out, Operator::Default, &operators.default)?;
+    add_list(alloc, out, Operator::OneOf, &operators.one_of)?;
+    add_list(alloc, out, Operator::SubsetOf, &operators.subset_of)?;
+    add_list(alloc, out, Operator::SupersetOf, &operators.superset_of)?;
+    if let Some(essential) = operators.essential {
+        add_tree(alloc, out, Operator::Essential, &Json::Bool(essential))?;
+    }
+    Ok(())
+}
+
+fn add_parameters(
+    alloc: Global,
+    out: &mut Text,
+    entity_type: &Text,
+    parameters: &[Named<Operators>],
+) -> Result<(), Memory> {
+    for parameter in parameters {
+        add_word(out, entity_type.as_slice())?;
+        add_word(out, parameter.name.as_slice())?;
+        add_operators(alloc, out, &parameter.value)?;
+    }
+    Ok(())
+}
+
+fn add_policy(alloc: Global, out: &mut Text, policy: &Policy) -> Result<(), Memory> {
+    for entity_type in policy.types() {
+        add_parameters(alloc, out, &entity_type.name, entity_type.value.as_slice())?;
+    }
+    Ok(())
+}
+
+// Each entity type with each parameter and its operators.
+fn policy_told(alloc: Global, policy: &Policy) -> Result<Text, Memory> {
+    let mut out = Text::new(alloc);
+    add_policy(alloc, &mut out, policy)?;
+    Ok(out)
+}
+
+fn fault_told(alloc: Global, fault: &PolicyFault) -> Result<Text, Memory> {
+    match fault {
+        PolicyFault::Conflict {
+            entity_type,
+            parameter,
+            first,
+            second,
+        } => {
+            let mut out = Text::of(alloc, b"Conflict")?;
+            add_word(&mut out, entity_type.as_slice())?;
+            add_word(&mut out, parameter.as_slice())?;
+            add_word(&mut out, first.name().as_bytes())?;
+            add_word(&mut out, second.name().as_bytes())?;
+            Ok(out)
+        }
+        PolicyFault::Memory => Err(Memory),
+    }
+}
+
+fn merged_told(alloc: Global, upper: &Policy, lower: &Policy) -> Result<Text, Memory> {
+    if let Err(fault) = upper.combined(alloc) {
+        return fault_told(alloc, &fault.copy(alloc)?);
+    }
+    match upper.merge(alloc, lower) {
+        Ok(policy) => policy_told(alloc, &policy.copy(alloc)?),
+        Err(fault) => fault_told(alloc, &fault.copy(alloc)?),
+    }
+}
+
+/// `merge UPPER LOWER`: each type, parameter, operator and value of the merged policy; the conflict of the upper one, or else of both; or
+/// `Shape`. The lower one is empty where it isn't given.
+pub(crate) fn merge(alloc: Global, given: &str) -> Result<Text, Memory> {
+    let (upper, lower) = cut(given);
+    match (read(alloc, upper), read(alloc, lower)) {
+        (Ok(upper), Ok(lower)) => merged_told(alloc, &upper, &lower),
+        (Err(PolicyShape::Memory), _) | (_, Err(PolicyShape::Memory)) => Err(Memory),
+        _ => Text::of(alloc, b"Shape"),
+    }
+}
+
+// The two texts as policies, merged.
+fn merged(alloc: Global, upper: &str, lower: &str) -> Result<Policy, PolicyFault>
+    ensures { IfOk result (λ policy. conflict_in policy ≡ None) }
+{
+    match (read(alloc, upper), read(alloc, lower)) {
+        (Ok(upper), Ok(lower)) => upper.merge(alloc, &lower),
+        _ => Err(PolicyFault::Memory),
+    }
+}
+
+fn refusal_told(alloc: Global, fault: &ApplyFault) -> Result<Text, Memory> {
+    match fault {
+        ApplyFault::Refused {
+            entity_type,
+            parameter,
+            operator,
+        } => {
+            let mut out = Text::of(alloc, b"Refused")?;
+            add_word(&mut out, entity_type.as_slice())?;
+            add_word(&mut out, parameter.as_slice())?;
+            add_word(&mut out, operator.name().as_bytes())?;
+            Ok(out)
+        }
+        ApplyFault::Memory => Err(Memory),
+    }
+}
+
+fn applied_told(alloc: Global, policy: &Policy, metadata: &Json) -> Result<Text, Memory>
+    requires metadata { IsMetadata metadata.now }
+    requires combines { conflict_in policy.now ≡ None }
+{
+    match apply(alloc, policy, metadata) {
+        Ok(tree) if is_whole(&tree) => write_tree(alloc, &tree),
+        Ok(_) => Text::of(alloc, b"not whole"),
+        Err(fault) => refusal_told(alloc, &fault.copy(alloc)?),
+    }
+}
+
+/// `apply METADATA UPPER LOWER`: the metadata under both policies, or what refuses it.
+pub(crate) fn apply_both(alloc: Global, given: &str) -> Result<Text, Memory> {
+    let (metadata, policies) = cut(given);
+    let (upper, lower) = cut(policies);
+    let Ok(policy) = merged(alloc, upper, lower) else {
+        return Text::of(alloc, b"no policy");
+    };
+    let Ok(metadata) = read_tree(alloc, metadata.as_bytes()) else {
+        return Text::of(alloc, b"no tree");
+    };
+    if is_metadata(&metadata) {
+        applied_told(alloc, &policy, &metadata)
+    } else {
+        Text::of(alloc, b"no metadata")
+    }
+}
