@@ -13,8 +13,6 @@ mod lookup;
 mod members;
 mod read;
 mod sets;
-#[cfg(test)]
-mod tests;
 mod tree;
 mod write;
 
