@@ -16,8 +16,6 @@ mod named;
 mod read;
 mod sets;
 mod sides;
-#[cfg(test)]
-mod tests;
 mod tree;
 mod write;
 

@@ -21,8 +21,6 @@ mod real_store;
 mod sink;
 mod source;
 mod store;
-#[cfg(test)]
-mod tests;
 
 pub use clock::Clock;
 pub use fed_base::{Duplicate, Failed, Ledger, MOMENT_LIMIT, Memory, Plain, Seq, Steps, Text};

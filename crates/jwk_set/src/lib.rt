@@ -9,8 +9,6 @@ mod fault;
 mod jwk;
 mod keys;
 mod set;
-#[cfg(test)]
-mod tests;
 mod thumbprints;
 
 pub use fault::SetFault;

@@ -10,8 +10,6 @@ mod pairs;
 mod sealing;
 mod tested;
 mod testing;
-#[cfg(test)]
-mod tests;
 
 pub use fault::SealFault;
 pub use pairs::{Sealed, Unsealed};

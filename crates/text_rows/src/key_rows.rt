@@ -1,0 +1,66 @@
+// Sets of keys.
+
+use crate::spelling::{cut, number, told, word};
+use fed_base::{Duplicate, Memory, Text};
+use fed_json::{read_tree, write_tree};
+use jwk_set::{JwkSet, SetFault};
+use std::alloc::Global;
+
+/// The set of a JSON text. A text that isn't JSON has the fault `NotSet` here.
+pub fn set_of(alloc: Global, text: &[u8]) -> Result<JwkSet, SetFault> {
+    match read_tree(alloc, text) {
+        Ok(tree) => JwkSet::read(alloc, &tree),
+        Err(_) => Err(SetFault::NotSet),
+    }
+}
+
+/// What a copy of the set is written as, or the first fault of the text.
+pub fn keys(alloc: Global, given: &str) -> Result<Text, Memory> {
+    match set_of(alloc, given.as_bytes()) {
+        Ok(set) => rewritten(alloc, &set),
+        Err(fault) => told(alloc, &fault),
+    }
+}
+
+fn rewritten(alloc: Global, set: &JwkSet) -> Result<Text, Memory> {
+    let tree = set.copy(alloc)?.write(alloc)?;
+    write_tree(alloc, &tree)
+}
+
+/// How many keys a set of that many members has, or its fault.
+pub fn as_many(alloc: Global, given: &str) -> Result<Text, Memory> {
+    let mut text = Text::of(alloc, br#"{"keys":[{"kty":"A"}"#)?;
+    for _ in 1..number(given) {
+        text.append(br#",{"kty":"A"}"#)?;
+    }
+    text.append(b"]}")?;
+    match set_of(alloc, text.as_slice()) {
+        Ok(set) => told(alloc, &set.keys.len()),
+        Err(fault) => told(alloc, &fault),
+    }
+}
+
+/// The public key of that name in a set.
+pub fn key_of(alloc: Global, given: &str) -> Result<Text, Memory> {
+    let (kid, set) = cut(given);
+    match set_of(alloc, set.as_bytes()) {
+        Ok(set) => public_of(alloc, &set, kid),
+        Err(fault) => told(alloc, &fault),
+    }
+}
+
+fn public_of(alloc: Global, set: &JwkSet, kid: &str) -> Result<Text, Memory> {
+    let kid = Text::of(alloc, kid.as_bytes())?;
+    match set.key_of(&kid) {
+        Some(public) => Text::of(alloc, &public),
+        None => word(alloc, "none"),
+    }
+}
+
+/// The thumbprint of a public key, which is given in base64url.
+pub fn thumbprint(alloc: Global, given: &str) -> Result<Text, Memory> {
+    match base64url::decode_32(given.as_bytes()) {
+        Some(public) => jwk_set::thumbprint(alloc, &public),
+        None => word(alloc, "no key"),
+    }
+}

@@ -1,0 +1,37 @@
+// Lists that are taken as sets.
+
+use crate::json_rows::written;
+use crate::port_rows::joined;
+use crate::spelling::{cut, told, word};
+use fed_base::{Memory, Seq, Text};
+use fed_json::{Json, includes, intersect, read_tree, union};
+use std::alloc::Global;
+
+/// The union and the intersection of two lists, and whether the first includes the second.
+pub fn sets(alloc: Global, given: &str) -> Result<Text, Memory> {
+    let (first, second) = cut(given);
+    match (
+        read_tree(alloc, first.as_bytes()),
+        read_tree(alloc, second.as_bytes()),
+    ) {
+        (Ok(Json::List(first)), Ok(Json::List(second))) => of_lists(alloc, &first, &second),
+        _ => word(alloc, "no lists"),
+    }
+}
+
+fn of_lists(alloc: Global, first: &Seq<Json>, second: &Seq<Json>) -> Result<Text, Memory> {
+    let mut parts = Seq::new(alloc);
+    parts.push(items(alloc, union(alloc, first, second)?)?)?;
+    parts.push(items(alloc, intersect(alloc, first, second)?)?)?;
+    parts.push(told(alloc, &includes(first, second))?)?;
+    joined(alloc, parts.as_slice(), b" | ")
+}
+
+/// The items of a list, which may hold a number whose value isn't kept.
+fn items(alloc: Global, list: Seq<Json>) -> Result<Text, Memory> {
+    let mut texts = Seq::new(alloc);
+    for item in list.as_slice() {
+        texts.push(written(alloc, item)?)?;
+    }
+    joined(alloc, texts.as_slice(), b" ")
+}
