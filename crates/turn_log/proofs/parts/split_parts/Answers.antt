@@ -1,0 +1,17 @@
+use Rattle.std.proofs.Common.{rules, ◌≡◌, ◌<◌, ◌+◌, List, false, length, sym, subst}
+use Rattle.turn_log.specs.Passes.{is_alone}
+use Rattle.turn_log.specs.Parts.{AreSplit}
+use Rattle.turn_log.proofs.PartLists.{split_more}
+use Rattle.turn_log.proofs.parts.split_parts.Goals as goal
+
+pub returns-in_err-push-clause-same : goal.returns-in_err-push-clause-same
+returns-in_err-push-clause-same g c =
+    let less : c.loop-at.at < length c.args.objects.now.items = search rules in
+    let s = split_more g.T.Sequential.steps g.T.Opening.opening c.args.objects.now.items c.args.passes.now.items c.loop-at.passes.items c.split_at-pass.new.passes.items c.loop-at.made.items c.split_at-pass.result c.loop-at.at (is_alone c.split_at-pass.result ≡ false) c.loop-at.invariant less c.split_at-pass.ensures.passes c.split_at-pass.ensures.same c.split_at-pass.ensures.new in
+    s.same
+
+pub loop-at-preserved : goal.loop-at-preserved
+loop-at-preserved g c =
+    let less : c.loop-at.at < length c.args.objects.now.items = search rules in
+    let s = split_more g.T.Sequential.steps g.T.Opening.opening c.args.objects.now.items c.args.passes.now.items c.loop-at.passes.items c.split_at-pass.new.passes.items c.loop-at.made.items c.split_at-pass.result c.loop-at.at (is_alone c.split_at-pass.result ≡ false) c.loop-at.invariant less c.split_at-pass.ensures.passes c.split_at-pass.ensures.same c.split_at-pass.ensures.new in
+    subst (λ (l : List _). AreSplit g.T.Sequential.steps g.T.Opening.opening c.args.objects.now.items c.args.passes.now.items c.split_at-pass.new.passes.items l (c.loop-at.at + 1)) (sym c.in_ok-push.ensures.items) s

@@ -1,0 +1,76 @@
+-- What a caller knows of eight objects of one kind and one of another, and what its calls add.
+use Rattle.std.specs.Prelude.{◌≡◌, ◌≢◌, ◌<◌, ℕ, List}
+use Rattle.std.specs.declared.snapshot.Snapshot.{Snapshot}
+use Rattle.turn_log.specs.Runs.{Adds, IsAccount, IsLegal}
+use Rattle.turn_log.specs.Gains.{Known}
+use Rattle.turn_log.specs.Passes.{account, untaken, unused, IsJoined, OwnsAll}
+use Rattle.turn_log.specs.Objects.{first_state, IsOf}
+use Rattle.turn_log.specs.Parts.{AllOwned, ArePasses, account_at}
+use Rattle.turn_log.specs.declared.kept.KeptTable.{KeptTable}
+use Rattle.turn_log.specs.declared.pass.PassSeat.{PassSeat}
+use Rattle.turn_log.specs.declared.group.Group.{Group}
+
+-- how many parts there are
+abbrev pub part_count : ℕ
+part_count = 8
+
+module _ {C R D Q : Type 0} where
+  -- on this part these calls were added, and none on another object
+  pub record AddsOnPart (old : Known C R D Q) (at : ℕ) (calls : List (C × R)) (new : Known C R D Q) : Type 0 where
+    pub here : Adds (old.part at) (new.part at) calls
+    pub elsewhere : (p : ℕ) → p ≢ at → new.part p ≡ old.part p
+    pub book : new.book ≡ old.book
+
+  -- on the book these calls were added, and none on a part
+  pub record AddsOnBook (old : Known C R D Q) (calls : List (D × Q)) (new : Known C R D Q) : Type 0 where
+    pub here : Adds old.book new.book calls
+    pub parts : (p : ℕ) → new.part p ≡ old.part p
+
+  -- of each object the same is known
+  pub record IsSame (old new : Known C R D Q) : Type 0 where
+    pub parts : (p : ℕ) → new.part p ≡ old.part p
+    pub book : new.book ≡ old.book
+
+  -- of each object the same was seen, and no call made
+  pub record IsUntaken (old new : Known C R D Q) : Type 0 where
+    pub parts : (p : ℕ) → p < part_count → new.part p ≡ untaken (old.part p)
+    pub book : new.book ≡ untaken old.book
+
+  -- of each object the longer list, and the places of both
+  pub record AreJoined (old other new : Known C R D Q) : Type 0 where
+    pub parts : (p : ℕ) → p < part_count → IsJoined (old.part p) (other.part p) (new.part p)
+    pub book : IsJoined old.book other.book new.book
+
+module _ {X C R Y D Q : Type 0} where
+  -- the calls that were seen are legal, from the state in which each object began, and the own places among them rise
+  pub record IsHistory (part_steps : X → C → R → X → Type 0) (first : X) (book_steps : Y → D → Q → Y → Type 0) (opened : Y) (known : Known C R D Q) : Type 0 where
+    pub parts_legal : (p : ℕ) → p < part_count → IsLegal part_steps first (known.part p).seen
+    pub book_legal : IsLegal book_steps opened known.book.seen
+    pub parts_own : (p : ℕ) → p < part_count → IsAccount (known.part p)
+    pub book_own : IsAccount known.book
+
+module _ {S X C R T Y D Q : Type 0} where
+  -- what was seen of each object, and which calls were the caller's own
+  abbrev pub known : Group (PassSeat S X C R) (PassSeat T Y D Q) → Known C R D Q
+  known pass = record { part = account_at pass.parts.items; book = account pass.book }
+
+  -- the caller is the only one, and each call on the nine is its own
+  pub record OwnsEach (pass : Group (PassSeat S X C R) (PassSeat T Y D Q)) : Type 0 where
+    pub parts_owned : AllOwned pass.parts.items
+    pub book_owned : OwnsAll pass.book
+
+  -- nothing was seen of any object
+  pub record IsUnused (pass : Group (PassSeat S X C R) (PassSeat T Y D Q)) : Type 0 where
+    pub parts_unused : (p : ℕ) → (known pass).part p ≡ unused
+    pub book_unused : (known pass).book ≡ unused
+
+module _ {S V X Q T W Y U : Type 0} where
+  -- the state in which the book began
+  abbrev pub opened : Group (KeptTable S V (Snapshot X) Q) (KeptTable T W (Snapshot Y) U) → Y
+  opened nine = first_state nine.book
+
+module _ {S V X C R Q T W Y D P U : Type 0} where
+  -- each pass is of its object, and the parts began in this state
+  pub record AreOf (part_steps : X → C → R → X → Type 0) (first : X) (book_steps : Y → D → P → Y → Type 0) (nine : Group (KeptTable S V (Snapshot X) Q) (KeptTable T W (Snapshot Y) U)) (pass : Group (PassSeat S X C R) (PassSeat T Y D P)) : Type 0 where
+    pub parts_of : ArePasses part_steps first nine.parts.items pass.parts.items
+    pub book_of : IsOf book_steps nine.book pass.book

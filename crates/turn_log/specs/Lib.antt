@@ -1,0 +1,11 @@
+pub mod Runs
+pub mod Places
+pub mod Views
+pub mod Rule
+pub mod StepKinds
+pub mod Passes
+pub mod Objects
+pub mod Between
+pub mod Gains
+pub mod Parts
+pub mod Groups
