@@ -1,29 +1,10 @@
-//! `fed`: an authority and trust chain resolver of OpenID Federation 1.0.
+//! Layer 7, the program: `fed`, an authority and trust chain resolver of OpenID Federation 1.0.
 //!
-//! [`top::run`] does all that the program does, over any source, sink, store and clock, and carries what is proved of it. `main` makes the real
-//! outside, calls it and ends with its status.
+//! `main` makes the real outside, calls [`fed_commands::run`], which does all that the program does and carries what is proved of it, and ends
+//! with its status.
 #![tactic(auto)]
 
-mod anchor_keys;
-mod answer;
-mod chain_text;
-mod check;
-mod command;
-mod finding;
-mod help;
-mod input;
-mod issue;
-mod keygen;
-mod options;
-mod output;
-mod reply;
-mod ring;
-mod step;
-#[cfg(test)]
-mod tests;
-mod top;
-mod verdict_line;
-
+use fed_commands::run;
 use fed_ports::{Memory, RealClock, RealSink, RealSource, RealStore, Seq, Text};
 use std::alloc::Global;
 use std::env;
@@ -55,7 +36,7 @@ fn main(rt: HostRuntime) -> ExitCode {
     let mut out = RealSink::new(rt.stdout());
     let mut store = RealStore::new(&rt);
     let mut clock = RealClock::new(&rt);
-    ExitCode::from(top::run(
+    ExitCode::from(run(
         &rt,
         rt.alloc(),
         &words,

@@ -2,7 +2,7 @@
 
 ghost use Rattle.std.specs.Prelude.{◌≡◌, IfOk, None};
 ghost use Rattle.policy_merge.specs.Combining.{conflict_in};
-ghost use Rattle.policy_merge.specs.Metadata.{IsMetadata};
+ghost use Rattle.fed_json.specs.Metadata.{IsMetadata};
 
 use crate::words::{add_word, cut};
 use fed_base::{Duplicate, Memory, Seq, Text};

@@ -1,0 +1,39 @@
+-- A file or an input that is too long.
+use Rattle.std.proofs.Common.{◌≡◌, ◌<◌, ℕ, List, length, Some, None, cond, refl, ap, subst, arith}
+use Rattle.std.specs.Prelude.{Option, Err, IfSome}
+use Rattle.std.proofs.lemmas.Bool.{lt-ltb}
+use Rattle.fed_ports.specs.Stores.{Files, IsFile, Loads, Counted, file_limit}
+use Rattle.fed_ports.specs.declared.store.StoreFault.{StoreFault}
+use Rattle.fed_ports.specs.declared.store.StoreFault.TheVariants.{TooLong}
+use Rattle.fed_commands.specs.Answers.{named, IsNamed, IsTextRead}
+use Rattle.fed_ports.specs.Inputs.{EndsAs}
+use Rattle.fed_commands.specs.Streams.{without_line_end}
+use Rattle.fed_commands.specs.declared.command.Command.{Command}
+use Rattle.fed_ports.specs.declared.input.ReadEnd.TheVariants as end
+use Rattle.fed_commands.proofs.StreamLaws.{begins}
+
+-- the file that a command names is too long
+pub long_file : (c : Command) (files : Option Files) (name : List ℕ) (fault : StoreFault) → fault ≡ TooLong → Some name ≡ named c → Loads files name (Err fault)
+    → (x : Option (List ℕ)) × IsNamed c files x × ((bytes : List ℕ) × (x ≡ Some bytes) × (file_limit < length bytes))
+long_file c files name fault is same loads =
+    let found : Loads files name (Err TooLong) = subst (λ f. Loads files name (Err f)) is loads in
+    (Some found.0, subst (λ n. IfSome n (λ m. IsFile files m (Some found.0))) same found.1, (found.0, refl, found.2))
+
+-- and no call failed for that
+pub steady_file : (before now : ℕ) (fault : StoreFault) → fault ≡ TooLong → Counted {T = Option (List ℕ)} before now (Err fault) → now ≡ before
+steady_file before now fault is counted = subst (λ f. Counted {T = Option (List ℕ)} before now (Err f)) is counted
+
+-- an input is too long
+pub long_input : (old new : Option (List ℕ)) (before now : ℕ) → EndsAs old new before now end.TooLong → IsTextRead old new before now None
+long_input old new before now ends =
+    let whole = begins old new ends.1.0 ends.1.1 in
+    let most = ends.1.2 in
+    let least = whole.2 in
+    let longer : file_limit < length whole.0 = omega (arith, most, least) in
+    record {
+      steady = ends.0;
+      input = whole.0;
+      is_input = whole.1;
+      is_text = ap (λ b. cond b None (Some (without_line_end whole.0))) (lt-ltb file_limit (length whole.0) longer);
+      ended = λ short. absurd (omega (arith, longer, short));
+    }

@@ -1,0 +1,13 @@
+use Rattle.std.proofs.Common.{sym, subst}
+use Rattle.std.specs.Prelude.{IfOk}
+use Rattle.fed_commands.specs.Findings.{IsVerified}
+use Rattle.fed_commands.specs.Operations.{IsPerformed}
+use Rattle.fed_commands.specs.declared.operation.Operation.TheVariants.{Verify}
+use Rattle.fed_commands.proofs.operation.perform.Goals as goal
+
+-- src/operation.rt
+pub returns-in-Verify-clause-performed : goal.returns-in-Verify-clause-performed
+returns-in-Verify-clause-performed c =
+    let done = subst (λ t. IfOk c.verify.result (IsVerified c.in-Verify.key t)) c.as_slice.ensures c.verify.ensures in
+    subst (λ j. IfOk c.verify.result (IsPerformed j c.args.input)) (sym c.in-Verify.is)
+    (subst (λ i. IfOk c.verify.result (IsPerformed (Verify c.in-Verify.key) i)) (sym c.in-Some.is) done)

@@ -1,0 +1,74 @@
+-- The command that the words give.
+use Rattle.std.specs.Prelude.{ℕ, List, [], ◌∷◌, ◌==◌, ◌&&◌, ◌||◌, length, codes, bytes_eq, Option, Some, None, is_some, if◌then◌else◌}
+use Rattle.std.specs.Option.{option_and_then}
+use Rattle.base64url.specs.Base64url.{decoded_32}
+use Rattle.entity_id.specs.Identifiers.{identifier_of}
+use Rattle.entity_statement.specs.Table.{statement_type}
+use Rattle.fed_commands.specs.Options.{option_in, moment_in}
+use Rattle.fed_commands.specs.declared.command.Command.{Command}
+use Rattle.fed_commands.specs.declared.command.Command.TheVariants.{Verify, Keygen, Issue, Check, Help, Version, Faulty}
+
+-- a flag stands alone
+unfoldable pub flag_of : List ℕ → List (List ℕ) → Command
+flag_of verb (word ∷ words) = Faulty
+flag_of verb [] = if bytes_eq verb (codes "--help") then Help else (if bytes_eq verb (codes "--version") then Version else Faulty)
+
+-- the command, where the key has its form
+abbrev pub verify_with : Option (List ℕ) → Command
+verify_with (Some key) = Verify key
+verify_with None = Faulty
+
+-- one public key: the base64url of its 32 bytes (RFC 4648 section 5)
+unfoldable pub verify_of : List (List ℕ) → Command
+verify_of [] = Faulty
+verify_of (word ∷ []) = verify_with (decoded_32 word)
+verify_of (word ∷ next ∷ words) = Faulty
+
+-- the command, where all three are there
+abbrev pub keygen_with : Option (List ℕ) → Option ℕ → Option ℕ → Command
+keygen_with (Some ring) (Some at) (Some exp) = Keygen ring at exp
+keygen_with (Some ring) (Some at) None = Faulty
+keygen_with (Some ring) None exp = Faulty
+keygen_with None at exp = Faulty
+
+-- three options with their values, in any order: where three pairs have these three names, each stands once
+unfoldable pub keygen_of : List (List ℕ) → Command
+keygen_of words =
+    if length words == 6 then keygen_with (option_in (codes "--ring") words) (moment_in (codes "--at") words) (moment_in (codes "--exp") words) else Faulty
+
+-- the command, where both are there and the type is the one that is issued
+abbrev pub issue_with : Option (List ℕ) → Option (List ℕ) → Command
+issue_with (Some ring) (Some typ) = if bytes_eq typ statement_type then Issue ring else Faulty
+issue_with (Some ring) None = Faulty
+issue_with None typ = Faulty
+
+-- two options with their values; the type is that of entity statements (OpenID Federation 1.0 section 3.1)
+unfoldable pub issue_of : List (List ℕ) → Command
+issue_of words = if length words == 4 then issue_with (option_in (codes "--ring") words) (option_in (codes "--typ") words) else Faulty
+
+-- the command, where the anchor and the file are there; a moment may be absent
+abbrev pub check_with : Option (List ℕ) → Option (List ℕ) → Option ℕ → Command
+check_with (Some anchor) (Some keys) at = Check anchor keys at
+check_with (Some anchor) None at = Faulty
+check_with None keys at = Faulty
+
+-- two options with their values, or these two and a moment
+unfoldable pub check_of : List (List ℕ) → Command
+check_of words =
+    if length words == 4 || (length words == 6 && is_some (moment_in (codes "--at") words))
+    then check_with (option_and_then identifier_of (option_in (codes "--anchor") words)) (option_in (codes "--keys") words) (moment_in (codes "--at") words)
+    else Faulty
+
+-- the words behind the first one, which is the command
+unfoldable pub verb_of : List ℕ → List (List ℕ) → Command
+verb_of verb words =
+    if bytes_eq verb (codes "verify") then verify_of words
+    else (if bytes_eq verb (codes "keygen") then keygen_of words
+    else (if bytes_eq verb (codes "issue") then issue_of words
+    else (if bytes_eq verb (codes "check") then check_of words
+    else flag_of verb words)))
+
+-- the words after the program's name
+unfoldable pub command_of : List (List ℕ) → Command
+command_of [] = Faulty
+command_of (verb ∷ words) = verb_of verb words

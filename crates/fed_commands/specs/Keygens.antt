@@ -1,0 +1,34 @@
+-- What `keygen` makes of the seeds of a key (FIPS 205 Algorithm 18) and the moments that it is for.
+use Rattle.std.specs.Prelude.{ℕ, List, [], ◌∷◌, ◌++◌, codes, nat_lt, Option, Some, None, if◌then◌else◌}
+use Rattle.std.specs.Result.{result_ok}
+use Rattle.hex.specs.Hex.{decode_sized}
+use Rattle.fed_json.specs.Compact.{compact}
+use Rattle.jwk_set.specs.Thumbprints.{thumbprint_of}
+use Rattle.jwk_set.specs.Trees.{own_tree}
+use Rattle.slh_hash.specs.declared.params.TheConstants.{P128S}
+use Rattle.slh_dsa.specs.Keys.{public_key}
+use Rattle.fed_commands.specs.Replies.{bad_input, refused}
+use Rattle.fed_commands.specs.Rings.{ring_tree}
+use Rattle.fed_commands.specs.declared.reply.Reply.{Reply}
+use Rattle.fed_commands.specs.declared.ring.LiveKey.{LiveKey}
+
+-- the public key as a JWK whose name is its thumbprint (RFC 7517 section 4, RFC 7638), on its own line
+unfoldable pub public_line : List ℕ → List ℕ
+public_line seeds = compact (own_tree (thumbprint_of (public_key P128S seeds)) (public_key P128S seeds)) ++ 10 ∷ []
+
+-- the key, in a ring of its own
+abbrev pub made : LiveKey → Reply
+made key = record { status = 0; text = public_line key.seeds; kept = Some (compact (ring_tree key)) }
+
+-- the moments are in their order
+abbrev pub in_order : LiveKey → Reply
+in_order key = if nat_lt key.iat key.exp then made key else refused (codes "Order")
+
+-- the same of the seeds, where the input has them
+abbrev pub of_seeds : ℕ → ℕ → Option (List ℕ) → Reply
+of_seeds at exp None = bad_input
+of_seeds at exp (Some seeds) = in_order (record { seeds = seeds; iat = at; exp = exp })
+
+-- the input is 96 hexadecimal digits of either case
+unfoldable pub keygen_reply : ℕ → ℕ → List ℕ → Reply
+keygen_reply at exp input = of_seeds at exp (result_ok (decode_sized input 48))

@@ -1,0 +1,13 @@
+pub mod Answers
+pub mod Checks
+pub mod Commands
+pub mod Configurations
+pub mod Findings
+pub mod Issues
+pub mod Keygens
+pub mod Operations
+pub mod Options
+pub mod Replies
+pub mod Rings
+pub mod Sealings
+pub mod Streams

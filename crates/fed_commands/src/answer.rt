@@ -1,0 +1,119 @@
+// From a command to its reply: the file that it names, and then its input.
+
+ghost use Rattle.std.specs.Prelude.{◌≡◌, ◌≤◌, ℕ, List, None, Option, MatchResult, false, IfErr, IfOk, OnOk};
+ghost use Rattle.std.specs.Option.{option_copied};
+ghost use Rattle.fed_ports.specs.Causes.{HasCause};
+ghost use Rattle.fed_commands.specs.Answers.{named, text_of, wants_input, MayBe, IsNamed, IsRead, IsReached, IsKeptAs, StopsAs, IsTextRead};
+ghost use Rattle.fed_commands.specs.Sealings.{RepliesSealed};
+ghost use Rattle.fed_commands.specs.Operations.{IsFileOf};
+
+use crate::command::Command;
+use crate::input::without_line_end;
+use crate::operation::{File, Prepared, perform, prepare};
+use crate::reply::Reply;
+use fed_ports::{Failed, Memory, ReadEnd, Source, Store, StoreFault, Text, read_all};
+use std::alloc::Global;
+
+/// Why there is no reply.
+#[derive(Clone, Copy, Debug, PartialEq, Eq)]
+pub enum Stop {
+    /// The source failed.
+    Source,
+    /// The store failed.
+    Store,
+    /// Memory was wanting.
+    Memory,
+}
+
+impl From<Memory> for Stop {
+    ghost use Rattle.fed_commands.specs.declared.answer.Stop.TheVariants.{Memory as WantOfMemory};
+
+    ghost from_gives = { λ _ stop. stop ≡ WantOfMemory };
+
+    fn from(_: Memory) -> Stop {
+        Stop::Memory
+    }
+}
+
+/// The name of the file that the command looks at or keeps.
+fn named(command: &Command) -> Option<&Text>
+    ensures { option_copied result ≡ named command.now }
+{
+    match command {
+        Command::Keygen { ring_file, .. } | Command::Issue { ring_file } => Some(ring_file),
+        Command::Check { keys_file, .. } => Some(keys_file),
+        Command::Verify(_) | Command::Help | Command::Version | Command::Faulty => None,
+    }
+}
+
+/// The file that the command names.
+fn load<D: Store>(alloc: Global, command: &Command, store: &mut D) -> Result<File, Stop>
+    ensures files { D.files store.new ≡ D.files store.old }
+    ensures steady { OnOk result (D.store_faults store.new ≡ D.store_faults store.old) }
+    ensures found { IfOk result (λ file. (bytes : Option (List ℕ)) × IsNamed command.now (D.files store.old) bytes × IsFileOf file bytes) }
+    ensures stops { IfErr result (λ stop. (source : ℕ) → StopsAs stop source source (D.store_faults store.old) (D.store_faults store.new)) }
+    ensures apart { named command.now ≡ None → store.new ≡ store.old }
+{
+    let Some(name) = named(command) else {
+        return Ok(File::Absent);
+    };
+    match store.load(alloc, name) {
+        Ok(Some(bytes)) => Ok(File::Whole(bytes)),
+        Ok(None) => Ok(File::Absent),
+        Err(StoreFault::TooLong) => Ok(File::TooLong),
+        Err(StoreFault::Failed) => Err(Stop::Store),
+        Err(StoreFault::Memory) => Err(Stop::Memory),
+    }
+}
+
+/// The text of the input, or `None` where it is too long.
+fn read_text<S: Source>(alloc: Global, input: &mut S) -> Result<Option<Text>, Stop>
+    ensures read { IfOk result (IsTextRead (S.left input.old) (S.left input.new) (S.read_faults input.old) (S.read_faults input.new)) }
+    ensures stops { IfErr result (λ stop. (store : ℕ) → StopsAs stop (S.read_faults input.old) (S.read_faults input.new) store store) }
+{
+    match read_all(alloc, input) {
+        Ok(bytes) => Ok(Some(without_line_end(bytes))),
+        Err(ReadEnd::Failed) => Err(Stop::Source),
+        Err(ReadEnd::TooLong) => Ok(None),
+        Err(ReadEnd::Memory) => Err(Stop::Memory),
+    }
+}
+
+/// The command's reply on its file and its input, at a moment in seconds since 1970. No file is changed.
+pub fn reply_to<S: Source, D: Store>(
+    alloc: Global,
+    command: &Command,
+    moment: u64,
+    input: &mut S,
+    store: &mut D,
+) -> Result<Reply, Stop>
+    ensures files { D.files store.new ≡ D.files store.old }
+    ensures steady { MatchResult result
+        (λ reply. (S.read_faults input.new ≡ S.read_faults input.old) × (D.store_faults store.new ≡ D.store_faults store.old))
+        (λ stop. StopsAs stop (S.read_faults input.old) (S.read_faults input.new) (D.store_faults store.old) (D.store_faults store.new)) }
+    ensures reply { IfOk result (IsReached command.now moment (D.files store.old) (S.left input.old) (S.left input.new)) }
+    ensures sealed { IfOk result (RepliesSealed command.now (D.files store.old)) }
+    ensures input_apart { wants_input command.now ≡ false → input.new ≡ input.old }
+    ensures store_apart { named command.now ≡ None → store.new ≡ store.old }
+{
+    let file = load(alloc, command, store)?;
+    match prepare(alloc, command, moment, &file)? {
+        Prepared::Answered(reply) => Ok(reply),
+        Prepared::WantsInput(operation) => {
+            let text = read_text(alloc, input)?;
+            Ok(perform(alloc, &operation, text)?)
+        }
+    }
+}
+
+/// Keeps the bytes, where there are some, as the file that the command names.
+pub fn keep<D: Store>(command: &Command, kept: Option<&Text>, store: &mut D) -> Result<(), Failed>
+    ensures kept { IsKeptAs command.now (D.files store.old) (D.files store.new) (option_copied kept.entry) result }
+    ensures cause { HasCause (D.store_faults store.old) (D.store_faults store.new) result }
+    ensures apart { named command.now ≡ None → store.new ≡ store.old }
+{
+    match (named(command), kept) {
+        (Some(name), Some(bytes)) => store.keep(name, bytes.as_slice()),
+        _ => Ok(()),
+    }
+}

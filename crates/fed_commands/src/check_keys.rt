@@ -1,0 +1,25 @@
+// The keys of a trust anchor.
+
+ghost use Rattle.std.specs.Prelude.{◌≡◌, IfOk, option_map};
+ghost use Rattle.fed_commands.specs.Checks.{keys_in};
+
+use fed_json::{TreeFault, read_tree};
+use fed_ports::Memory;
+use jwk_set::{JwkSet, SetFault};
+use std::alloc::Global;
+
+/// The keys of a file that is a key set in JSON (RFC 7517 section 5), or `None` where it is none.
+pub fn read_keys(alloc: Global, file: &[u8]) -> Result<Option<JwkSet>, Memory>
+    ensures { IfOk result (λ read. option_map (λ set. set.keys) read ≡ keys_in file.now) }
+{
+    let tree = match read_tree(alloc, file) {
+        Ok(tree) => tree,
+        Err(TreeFault::Syntax) => return Ok(None),
+        Err(TreeFault::Memory) => return Err(Memory),
+    };
+    match JwkSet::read(alloc, &tree) {
+        Ok(keys) => Ok(Some(keys)),
+        Err(SetFault::Memory) => Err(Memory),
+        Err(_) => Ok(None),
+    }
+}

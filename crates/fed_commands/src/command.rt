@@ -1,0 +1,156 @@
+// The command line.
+
+ghost use Rattle.std.specs.Prelude.{◌≡◌, IfOk};
+ghost use Rattle.fed_commands.specs.Commands.{command_of, verb_of, verify_of, keygen_of, issue_of, check_of, flag_of};
+
+use crate::options::{moment_in, option_in};
+use base64url::decode_32;
+use entity_id::EntityId;
+use entity_statement::STATEMENT_TYPE;
+use fed_ports::{Duplicate, Memory, Text};
+use std::alloc::Global;
+
+/// What the words ask for.
+#[derive(Drop)]
+pub enum Command {
+    /// `verify PUB`: check one entity configuration under this public key.
+    Verify([u8; 32]),
+    /// `keygen --ring FILE --at T --exp T`: make a ring file of one key, for these moments in seconds since 1970.
+    Keygen {
+        ring_file: Text,
+        at: u64,
+        exp: u64,
+    },
+    /// `issue --ring FILE --typ TYP`: seal claims of an entity statement by the key of a ring file.
+    Issue {
+        ring_file: Text,
+    },
+    /// `check --anchor ID --keys FILE [--at T]`: check a chain for a trust anchor, its keys, and a moment in seconds since 1970.
+    Check {
+        anchor: EntityId,
+        keys_file: Text,
+        at: Option<u64>,
+    },
+    /// `--help`, alone.
+    Help,
+    /// `--version`, alone.
+    Version,
+    /// The words of no command.
+    Faulty,
+}
+
+/// The command that the words after the program's name give.
+#[tactic(auto, unfolding(crate::specs::Commands::command_of))]
+pub fn read_command(alloc: Global, words: &[Text]) -> Result<Command, Memory>
+    ensures { IfOk result (λ c. c ≡ command_of words.now) }
+{
+    match words {
+        [] => Ok(Command::Faulty),
+        [verb, rest @ ..] => read_verb(alloc, verb.as_slice(), rest),
+    }
+}
+
+#[tactic(auto, unfolding(crate::specs::Commands::verb_of))]
+fn read_verb(alloc: Global, verb: &[u8], rest: &[Text]) -> Result<Command, Memory>
+    ensures { IfOk result (λ c. c ≡ verb_of verb.now rest.now) }
+{
+    if verb == b"verify".as_slice() {
+        Ok(read_verify(rest))
+    } else if verb == b"keygen".as_slice() {
+        read_keygen(alloc, rest)
+    } else if verb == b"issue".as_slice() {
+        read_issue(alloc, rest)
+    } else if verb == b"check".as_slice() {
+        read_check(alloc, rest)
+    } else {
+        Ok(read_flag(verb, rest))
+    }
+}
+
+#[tactic(auto, unfolding(crate::specs::Commands::flag_of))]
+fn read_flag(verb: &[u8], rest: &[Text]) -> Command
+    ensures { result ≡ flag_of verb.now rest.now }
+{
+    if !rest.is_empty() {
+        Command::Faulty
+    } else if verb == b"--help".as_slice() {
+        Command::Help
+    } else if verb == b"--version".as_slice() {
+        Command::Version
+    } else {
+        Command::Faulty
+    }
+}
+
+#[tactic(auto, unfolding(crate::specs::Commands::verify_of))]
+fn read_verify(rest: &[Text]) -> Command
+    ensures { result ≡ verify_of rest.now }
+{
+    let [word] = rest else {
+        return Command::Faulty;
+    };
+    match decode_32(word.as_slice()) {
+        Some(key) => Command::Verify(key),
+        None => Command::Faulty,
+    }
+}
+
+#[tactic(auto, unfolding(crate::specs::Commands::keygen_of))]
+fn read_keygen(alloc: Global, rest: &[Text]) -> Result<Command, Memory>
+    ensures { IfOk result (λ c. c ≡ keygen_of rest.now) }
+{
+    if rest.len() != 6 {
+        return Ok(Command::Faulty);
+    }
+    match (
+        option_in(rest, b"--ring"),
+        moment_in(rest, b"--at"),
+        moment_in(rest, b"--exp"),
+    ) {
+        (Some(ring_file), Some(at), Some(exp)) => Ok(Command::Keygen {
+            ring_file: ring_file.copy(alloc)?,
+            at,
+            exp,
+        }),
+        _ => Ok(Command::Faulty),
+    }
+}
+
+#[tactic(auto, unfolding(crate::specs::Commands::issue_of))]
+fn read_issue(alloc: Global, rest: &[Text]) -> Result<Command, Memory>
+    ensures { IfOk result (λ c. c ≡ issue_of rest.now) }
+{
+    if rest.len() != 4 {
+        return Ok(Command::Faulty);
+    }
+    match (option_in(rest, b"--ring"), option_in(rest, b"--typ")) {
+        (Some(ring_file), Some(typ)) if typ.as_slice() == STATEMENT_TYPE => {
+            Ok(Command::Issue {
+                ring_file: ring_file.copy(alloc)?,
+            })
+        }
+        _ => Ok(Command::Faulty),
+    }
+}
+
+#[tactic(auto, unfolding(crate::specs::Commands::check_of))]
+fn read_check(alloc: Global, rest: &[Text]) -> Result<Command, Memory>
+    ensures { IfOk result (λ c. c ≡ check_of rest.now) }
+{
+    let at = moment_in(rest, b"--at");
+    if rest.len() != 4 && (rest.len() != 6 || at.is_none()) {
+        return Ok(Command::Faulty);
+    }
+    let (Some(anchor), Some(keys_file)) = (option_in(rest, b"--anchor"), option_in(rest, b"--keys"))
+    else {
+        return Ok(Command::Faulty);
+    };
+    match EntityId::of(alloc, anchor.as_slice())? {
+        Some(anchor) => Ok(Command::Check {
+            anchor,
+            keys_file: keys_file.copy(alloc)?,
+            at,
+        }),
+        None => Ok(Command::Faulty),
+    }
+}

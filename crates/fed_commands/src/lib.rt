@@ -1,0 +1,27 @@
+//! Layer 7, the program: what `fed` does with its words, its input, its files and its clock.
+//!
+//! A command is read from the words, looks at the file that it names, is answered or performed on the input, and its reply is kept and
+//! written. [`run`] does all of it over any source, sink, store and clock, and carries what is proved of the program; the program
+//! `fed` makes the real outside and calls it.
+#![tactic(auto)]
+
+mod answer;
+mod check;
+mod check_keys;
+mod check_lines;
+mod check_texts;
+mod command;
+mod help;
+mod input;
+mod issue;
+mod keygen;
+mod operation;
+mod options;
+mod output;
+mod reply;
+mod ring;
+mod top;
+mod verify;
+mod verify_finding;
+
+pub use top::run;

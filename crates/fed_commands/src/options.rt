@@ -1,0 +1,66 @@
+// Options, their values and numbers among the words.
+
+ghost use Rattle.std.specs.Prelude.{◌≡◌, ◌<◌};
+ghost use Rattle.std.specs.Option.{option_copied};
+ghost use Rattle.fed_base.specs.Moments.{moment_limit};
+ghost use Rattle.fed_commands.specs.Options.{option_in, number_after, number_of, moment_in};
+
+use fed_ports::{MOMENT_LIMIT, Text};
+
+/// The value behind the first option of that name, where the words are pairs of an option and its value.
+#[tactic(auto, unfolding(crate::specs::Options::option_in))]
+pub fn option_in<'a>(words: &'a [Text], name: &[u8]) -> Option<&'a Text>
+    ensures { option_copied result ≡ option_in name.now words.now }
+{
+    match words {
+        [option, value, rest @ ..] => {
+            if option.as_slice() == name {
+                Some(value)
+            } else {
+                option_in(rest, name)
+            }
+        }
+        _ => None,
+    }
+}
+
+/// The moment that the option's value gives, in seconds since 1970.
+pub fn moment_in(words: &[Text], name: &[u8]) -> Option<u64>
+    ensures { result ≡ moment_in name.now words.now }
+{
+    match option_in(words, name) {
+        Some(value) => number_of(value.as_slice()),
+        None => None,
+    }
+}
+
+/// The number of these decimal digits, without sign and without a leading zero, below 2^62.
+fn number_of(word: &[u8]) -> Option<u64>
+    ensures { result ≡ number_of word.now }
+{
+    match word {
+        [] => None,
+        [b'0', _, ..] => None,
+        _ => number_after(0, word),
+    }
+}
+
+/// The number that the digits make behind those of `number`.
+#[tactic(auto, unfolding(crate::specs::Options::number_after))]
+fn number_after(number: u64, digits: &[u8]) -> Option<u64>
+    requires { number < moment_limit }
+    ensures { result ≡ number_after number digits.now }
+{
+    let Some((digit, rest)) = digits.split_first() else {
+        return Some(number);
+    };
+    if !digit.is_ascii_digit() {
+        return None;
+    }
+    let longer = u128::from(number) * 10 + u128::from(*digit - b'0');
+    if longer < u128::from(MOMENT_LIMIT) {
+        number_after(longer as u64, rest)
+    } else {
+        None
+    }
+}
