@@ -15,10 +15,13 @@ use Rattle.fed_json.specs.Forms.{is_before, members_whole, rising, whole}
 use Rattle.fed_json.specs.Trees.{as_object, find, member_name, object_members}
 use Rattle.fed_json.proofs.Accessors.{as_object-Object, Object-as_object}
 use Rattle.fed_json.proofs.Layers.{whole-Object}
-use Rattle.policy_merge.specs.Metadata.{IsMetadata, is_metadata, is_object_of}
-use Rattle.policy_merge.specs.Policies.{if_there, is_null}
-use Rattle.policy_merge.specs.Tables.{Name, Side, item_of, side_at, sides}
-use Rattle.policy_merge.proofs.Order.{left_true, right_true, both_true, first_before, rising-cons, rising-tail, equal-bytes_eq}
+use Rattle.fed_json.specs.Metadata.{IsMetadata, is_metadata, is_object_of}
+use Rattle.fed_base.specs.Values.{if_there}
+use Rattle.fed_json.specs.Trees.{is_null}
+use Rattle.fed_json.specs.Tables.{Name, Side, item_of, side_at, sides}
+use Rattle.fed_json.proofs.Booleans.{left_true, right_true, both_true}
+use Rattle.fed_json.proofs.Names.{rising-tail}
+use Rattle.fed_json.proofs.Order.{first_before, rising-cons, equal-bytes_eq}
 use Rattle.policy_merge.proofs.MergedTables.{item_of-passes, rising-names_of_both}
 use Rattle.chain_limits.specs.declared.place.Place.{Place}
 use Rattle.chain_limits.specs.Types.{is_allowed, members_allowed, types_allowed}

@@ -10,7 +10,7 @@ use Rattle.fed_json.specs.Trees.{find, member_name, object_members}
 use Rattle.entity_id.specs.Identifiers.{host_of}
 use Rattle.chain_limits.specs.declared.place.Place.{Place}
 use Rattle.chain_limits.specs.Types.{types_allowed}
-use Rattle.policy_merge.specs.Tables.{Side, sides}
+use Rattle.fed_json.specs.Tables.{Side, sides}
 use Rattle.entity_statement.specs.Claims.{Claims}
 use Rattle.chain_check.specs.Chains.{below_anchor}
 

@@ -4,15 +4,14 @@ ghost use Rattle.std.specs.Prelude.{◌≡◌, ◌<◌, [], IfOk, IsTrue, length
 ghost use Rattle.std.specs.Option.{option_map_or};
 ghost use Rattle.fed_json.specs.Forms.{rising};
 ghost use Rattle.fed_json.specs.Trees.{find as find_in, member_name, object_members as members_of};
-ghost use Rattle.policy_merge.specs.Metadata.{IsMetadata};
+ghost use Rattle.fed_json.specs.Metadata.{IsMetadata};
 ghost use Rattle.chain_check.specs.Metadata.{allowed_metadata as metadata_allowed, limited_places, own_metadata as metadata_own, parameters_over as over, put_over as put, type_over as type_put};
 ghost use Rattle.chain_check.specs.Stages.{claims_in};
 
 use chain_limits::{Place, allowed_types};
 use entity_statement::SignedStatement;
-use fed_json::{Json, Member, find, object_members};
+use fed_json::{Json, Member, Sides, find, object_members};
 use fed_base::{Duplicate, Memory, Seq};
-use policy_merge::Sides;
 use std::alloc::Global;
 
 /// The leaf's metadata before policies: with its superior's put over it, and without the types that aren't allowed.

@@ -1,7 +1,7 @@
 // Limits, policies, and what a chain resolves to.
 
 ghost use Rattle.std.specs.Prelude.{◌≡◌, ◌<◌, None, Ok, IfOk, drop, fold, length, map, min};
-ghost use Rattle.policy_merge.specs.Metadata.{IsMetadata};
+ghost use Rattle.fed_json.specs.Metadata.{IsMetadata};
 ghost use Rattle.policy_merge.specs.Combining.{conflict_in};
 ghost use Rattle.policy_merge.specs.Merging.{merging};
 ghost use Rattle.policy_apply.specs.Applying.{applying};

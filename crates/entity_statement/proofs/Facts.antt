@@ -13,8 +13,8 @@ use Rattle.fed_json.specs.Trees.{as_int, as_list, as_object, as_text, each, find
 use Rattle.fed_json.proofs.Accessors.{List-as_list, Text-as_text, as_object-Object, well_formed-find}
 use Rattle.fed_json.proofs.Booleans.{left_true, right_true, both_true}
 use Rattle.fed_json.proofs.Layers.{well_formed-List, well_formed-Text, whole-Object}
-use Rattle.policy_merge.specs.Metadata.{is_metadata, is_object_of}
-use Rattle.policy_merge.specs.Policies.{is_null}
+use Rattle.fed_json.specs.Metadata.{is_metadata, is_object_of}
+use Rattle.fed_json.specs.Trees.{is_null}
 use Rattle.chain_limits.specs.declared.constraints.Constraints.{Constraints}
 use Rattle.chain_limits.specs.Reading.{HoldsUtf8, Texts, no_constraints, constraints_of}
 use Rattle.chain_limits.proofs.Utf8.{HoldsUtf8-reading, and_then-some, map-some, members_formed}

@@ -4,7 +4,7 @@ use Rattle.std.specs.List.{list_any}
 use Rattle.std.proofs.lemmas.Bool.{true≢false}
 use Rattle.std.proofs.lemmas.List.Folds.{list_any-append}
 use Rattle.fed_json.proofs.Booleans.{left_true, right_true, both_true, left_false, right_false}
-use Rattle.policy_merge.proofs.Order.{bytes_eq-itself, equal-bytes_eq}
+use Rattle.fed_json.proofs.Order.{bytes_eq-itself, equal-bytes_eq}
 use Rattle.entity_statement.specs.Claims.{Identifier}
 use Rattle.entity_statement.specs.Forms.{all_differ, once_after}
 

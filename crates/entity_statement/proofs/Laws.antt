@@ -16,9 +16,9 @@ use Rattle.jwk_set.specs.declared.jwk.Jwk.{Jwk}
 use Rattle.jwk_set.specs.declared.fault.SetFault.{SetFault}
 use Rattle.jwk_set.specs.KeySets.{key_set_in}
 use Rattle.jwk_set.proofs.Sets.{found as set_found, only as set_only}
-use Rattle.policy_merge.specs.Metadata.{IsMetadata}
+use Rattle.fed_json.specs.Metadata.{IsMetadata}
 use Rattle.policy_merge.specs.Shapes.{policy_shape}
-use Rattle.policy_merge.proofs.Order.{bytes_eq-itself, equal-bytes_eq}
+use Rattle.fed_json.proofs.Order.{bytes_eq-itself, equal-bytes_eq}
 use Rattle.chain_limits.specs.Reading.{Texts, no_constraints, constraints_of}
 use Rattle.entity_statement.specs.declared.fault.StatementFault.{StatementFault}
 use Rattle.entity_statement.specs.declared.fault.StatementFault.TheVariants.{Missing, Shape, Tree, Typ}

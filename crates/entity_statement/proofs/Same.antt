@@ -6,7 +6,7 @@ use Rattle.std.proofs.Math.Path.{PathP, to_path_p}
 use Rattle.std.proofs.Props.{props}
 use denote.Struct.Props.{props as facts}
 use Rattle.fed_base.specs.Moments.{moment_limit}
-use Rattle.policy_merge.specs.Metadata.{IsMetadata, is_metadata}
+use Rattle.fed_json.specs.Metadata.{IsMetadata, is_metadata}
 use Rattle.chain_limits.specs.declared.constraints.Constraints.{Constraints}
 use Rattle.chain_limits.specs.Reading.{HoldsUtf8}
 use Rattle.entity_statement.specs.declared.statement.Statement.{Statement}

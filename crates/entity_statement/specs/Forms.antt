@@ -9,7 +9,7 @@ use Rattle.fed_json.specs.declared.tree.Member.{Member}
 use Rattle.fed_json.specs.Trees.{as_list, as_object, as_text, count_below, each, find, text_at, texts_of}
 use Rattle.entity_id.specs.Identifiers.{identifier_of}
 use Rattle.jwk_set.specs.KeySets.{key_set_in}
-use Rattle.policy_merge.specs.Metadata.{is_metadata}
+use Rattle.fed_json.specs.Metadata.{is_metadata}
 use Rattle.entity_statement.specs.declared.marks.MarkEntry.{MarkEntry}
 use Rattle.entity_statement.specs.declared.marks.Issuers.{Issuers}
 use Rattle.entity_statement.specs.Claims.{Identifier, OwnerClaims}

@@ -10,7 +10,7 @@ use Rattle.entity_id.specs.Identifiers.{IsIdentifier}
 use Rattle.jws_form.specs.declared.compact.Compact.{Compact}
 use Rattle.jwk_set.specs.declared.jwk.Jwk.{Jwk}
 use Rattle.jwk_set.specs.KeySets.{IsKeySet}
-use Rattle.policy_merge.specs.Metadata.{IsMetadata}
+use Rattle.fed_json.specs.Metadata.{IsMetadata}
 use Rattle.policy_merge.specs.Shapes.{policy_shape}
 use Rattle.chain_limits.specs.Reading.{no_constraints, constraints_of}
 use Rattle.entity_statement.specs.Claims.{Claims, Identifier, no_metadata}

@@ -14,9 +14,9 @@ use crate::table::{formed, in_place, required};
 use chain_limits::{Constraints, LimitShape};
 use entity_id::EntityId;
 use fed_base::{Duplicate, Memory, Seq, Text};
-use fed_json::{Member, copied_texts, find};
+use fed_json::{Member, copied_texts, find, is_metadata};
 use jwk_set::{JwkSet, SetFault};
-use policy_merge::{Operator, Policy, PolicyShape, is_metadata};
+use policy_merge::{Operator, Policy, PolicyShape};
 use std::alloc::Global;
 
 const OPERATORS: [Operator; 7] = [

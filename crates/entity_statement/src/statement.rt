@@ -5,7 +5,7 @@ ghost use Rattle.std.specs.List.{list_all};
 ghost use Rattle.std.specs.Str.{is_utf8};
 ghost use Rattle.std.proofs.Props.{props};
 ghost use Rattle.fed_base.specs.Moments.{moment_limit};
-ghost use Rattle.policy_merge.specs.Metadata.{IsMetadata};
+ghost use Rattle.fed_json.specs.Metadata.{IsMetadata};
 ghost use Rattle.chain_limits.specs.Reading.{HoldsUtf8};
 ghost use Rattle.entity_statement.specs.Claims.{mark_utf8 as is_mark_utf8, issuers_utf8 as are_issuers_utf8};
 ghost use Rattle.entity_statement.specs.Forms.{all_differ};

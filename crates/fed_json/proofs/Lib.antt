@@ -9,3 +9,6 @@ pub mod Sames
 pub mod Onces
 pub mod Accessors
 pub mod Maps
+pub mod Order
+pub mod SideBySide
+pub mod Among

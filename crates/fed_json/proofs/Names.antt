@@ -42,7 +42,7 @@ less Less e = refl
 less Equal e = absurd (cc)
 less Greater e = absurd (cc)
 
-is_before-trans : (a b c : List ℕ) → is_before a b ≡ true → is_before b c ≡ true → is_before a c ≡ true
+pub is_before-trans : (a b c : List ℕ) → is_before a b ≡ true → is_before b c ≡ true → is_before a c ≡ true
 is_before-trans a b c e f = ap is_lt (nat_list_cmp_total.trans a b c (less _ e) (less _ f))
 
 -- the first name stands before the one behind the second

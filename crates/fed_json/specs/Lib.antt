@@ -5,3 +5,5 @@ pub mod Compact
 pub mod Values
 pub mod Sets
 pub mod Members
+pub mod Metadata
+pub mod Tables

@@ -1,6 +1,6 @@
 -- Lists as sets: the members of a list are its values without regard to order or repeats.
 use Rattle.std.specs.Prelude.{List, [], ◌∷◌, ◌++◌, Bool, true, false, ◌&&◌, not, bytes_eq, filter}
-use Rattle.std.specs.List.{list_any}
+use Rattle.std.specs.List.{list_all, list_any}
 use Rattle.std.specs.Ordering.{int_eq}
 use Rattle.std.specs.Bool.{beq}
 use Rattle.fed_json.specs.declared.tree.Json.{Json, fold-Json, out-Json}
@@ -39,6 +39,10 @@ same = fold-Json (Json → Bool) (Member → Bool) same_step same_member_step
 -- the tree is a member of the list
 abbrev pub is_among : List Json → Json → Bool
 is_among list tree = list_any (same tree) list
+
+-- each tree of the part is a member of the list
+abbrev pub are_among : List Json → List Json → Bool
+are_among list part = list_all (is_among list) part
 
 -- each value once, at its first place
 abbrev pub once : List Json → List Json

@@ -1,5 +1,5 @@
 -- What a JSON value holds (RFC 8259 section 3).
-use Rattle.std.specs.Prelude.{ℕ, ℤ, pos, List, [], ◌∷◌, Option, Some, None, option_map, unwrap_or, bytes_eq, nat_lt, if◌then◌else◌}
+use Rattle.std.specs.Prelude.{ℕ, ℤ, pos, List, [], ◌∷◌, Option, Some, None, option_map, unwrap_or, bytes_eq, nat_lt, if◌then◌else◌, Bool, true, false}
 use Rattle.std.specs.Option.{option_and_then}
 use Rattle.fed_json.specs.declared.tree.Json.{Json, out-Json}
 use Rattle.fed_json.specs.declared.tree.Json.TheOpen.{Json-F}
@@ -45,6 +45,15 @@ as_list tree = list_in (out-Json tree)
 -- the members of an object (RFC 8259 section 4)
 abbrev pub as_object : Json → Option (List Member)
 as_object tree = object_in (out-Json tree)
+
+-- null, at one level of a tree
+abbrev is_null_layer : Json-F Json Member → Bool
+is_null_layer Json-F.Null = true
+is_null_layer _ = false
+
+-- null (RFC 8259 section 3)
+abbrev pub is_null : Json → Bool
+is_null tree = is_null_layer (out-Json tree)
 
 -- the value of the first member of that name (RFC 8259 section 4)
 abbrev pub find : List ℕ → List Member → Option Json

@@ -4,7 +4,7 @@ ghost use Rattle.std.specs.Prelude.{◌≡◌, IfOk, IfSome, IsTrue};
 ghost use Rattle.std.specs.Option.{option_copied};
 ghost use Rattle.std.specs.Str.{IsUtf8};
 ghost use Rattle.fed_json.specs.Forms.{IsWellFormed, members_well_formed};
-ghost use Rattle.fed_json.specs.Trees.{find as value_at, text_at as text_in, object_members as members_in, count_below as count_in, texts_in, texts_of};
+ghost use Rattle.fed_json.specs.Trees.{find as value_at, text_at as text_in, object_members as members_in, count_below as count_in, is_null as null_tree, texts_in, texts_of};
 
 use crate::tree::{Json, Member};
 use fed_base::{Duplicate, Memory, Seq, Text};
@@ -54,6 +54,13 @@ pub fn count_below(tree: &Json, limit: u64) -> Option<u64>
         Json::Int(n) if 0 <= *n && *n < limit as i128 => Some(*n as u64),
         _ => None,
     }
+}
+
+/// Whether the value is null.
+pub fn is_null(tree: &Json) -> bool
+    ensures { result ≡ null_tree tree.now }
+{
+    matches!(tree, Json::Null)
 }
 
 /// Copies of the texts of a list, and `None` where the tree is no list or one of its items is no text.

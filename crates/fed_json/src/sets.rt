@@ -3,19 +3,28 @@
 ghost use Rattle.std.specs.Prelude.{◌≡◌, ◌≢◌, ◌↔◌, ◌⊎◌, ◌++◌, ◌∷◌, [], List, IfOk, OnOk, IsTrue, All, AllPairs, Contains};
 ghost use Rattle.fed_json.specs.declared.tree.Json.{Json as Tree};
 ghost use Rattle.fed_json.specs.Forms.{IsWellFormed};
-ghost use Rattle.fed_json.specs.Sets.{once, union_of, intersection_of};
+ghost use Rattle.fed_json.specs.Sets.{are_among, is_among, once, union_of, intersection_of};
 
 use crate::equal::json_equal;
 use crate::tree::Json;
 use fed_base::{Duplicate, Memory, Seq};
 use std::alloc::Global;
 
+/// Whether the tree is a member of the list.
+pub fn is_member(list: &Seq<Json>, tree: &Json) -> bool
+    ensures member { IsTrue result ↔ Contains list.now tree.now }
+    ensures test { result ≡ is_among list.now tree.now }
+{
+    list.as_slice().iter().any(|item| json_equal(item, tree))
+}
+
 /// Whether every member of `part` is a member of `list`.
 pub fn includes(list: &Seq<Json>, part: &Seq<Json>) -> bool
-    ensures { IsTrue result ↔ All (Contains list.now) part.now }
+    ensures members { IsTrue result ↔ All (Contains list.now) part.now }
+    ensures test { result ≡ are_among list.now part.now }
 {
     for tree in part.as_slice() {
-        if !is_among(list.as_slice(), tree) {
+        if !is_member(list, tree) {
             return false;
         }
     }
@@ -47,7 +56,7 @@ pub fn intersect(alloc: Global, a: &Seq<Json>, b: &Seq<Json>) -> Result<Seq<Json
 {
     let mut list = Seq::new(alloc);
     for tree in a.as_slice() {
-        if is_among(b.as_slice(), tree) {
+        if is_member(b, tree) {
             add(alloc, &mut list, tree)?;
         }
     }
@@ -70,14 +79,8 @@ fn add(alloc: Global, list: &mut Seq<Json>, tree: &Json) -> Result<(), Memory>
     ensures { (before : List Tree) → list.old ≡ once before
         → OnOk result (list.new ≡ once (before ++ tree.now ∷ [])) }
 {
-    if !is_among(list.as_slice(), tree) {
+    if !is_member(list, tree) {
         list.push(tree.copy(alloc)?)?;
     }
     Ok(())
-}
-
-fn is_among(list: &[Json], tree: &Json) -> bool
-    ensures { IsTrue result ↔ Contains list.now tree.now }
-{
-    list.iter().any(|item| json_equal(item, tree))
 }

@@ -6,7 +6,7 @@ use Rattle.fed_json.specs.declared.tree.Json.{Json}
 use Rattle.policy_merge.specs.declared.operator.Operator.{Operator}
 use Rattle.policy_merge.specs.declared.operator.Operator.TheVariants.{OneOf, SupersetOf, Essential}
 use Rattle.policy_merge.specs.declared.operators.Operators.{Operators}
-use Rattle.policy_merge.specs.Tables.{Name}
+use Rattle.fed_json.specs.Tables.{Name}
 use Rattle.policy_merge.specs.Shapes.{as_default}
 use Rattle.policy_apply.specs.Acting.{Outcome, if_passes, by_value, by_add, by_default, by_one_of, by_subset_of, by_superset_of, by_essential, is_one_of, is_superset_of, is_enough, acted}
 

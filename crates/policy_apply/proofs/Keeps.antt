@@ -9,12 +9,14 @@ use Rattle.fed_json.specs.declared.tree.Member.{Member}
 use Rattle.fed_json.proofs.Sames.{same-Decides}
 use Rattle.policy_merge.specs.declared.operator.Operator.TheVariants.{Add, SubsetOf}
 use Rattle.policy_merge.specs.declared.operators.Operators.{Operators}
-use Rattle.policy_merge.specs.Tables.{Name}
+use Rattle.fed_json.specs.Tables.{Name}
 use Rattle.policy_merge.specs.Scope.{is_scope, word_members, members_of}
-use Rattle.policy_merge.specs.Policies.{is_null, if_there}
-use Rattle.policy_merge.specs.Combining.{are_among, if_both, have_members, clash}
+use Rattle.fed_json.specs.Trees.{is_null}
+use Rattle.fed_base.specs.Values.{if_there}
+use Rattle.policy_merge.specs.Combining.{if_both, have_members, clash}
+use Rattle.fed_json.specs.Sets.{are_among}
 use Rattle.policy_merge.specs.Shapes.{as_default}
-use Rattle.policy_merge.proofs.Order.{both_true}
+use Rattle.fed_json.proofs.Booleans.{both_true}
 use Rattle.policy_apply.specs.Acting.{made, by_add, by_subset_of, with_added, with_kept, has_all, is_there, is_one_of, acted}
 use Rattle.policy_apply.specs.Keeping.{is_value, is_within, KeepsWithin, AddsWords}
 use Rattle.policy_apply.proofs.Courses.{Course, course, acted-course, set_first}

@@ -5,10 +5,13 @@ use Rattle.fed_json.specs.Sets.{same, is_among, union_of, intersection_of}
 use Rattle.fed_json.specs.declared.tree.Json.{Json}
 use Rattle.fed_json.proofs.Sames.{same-Decides}
 use Rattle.policy_merge.specs.declared.operators.Operators.{Operators}
-use Rattle.policy_merge.specs.Tables.{Name}
+use Rattle.fed_json.specs.Tables.{Name}
 use Rattle.policy_merge.specs.Scope.{members_of}
-use Rattle.policy_merge.specs.Policies.{Types, is_null, if_there, operators_at}
-use Rattle.policy_merge.specs.Combining.{are_among, if_both, have_members}
+use Rattle.policy_merge.specs.Policies.{Types, operators_at}
+use Rattle.fed_json.specs.Trees.{is_null}
+use Rattle.fed_base.specs.Values.{if_there}
+use Rattle.policy_merge.specs.Combining.{if_both, have_members}
+use Rattle.fed_json.specs.Sets.{are_among}
 use Rattle.policy_merge.specs.Merging.{met, merged_operators, merge_clash, merging}
 use Rattle.policy_merge.proofs.Neutral.{merge_clash-agree}
 use Rattle.policy_merge.proofs.MergeWalk.{merging-ok, merging-clear}

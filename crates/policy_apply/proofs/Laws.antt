@@ -3,7 +3,7 @@ use Rattle.std.proofs.Common.{◌≡◌, List, None, Ok, sym, ap, ◌∙◌}
 use Rattle.fed_json.specs.declared.tree.Json.{Json, Object}
 use Rattle.fed_json.specs.declared.tree.Member.{Member}
 use Rattle.fed_json.specs.Trees.{object_members}
-use Rattle.policy_merge.specs.Tables.{Name}
+use Rattle.fed_json.specs.Tables.{Name}
 use Rattle.policy_merge.specs.Policies.{Types, no_operators, operators_at}
 use Rattle.policy_merge.specs.Combining.{conflict_in}
 use Rattle.policy_merge.proofs.Lookups.{clash-at}

@@ -8,10 +8,10 @@ use Rattle.fed_json.specs.declared.tree.Json.{Json, Text, List as ListOf, the_le
 use Rattle.policy_merge.specs.declared.operator.Operator.{Operator}
 use Rattle.policy_merge.specs.declared.operator.Operator.TheVariants.{Add, SubsetOf}
 use Rattle.policy_merge.specs.declared.operators.Operators.{Operators}
-use Rattle.policy_merge.specs.Tables.{Name}
-use Rattle.policy_merge.specs.Policies.{if_there}
+use Rattle.fed_json.specs.Tables.{Name}
+use Rattle.fed_base.specs.Values.{if_there}
 use Rattle.policy_merge.specs.Scope.{is_scope, is_empty, words, word_members, members_of}
-use Rattle.policy_merge.proofs.Order.{left_true, right_true, both_true}
+use Rattle.fed_json.proofs.Booleans.{left_true, right_true, both_true}
 use Rattle.policy_merge.proofs.Trees.{text_is, as_text-Text, as_list-List}
 use Rattle.policy_merge.proofs.MergedTables.{all-union, all-intersection}
 use Rattle.policy_apply.specs.Acting.{joined_words, is_text, stays_text, made, with_added, by_add, with_kept, by_subset_of}

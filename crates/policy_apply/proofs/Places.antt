@@ -9,13 +9,15 @@ use Rattle.fed_json.specs.Reading.{member_of}
 use Rattle.fed_json.specs.Trees.{find, object_members, member_name}
 use Rattle.fed_json.specs.declared.tree.Json.{Json, Object}
 use Rattle.fed_json.specs.declared.tree.Member.{Member}
-use Rattle.policy_merge.specs.declared.named.Named.{Named}
+use Rattle.fed_json.specs.declared.named.Named.{Named}
 use Rattle.policy_merge.specs.declared.operator.Operator.{Operator}
 use Rattle.policy_merge.specs.declared.operators.Operators.{Operators}
-use Rattle.policy_merge.specs.Tables.{Name, names_of_both, item_of, Side, side_at, sides}
-use Rattle.policy_merge.specs.Policies.{Parameters, Types, no_operators, if_there, operators_formed, parameters_formed, types_formed, parameters_at, operators_at}
+use Rattle.fed_json.specs.Tables.{Name, names_of_both, item_of, Side, side_at, sides}
+use Rattle.policy_merge.specs.Policies.{Parameters, Types, no_operators, operators_formed, parameters_formed, types_formed, parameters_at, operators_at}
+use Rattle.fed_base.specs.Values.{if_there}
 use Rattle.policy_merge.specs.Merging.{name_of, value_or}
-use Rattle.policy_merge.proofs.Order.{left_true, right_true, equal-bytes_eq, bytes_eq-itself}
+use Rattle.fed_json.proofs.Booleans.{left_true, right_true}
+use Rattle.fed_json.proofs.Order.{equal-bytes_eq, bytes_eq-itself}
 use Rattle.policy_merge.proofs.Lookups.{is_name, side_at-absent, none_at}
 use Rattle.policy_merge.proofs.Least.{LeastSide, least_side}
 use Rattle.policy_merge.proofs.MergedTables.{table-names, table-values, item_of-passes}

@@ -6,8 +6,8 @@ use Rattle.fed_json.specs.declared.tree.Json.{Json}
 use Rattle.fed_json.specs.Sets.{same, is_among, once, union_of, intersection_of}
 use Rattle.fed_json.proofs.Sames.{same-Decides}
 use Rattle.fed_json.proofs.Onces.{is_among-Decides, once-push, Contains-union_of, Contains-intersection_of}
-use Rattle.policy_merge.specs.Combining.{are_among}
-use Rattle.policy_merge.proofs.Order.{left_true, right_true, both_true}
+use Rattle.fed_json.specs.Sets.{are_among}
+use Rattle.fed_json.proofs.Booleans.{left_true, right_true, both_true}
 
 -- each value of the first is in the second
 abbrev pub Within : List Json → List Json → Type 0

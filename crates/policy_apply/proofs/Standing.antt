@@ -6,11 +6,12 @@ use Rattle.fed_json.specs.declared.tree.Json.{Json}
 use Rattle.policy_merge.specs.declared.operator.Operator.{Operator}
 use Rattle.policy_merge.specs.declared.operator.Operator.TheVariants.{Value, Add, Default, OneOf, SubsetOf, SupersetOf, Essential}
 use Rattle.policy_merge.specs.declared.operators.Operators.{Operators}
-use Rattle.policy_merge.specs.Tables.{Name}
+use Rattle.fed_json.specs.Tables.{Name}
 use Rattle.policy_merge.specs.Scope.{members_of}
-use Rattle.policy_merge.specs.Policies.{is_null}
-use Rattle.policy_merge.specs.Combining.{Pair, are_among, if_both, have_members, judged, stand, pairs, clash}
-use Rattle.policy_merge.proofs.Order.{left_true, right_true}
+use Rattle.fed_json.specs.Trees.{is_null}
+use Rattle.policy_merge.specs.Combining.{Pair, if_both, have_members, judged, stand, pairs, clash}
+use Rattle.fed_json.specs.Sets.{are_among}
+use Rattle.fed_json.proofs.Booleans.{left_true, right_true}
 
 none_found : (q : Pair → Bool) (xs : List Pair) → find q xs ≡ None → list_all (λ x. not (q x)) xs ≡ true
 none_found q [] none = refl

@@ -9,13 +9,14 @@ use Rattle.fed_json.specs.Reading.{member_of}
 use Rattle.fed_json.specs.Trees.{as_object, object_members, member_name}
 use Rattle.fed_json.specs.declared.tree.Json.{Json, Object}
 use Rattle.fed_json.specs.declared.tree.Member.{Member}
-use Rattle.policy_merge.specs.declared.named.Named.{Named}
+use Rattle.fed_json.specs.declared.named.Named.{Named}
 use Rattle.policy_merge.specs.declared.operators.Operators.{Operators}
-use Rattle.policy_merge.specs.Tables.{Name, Side}
-use Rattle.policy_merge.specs.Policies.{Parameters, Types, no_operators, if_there, table_formed}
+use Rattle.fed_json.specs.Tables.{Name, Side}
+use Rattle.policy_merge.specs.Policies.{Parameters, Types, no_operators, table_formed}
+use Rattle.fed_base.specs.Values.{if_there}
 use Rattle.policy_merge.specs.Combining.{first}
 use Rattle.policy_merge.specs.Merging.{name_of, value_or}
-use Rattle.policy_merge.proofs.Order.{left_true, right_true, both_true}
+use Rattle.fed_json.proofs.Booleans.{left_true, right_true, both_true}
 use Rattle.policy_merge.proofs.MergedTables.{side_passes, sides-pass, table-names, table-values}
 use Rattle.policy_merge.proofs.Trees.{whole-members}
 use Rattle.policy_merge.proofs.Firsts.{unless_ok, unless_err}

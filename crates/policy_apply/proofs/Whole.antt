@@ -11,16 +11,20 @@ use Rattle.fed_json.specs.Sets.{union_of, intersection_of}
 use Rattle.fed_json.specs.declared.tree.Json.{Json, Text, List as ListOf, Object, the_lemmas}
 use Rattle.fed_json.specs.declared.tree.Member.{Member}
 use Rattle.fed_json.proofs.Layers.{whole-List, whole-Object}
-use Rattle.policy_merge.specs.declared.named.Named.{Named}
+use Rattle.fed_json.specs.declared.named.Named.{Named}
 use Rattle.policy_merge.specs.declared.operator.Operator.TheVariants.{Add, SubsetOf}
 use Rattle.policy_merge.specs.declared.operators.Operators.{Operators}
-use Rattle.policy_merge.specs.Tables.{Name, Side}
-use Rattle.policy_merge.specs.Policies.{Parameters, Types, no_operators, is_null, if_there, table_formed, operators_formed, parameters_formed, types_formed}
-use Rattle.policy_merge.specs.Metadata.{is_object_of, is_metadata}
+use Rattle.fed_json.specs.Tables.{Name, Side}
+use Rattle.policy_merge.specs.Policies.{Parameters, Types, no_operators, table_formed, operators_formed, parameters_formed, types_formed}
+use Rattle.fed_json.specs.Trees.{is_null}
+use Rattle.fed_base.specs.Values.{if_there}
+use Rattle.fed_json.specs.Metadata.{is_object_of, is_metadata}
 use Rattle.policy_merge.specs.Shapes.{as_default}
 use Rattle.policy_merge.specs.Scope.{members_of}
 use Rattle.policy_merge.specs.Merging.{name_of, value_or}
-use Rattle.policy_merge.proofs.Order.{left_true, right_true, both_true, rising-tail, first_before, rising-cons}
+use Rattle.fed_json.proofs.Booleans.{left_true, right_true, both_true}
+use Rattle.fed_json.proofs.Names.{rising-tail}
+use Rattle.fed_json.proofs.Order.{first_before, rising-cons}
 use Rattle.policy_merge.proofs.MergedTables.{side_passes, sides-pass, table-names, table-values, all-union, all-intersection, rising-names_of_both, name-sides}
 use Rattle.policy_merge.proofs.Trees.{as_object-Object, object_is}
 use Rattle.policy_merge.proofs.Words.{whole-Text, members-whole}

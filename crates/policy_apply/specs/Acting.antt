@@ -9,10 +9,11 @@ use Rattle.fed_json.specs.declared.tree.Json.{Json, Text, List as ListOf}
 use Rattle.policy_merge.specs.declared.operator.Operator.{Operator}
 use Rattle.policy_merge.specs.declared.operator.Operator.TheVariants.{Add, OneOf, SubsetOf, SupersetOf, Essential}
 use Rattle.policy_merge.specs.declared.operators.Operators.{Operators}
-use Rattle.policy_merge.specs.Tables.{Name}
+use Rattle.fed_json.specs.Tables.{Name}
 use Rattle.policy_merge.specs.Scope.{is_scope, members_of}
-use Rattle.policy_merge.specs.Policies.{if_there}
-use Rattle.policy_merge.specs.Combining.{are_among, have_members}
+use Rattle.fed_base.specs.Values.{if_there}
+use Rattle.policy_merge.specs.Combining.{have_members}
+use Rattle.fed_json.specs.Sets.{are_among}
 use Rattle.policy_merge.specs.Shapes.{as_default}
 use Rattle.policy_apply.specs.declared.stop.Stop.{Stop}
 use Rattle.policy_apply.specs.declared.stop.Stop.TheVariants.{Refused, Memory}

@@ -7,10 +7,10 @@ use Rattle.fed_json.specs.Reading.{member_of}
 use Rattle.fed_json.specs.Trees.{find, object_members, member_name}
 use Rattle.fed_json.specs.declared.tree.Json.{Json, Object}
 use Rattle.fed_json.specs.declared.tree.Member.{Member}
-use Rattle.policy_merge.specs.declared.named.Named.{Named}
+use Rattle.fed_json.specs.declared.named.Named.{Named}
 use Rattle.policy_merge.specs.declared.operator.Operator.{Operator}
 use Rattle.policy_merge.specs.declared.operators.Operators.{Operators}
-use Rattle.policy_merge.specs.Tables.{Name, Side, sides}
+use Rattle.fed_json.specs.Tables.{Name, Side, sides}
 use Rattle.policy_merge.specs.Places.{IsEarlier, AreUtf8}
 use Rattle.policy_merge.specs.Policies.{Parameters, Types, no_operators, operators_at}
 use Rattle.policy_merge.specs.Combining.{first}

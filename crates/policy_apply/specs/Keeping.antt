@@ -6,10 +6,13 @@ use Rattle.fed_json.specs.Trees.{as_text}
 use Rattle.fed_json.specs.Sets.{same}
 use Rattle.fed_json.specs.declared.tree.Json.{Json}
 use Rattle.policy_merge.specs.declared.operators.Operators.{Operators}
-use Rattle.policy_merge.specs.Tables.{Name}
+use Rattle.fed_json.specs.Tables.{Name}
 use Rattle.policy_merge.specs.Scope.{is_scope, is_empty, members_of}
-use Rattle.policy_merge.specs.Policies.{Types, is_null, if_there}
-use Rattle.policy_merge.specs.Combining.{are_among, have_members}
+use Rattle.policy_merge.specs.Policies.{Types}
+use Rattle.fed_json.specs.Trees.{is_null}
+use Rattle.fed_base.specs.Values.{if_there}
+use Rattle.policy_merge.specs.Combining.{have_members}
+use Rattle.fed_json.specs.Sets.{are_among}
 use Rattle.policy_merge.specs.Merging.{merging}
 use Rattle.policy_apply.specs.Acting.{has_all, is_there, is_one_of, is_superset_of, is_enough}
 

@@ -4,13 +4,13 @@ ghost use Rattle.std.specs.Prelude.{◌≡◌, IfOk, option_map};
 ghost use Rattle.std.specs.Option.{option_copied};
 ghost use Rattle.std.specs.List.{join_with_byte};
 ghost use Rattle.fed_json.specs.Trees.{texts_in};
-ghost use Rattle.policy_merge.specs.Policies.{if_there};
+ghost use Rattle.fed_base.specs.Values.{if_there};
 ghost use Rattle.policy_apply.specs.Acting.{Leaves, acted as acted_on, by_value as value_by, by_add as add_by, by_default as default_by, by_one_of as one_of_by, by_subset_of as subset_of_by, by_superset_of as superset_of_by, by_essential as essential_by, made as made_of, stays_text as text_stays, with_added as added_to, with_kept as kept_of, is_one_of as one_of_passes, is_superset_of as superset_of_passes, is_enough as essential_passes};
 
 use crate::stop::Stop;
-use fed_json::{Json, intersect, union};
+use fed_json::{Json, includes, intersect, is_member, union};
 use fed_base::{Duplicate, Memory, Seq, Text};
-use policy_merge::{Operator, Operators, holds_all, is_member, is_scope, members, words_in};
+use policy_merge::{Operator, Operators, is_scope, members, words_in};
 use std::alloc::Global;
 
 /// What the operators make of the parameter: its value, if any, or the first that refuses. They act in the order
@@ -188,7 +188,7 @@ fn is_superset_of(
     };
     let words = words_in(alloc, name, value)?;
     match members(words.as_ref(), value) {
-        Some(members) => Ok(holds_all(members, list)),
+        Some(members) => Ok(includes(members, list)),
         None => Ok(false),
     }
 }

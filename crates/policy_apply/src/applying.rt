@@ -5,8 +5,8 @@ ghost use Rattle.std.specs.Option.{option_copied};
 ghost use Rattle.fed_json.specs.Forms.{rising, members_whole};
 ghost use Rattle.fed_json.specs.Trees.{find, member_name};
 ghost use Rattle.fed_json.specs.declared.tree.Json.{Json as Tree};
-ghost use Rattle.policy_merge.specs.Tables.{Name};
-ghost use Rattle.policy_merge.specs.Metadata.{IsMetadata};
+ghost use Rattle.fed_json.specs.Tables.{Name};
+ghost use Rattle.fed_json.specs.Metadata.{IsMetadata};
 ghost use Rattle.policy_merge.specs.Policies.{Types as Policies, types_formed, operators_at, no_operators};
 ghost use Rattle.policy_merge.specs.Combining.{conflict_in};
 ghost use Rattle.policy_merge.specs.Merging.{name_of, merging, value_or};
@@ -17,11 +17,9 @@ ghost use Rattle.policy_apply.specs.Keeping.{KeepsWithin, AddsWords, IsMergedOf,
 use crate::acting::acted;
 use crate::fault::ApplyFault;
 use crate::stop::Stop;
-use fed_json::{Json, Member, object_members};
+use fed_json::{Json, Member, Named, Side, Sides, object_members};
 use fed_base::{Duplicate, Seq, Text};
-use policy_merge::{
-    Named, Operator, Operators, Parameters, Policy, Side, Sides, operators_of, parameters_of,
-};
+use policy_merge::{Operator, Operators, Parameters, Policy, operators_of, parameters_of};
 use std::alloc::Global;
 
 /// The metadata under the policy (OpenID Federation 1.0 section 6.1.4.2): an object from entity type to an object from

@@ -4,11 +4,11 @@ use Rattle.std.specs.Option.{option_and_then}
 use Rattle.std.specs.List.{find}
 use Rattle.fed_json.specs.declared.tree.Json.{Json}
 use Rattle.policy_merge.specs.declared.operators.Operators.{Operators}
-use Rattle.policy_merge.specs.Tables.{Name}
+use Rattle.fed_json.specs.Tables.{Name}
 use Rattle.policy_merge.specs.Scope.{members_of}
 use Rattle.std.proofs.Common.{◌≤◌, ◌<◌, ◌+◌, ℕ, Some, None, option_map, drop, length, get_or, refl, ap}
 use Rattle.std.proofs.lemmas.List.{drop_all}
-use Rattle.policy_merge.specs.declared.named.Named.{Named}
+use Rattle.fed_json.specs.declared.named.Named.{Named}
 use Rattle.policy_merge.specs.declared.fault.PolicyFault.{PolicyFault}
 use Rattle.policy_merge.specs.Policies.{Parameters, Types}
 use Rattle.policy_merge.specs.Combining.{Pair, stand, judged, pairs, clash, conflict_at, conflict_in_parameters, conflict_in}

@@ -3,15 +3,16 @@ use Rattle.std.proofs.Common.{◌≡◌, ◌⊎◌, inl, inr, List, [], ◌∷�
 use Rattle.std.specs.List.{list_all}
 use Rattle.std.specs.Str.{is_utf8}
 use Rattle.fed_json.specs.Forms.{rising}
-use Rattle.policy_merge.specs.declared.named.Named.{Named}
+use Rattle.fed_json.specs.declared.named.Named.{Named}
 use Rattle.policy_merge.specs.declared.operators.Operators.{Operators}
 use Rattle.policy_merge.specs.declared.fault.PolicyFault.{PolicyFault}
 use Rattle.policy_merge.specs.declared.fault.PolicyFault.TheVariants.{Conflict, Memory}
-use Rattle.policy_merge.specs.Tables.{Name, item_of}
+use Rattle.fed_json.specs.Tables.{Name, item_of}
 use Rattle.policy_merge.specs.Policies.{Parameters, Types, no_operators, operators_formed, parameters_formed, types_formed, operators_at}
 use Rattle.policy_merge.specs.Combining.{Pair, clash}
 use Rattle.policy_merge.specs.Merging.{name_of, value_or, merge_clash, IsFirst, clash_in, merge_clash_in, NamesUtf8}
-use Rattle.policy_merge.proofs.Order.{left_true, right_true, equal-bytes_eq}
+use Rattle.fed_json.proofs.Booleans.{left_true, right_true}
+use Rattle.fed_json.proofs.Order.{equal-bytes_eq}
 use Rattle.policy_merge.proofs.Lookups.{clash-none, merge_clash-empty}
 
 -- the item that is found has the name

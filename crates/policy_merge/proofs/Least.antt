@@ -6,13 +6,16 @@ use Rattle.std.specs.List.{list_all, list_any}
 use Rattle.fed_json.specs.Forms.{is_before, rising}
 use Rattle.policy_merge.specs.declared.fault.PolicyFault.{PolicyFault}
 use Rattle.policy_merge.specs.declared.fault.PolicyFault.TheVariants.{Conflict, Memory}
-use Rattle.policy_merge.specs.declared.named.Named.{Named}
-use Rattle.policy_merge.specs.Tables.{Name, names_of_both, item_of, Side, side_at, sides}
-use Rattle.policy_merge.specs.Policies.{Parameters, Types, no_operators, operators_formed, parameters_formed, types_formed, parameters_at, operators_at, if_there}
+use Rattle.fed_json.specs.declared.named.Named.{Named}
+use Rattle.fed_json.specs.Tables.{Name, names_of_both, item_of, Side, side_at, sides}
+use Rattle.policy_merge.specs.Policies.{Parameters, Types, no_operators, operators_formed, parameters_formed, types_formed, parameters_at, operators_at}
+use Rattle.fed_base.specs.Values.{if_there}
 use Rattle.fed_base.specs.Answers.{unless}
 use Rattle.policy_merge.specs.Combining.{Pair, first, conflict_at, conflict_in, Gives}
 use Rattle.policy_merge.specs.Merging.{name_of, value_or, merge_clash, parameter_conflict, parameters_conflict, type_conflict, merge_conflict, merging, NoneBefore, IsFirst, clash_in, merge_clash_in}
-use Rattle.policy_merge.proofs.Order.{left_true, right_true, equal-bytes_eq, cmp-behind, first_before, rising-tail}
+use Rattle.fed_json.proofs.Booleans.{left_true, right_true}
+use Rattle.fed_json.proofs.Names.{rising-tail}
+use Rattle.fed_json.proofs.Order.{equal-bytes_eq, cmp-behind, first_before}
 use Rattle.policy_merge.proofs.Firsts.{unless_err, unless_some}
 use Rattle.policy_merge.proofs.MergedTables.{rising-names_of_both, table-rises, table-values, item_of-passes}
 use Rattle.policy_merge.proofs.Lookups.{is_name, side_at-absent, clear_parameters, nothing_conflicts, merge_clash-empty}

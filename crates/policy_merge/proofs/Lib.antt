@@ -1,6 +1,3 @@
-pub mod Order
-pub mod SideBySide
-pub mod Among
 pub mod Shaped
 pub mod Firsts
 pub mod Clashes

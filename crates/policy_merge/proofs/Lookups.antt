@@ -4,13 +4,13 @@ use Rattle.std.specs.Option.{option_map_or}
 use Rattle.std.specs.Ordering.{match_ordering}
 use Rattle.std.specs.List.{list_any}
 use Rattle.std.specs.Cmp.Lexicographic.{slice_cmp}
-use Rattle.policy_merge.specs.declared.named.Named.{Named}
+use Rattle.fed_json.specs.declared.named.Named.{Named}
 use Rattle.policy_merge.specs.declared.operators.Operators.{Operators}
-use Rattle.policy_merge.specs.Tables.{Name, with_name, names_of_both, item_of, Side, side_at, sides}
+use Rattle.fed_json.specs.Tables.{Name, with_name, names_of_both, item_of, Side, side_at, sides}
 use Rattle.policy_merge.specs.Policies.{Parameters, Types, named, no_operators, parameters_at, operators_at}
 use Rattle.policy_merge.specs.Combining.{clash, first, conflict_at, conflict_in_parameters, conflict_in, stand, judged, pairs}
 use Rattle.policy_merge.specs.Merging.{name_of, value_or, beside, merged_operators, merge_clash, merged_parameters, merged, parameter_conflict, parameters_conflict, type_conflict, merge_conflict}
-use Rattle.policy_merge.proofs.Order.{equal-bytes_eq, bytes_eq-itself, equal-cmp}
+use Rattle.fed_json.proofs.Order.{equal-bytes_eq, bytes_eq-itself, equal-cmp}
 use Rattle.policy_merge.proofs.Neutral.{option_map_none}
 
 -- ---- the names of both

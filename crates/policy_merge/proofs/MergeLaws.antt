@@ -3,7 +3,7 @@ use Rattle.std.proofs.Common.{◌≡◌, Some, None, Ok, Err, true, false, refl}
 use Rattle.fed_json.specs.Sets.{same}
 use Rattle.policy_merge.specs.declared.operator.Operator.TheVariants.{Value, Default}
 use Rattle.policy_merge.specs.declared.operators.Operators.{Operators}
-use Rattle.policy_merge.specs.Tables.{Name}
+use Rattle.fed_json.specs.Tables.{Name}
 use Rattle.policy_merge.specs.Combining.{Pair, if_both, clash, conflict_at}
 use Rattle.policy_merge.specs.Merging.{merged_operators, merge_clash, merging_operators}
 

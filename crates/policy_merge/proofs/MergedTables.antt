@@ -8,13 +8,17 @@ use Rattle.std.proofs.lemmas.List.Folds.{list_all-append}
 use Rattle.fed_json.specs.declared.tree.Json.{Json}
 use Rattle.fed_json.specs.Forms.{is_before, rising, whole}
 use Rattle.fed_json.specs.Sets.{same, is_among, once, union_of, intersection_of}
-use Rattle.policy_merge.specs.declared.named.Named.{Named}
+use Rattle.fed_json.specs.declared.named.Named.{Named}
 use Rattle.policy_merge.specs.declared.operators.Operators.{Operators}
-use Rattle.policy_merge.specs.Tables.{Name, with_name, names_of_both, item_of, Side, side_at, sides}
-use Rattle.policy_merge.specs.Policies.{Parameters, Types, named, no_operators, is_null, if_there, operators_formed, table_formed, parameters_formed, types_formed}
+use Rattle.fed_json.specs.Tables.{Name, with_name, names_of_both, item_of, Side, side_at, sides}
+use Rattle.policy_merge.specs.Policies.{Parameters, Types, named, no_operators, operators_formed, table_formed, parameters_formed, types_formed}
+use Rattle.fed_json.specs.Trees.{is_null}
+use Rattle.fed_base.specs.Values.{if_there}
 use Rattle.policy_merge.specs.Merging.{met, merged_operators, value_or, name_of, beside, merged_parameters, merged}
-use Rattle.policy_merge.proofs.Order.{left_true, right_true, both_true, before-cmp_less, before-cmp_greater, first_before, rising-tail, rising-cons}
-use Rattle.policy_merge.proofs.SideBySide.{all_with_name, all_names_of_both}
+use Rattle.fed_json.proofs.Booleans.{left_true, right_true, both_true}
+use Rattle.fed_json.proofs.Names.{rising-tail}
+use Rattle.fed_json.proofs.Order.{before-cmp_less, before-cmp_greater, first_before, rising-cons}
+use Rattle.fed_json.proofs.SideBySide.{all_with_name, all_names_of_both}
 
 -- ---- the names of both rise
 

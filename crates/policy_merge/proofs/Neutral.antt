@@ -5,15 +5,16 @@ use Rattle.std.specs.List.{list_all}
 use Rattle.fed_json.specs.Forms.{rising}
 use Rattle.fed_json.specs.Sets.{same, union_of, intersection_of}
 use Rattle.policy_merge.specs.declared.operators.Operators.{Operators}
-use Rattle.policy_merge.specs.declared.named.Named.{Named}
+use Rattle.fed_json.specs.declared.named.Named.{Named}
 use Rattle.policy_merge.specs.declared.operator.Operator.TheVariants.{Value, Default}
-use Rattle.policy_merge.specs.Tables.{Name, Side}
+use Rattle.fed_json.specs.Tables.{Name, Side}
 use Rattle.policy_merge.specs.Policies.{Parameters, Types, named, no_operators, operators_formed, parameters_formed, types_formed}
 use Rattle.fed_base.specs.Answers.{unless}
 use Rattle.policy_merge.specs.Combining.{if_both, clash, first, conflict_at, conflict_in_parameters, conflict_in}
 use Rattle.policy_merge.specs.Merging.{met, merged_operators, merge_clash, name_of, beside, merged_parameter, merged_parameters, merged_type, merged, parameter_conflict, parameters_conflict, type_conflict, merge_conflict, merging}
-use Rattle.policy_merge.proofs.Order.{left_true, right_true, rising-tail}
-use Rattle.policy_merge.proofs.SideBySide.{sides-upper, sides-lower, sides-none}
+use Rattle.fed_json.proofs.Booleans.{left_true, right_true}
+use Rattle.fed_json.proofs.Names.{rising-tail}
+use Rattle.fed_json.proofs.SideBySide.{sides-upper, sides-lower, sides-none}
 use Rattle.policy_merge.proofs.MergedTables.{table-rises, table-values}
 
 -- ---- one side alone

@@ -10,14 +10,16 @@ use Rattle.fed_json.specs.Trees.{as_list, as_object, find, optional}
 use Rattle.policy_merge.specs.declared.operator.Operator.{Operator}
 use Rattle.policy_merge.specs.declared.operator.Operator.TheVariants.{Value, Add, Default, OneOf, SubsetOf, SupersetOf, Essential}
 use Rattle.policy_merge.specs.declared.operators.Operators.{Operators}
-use Rattle.policy_merge.specs.declared.named.Named.{Named}
-use Rattle.policy_merge.specs.Tables.{Name}
+use Rattle.fed_json.specs.declared.named.Named.{Named}
+use Rattle.fed_json.specs.Tables.{Name}
 use Rattle.policy_merge.specs.Names.{operator_name}
-use Rattle.policy_merge.specs.Policies.{Types, named, is_null, if_there, operators_formed, table_formed, parameters_formed, types_formed}
+use Rattle.policy_merge.specs.Policies.{Types, named, operators_formed, table_formed, parameters_formed, types_formed}
+use Rattle.fed_json.specs.Trees.{is_null}
+use Rattle.fed_base.specs.Values.{if_there}
 use Rattle.policy_merge.specs.declared.fault.PolicyShape.{PolicyShape}
 use Rattle.policy_merge.specs.declared.fault.PolicyShape.TheVariants.{Shape, Memory}
 use Rattle.policy_merge.specs.Shapes.{Reads, as_default, as_truth, at, operators_of, operators_shape, table_of, table_shape, policy_shape}
-use Rattle.policy_merge.proofs.Order.{left_true, right_true, both_true}
+use Rattle.fed_json.proofs.Booleans.{left_true, right_true, both_true}
 use Rattle.policy_merge.proofs.Trees.{whole-items, whole-members}
 
 -- ---- the whole tree

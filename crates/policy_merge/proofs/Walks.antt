@@ -5,9 +5,9 @@ use Rattle.std.specs.List.{list_all}
 use Rattle.std.proofs.lemmas.List.Folds.{list_all-append}
 use Rattle.std.proofs.lemmas.List.{map-append}
 use Rattle.fed_json.specs.Forms.{rising}
-use Rattle.policy_merge.specs.Tables.{Name, Side, sides}
+use Rattle.fed_json.specs.Tables.{Name, Side, sides}
 use Rattle.policy_merge.specs.Combining.{first}
-use Rattle.policy_merge.proofs.Order.{left_true, right_true}
+use Rattle.fed_json.proofs.Booleans.{left_true, right_true}
 use Rattle.policy_merge.proofs.Firsts.{first-append, first-append_none}
 
 -- the sides that were passed, none of which gives a fault, and what was collected of them; the names of what is left rise

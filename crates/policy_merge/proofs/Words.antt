@@ -10,8 +10,8 @@ use Rattle.fed_json.specs.Forms.{whole, has_odd}
 use Rattle.fed_json.specs.Trees.{as_text, as_list}
 use Rattle.fed_json.specs.declared.tree.Json.{the_lemmas}
 use Rattle.fed_json.proofs.Layers.{well_formed-Text}
-use Rattle.policy_merge.specs.Tables.{Name}
-use Rattle.policy_merge.proofs.Order.{left_true, right_true, both_true}
+use Rattle.fed_json.specs.Tables.{Name}
+use Rattle.fed_json.proofs.Booleans.{left_true, right_true, both_true}
 use Rattle.policy_merge.proofs.Trees.{text_is, whole-items}
 use Rattle.std.specs.Iterator.{Yields}
 use Rattle.std.proofs.lemmas.Iterator.{YieldsList}

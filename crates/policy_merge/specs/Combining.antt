@@ -2,20 +2,17 @@
 use Rattle.std.specs.Prelude.{◌≡◌, List, [], ◌∷◌, Option, Some, None, option_map, Bool, true, false, ◌&&◌, not, Result, Ok, Err}
 use Rattle.std.specs.Option.{option_and_then, option_map_or}
 use Rattle.std.specs.List.{list_all, find}
-use Rattle.fed_json.specs.Sets.{is_among}
+use Rattle.fed_json.specs.Sets.{are_among, is_among}
 use Rattle.fed_json.specs.declared.tree.Json.{Json}
 use Rattle.policy_merge.specs.declared.operator.Operator.{Operator}
 use Rattle.policy_merge.specs.declared.operator.Operator.TheVariants.{Value, Add, Default, OneOf, SubsetOf, SupersetOf, Essential}
 use Rattle.policy_merge.specs.declared.operators.Operators.{Operators}
 use Rattle.policy_merge.specs.declared.fault.PolicyFault.{PolicyFault}
 use Rattle.policy_merge.specs.declared.fault.PolicyFault.TheVariants.{Conflict, Memory}
-use Rattle.policy_merge.specs.Tables.{Name}
+use Rattle.fed_json.specs.Tables.{Name}
 use Rattle.policy_merge.specs.Scope.{members_of, is_empty}
-use Rattle.policy_merge.specs.Policies.{Parameters, Types, is_null}
-
--- each value of the part is in the list
-abbrev pub are_among : List Json → List Json → Bool
-are_among list part = list_all (is_among list) part
+use Rattle.policy_merge.specs.Policies.{Parameters, Types}
+use Rattle.fed_json.specs.Trees.{is_null}
 
 -- one of the two is absent, or both pass
 abbrev pub if_both : {X Y : Type 0} → (X → Y → Bool) → Option X → Option Y → Bool

@@ -5,11 +5,11 @@ use Rattle.std.specs.Option.{option_map_or}
 use Rattle.fed_json.specs.Sets.{same, union_of, intersection_of}
 use Rattle.policy_merge.specs.declared.operator.Operator.TheVariants.{Value, Default}
 use Rattle.policy_merge.specs.declared.operators.Operators.{Operators}
-use Rattle.policy_merge.specs.declared.named.Named.{Named}
+use Rattle.fed_json.specs.declared.named.Named.{Named}
 use Rattle.policy_merge.specs.declared.fault.PolicyFault.{PolicyFault}
 use Rattle.policy_merge.specs.declared.fault.PolicyFault.TheVariants.{Conflict, Memory}
 use Rattle.fed_base.specs.Answers.{unless}
-use Rattle.policy_merge.specs.Tables.{Name, Side, sides}
+use Rattle.fed_json.specs.Tables.{Name, Side, sides}
 use Rattle.policy_merge.specs.Places.{IsEarlier, AreUtf8}
 use Rattle.policy_merge.specs.Policies.{Parameters, Types, named, no_operators, operators_at}
 use Rattle.policy_merge.specs.Combining.{Pair, if_both, clash, first, conflict_at}

@@ -2,7 +2,7 @@
 use Rattle.std.specs.Prelude.{◌≡◌, ◌⊎◌, IsTrue}
 use Rattle.std.specs.Str.{is_utf8}
 use Rattle.fed_json.specs.Forms.{is_before}
-use Rattle.policy_merge.specs.Tables.{Name}
+use Rattle.fed_json.specs.Tables.{Name}
 
 -- the first place is at an earlier entity type, or at an earlier parameter of the same, in byte order
 abbrev pub IsEarlier : Name → Name → Name → Name → Type 0

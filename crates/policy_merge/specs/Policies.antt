@@ -1,15 +1,14 @@
 -- What a policy holds: entity types, their parameters and the operators of each (OpenID Federation 1.0 section 6.1).
-use Rattle.std.specs.Prelude.{List, [], Option, None, map, Bool, true, false, ◌&&◌, not}
+use Rattle.std.specs.Prelude.{List, [], None, map, Bool, ◌&&◌, not}
 use Rattle.std.specs.Option.{option_map_or}
 use Rattle.std.specs.List.{list_all}
 use Rattle.std.specs.Str.{is_utf8}
 use Rattle.fed_json.specs.Forms.{rising, whole}
-use Rattle.fed_json.specs.declared.tree.Json.{Json, out-Json}
-use Rattle.fed_json.specs.declared.tree.Json.TheOpen.{Json-F}
-use Rattle.fed_json.specs.declared.tree.Member.{Member}
-use Rattle.policy_merge.specs.declared.named.Named.{Named}
+use Rattle.fed_base.specs.Values.{if_there}
+use Rattle.fed_json.specs.Trees.{is_null}
+use Rattle.fed_json.specs.declared.named.Named.{Named}
 use Rattle.policy_merge.specs.declared.operators.Operators.{Operators}
-use Rattle.policy_merge.specs.Tables.{Name, item_of}
+use Rattle.fed_json.specs.Tables.{Name, item_of}
 
 -- the parameters of an entity type, each with its operators (section 6.1.2)
 abbrev pub Parameters : Type 0
@@ -26,19 +25,6 @@ named name value = record { name = name; value = value }
 -- no operator, which leaves a parameter as it is (section 6.1.3)
 abbrev pub no_operators : Operators
 no_operators = record { value = None; add = None; default = None; one_of = None; subset_of = None; superset_of = None; essential = None }
-
--- null, at one level of a tree
-abbrev is_null_layer : Json-F Json Member → Bool
-is_null_layer Json-F.Null = true
-is_null_layer _ = false
-
--- null (RFC 8259 section 3), which as a value says that the parameter is absent (section 6.1.3.1.1)
-abbrev pub is_null : Json → Bool
-is_null tree = is_null_layer (out-Json tree)
-
--- the value is absent, or passes
-abbrev pub if_there : {X : Type 0} → (X → Bool) → Option X → Bool
-if_there test o = option_map_or test o true
 
 -- every value of the operators can be written, and the default isn't null (section 6.1.3.1.3)
 abbrev pub operators_formed : Operators → Bool

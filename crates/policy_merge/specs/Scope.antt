@@ -5,7 +5,7 @@ use Rattle.std.specs.Option.{option_or}
 use Rattle.std.specs.List.{slice_split}
 use Rattle.fed_json.specs.Trees.{as_text, as_list}
 use Rattle.fed_json.specs.declared.tree.Json.{Json, Text}
-use Rattle.policy_merge.specs.Tables.{Name}
+use Rattle.fed_json.specs.Tables.{Name}
 
 -- the parameter is `scope` (section 6.1.3.1)
 abbrev pub is_scope : Name → Bool

@@ -11,9 +11,10 @@ use Rattle.policy_merge.specs.declared.fault.PolicyShape.TheVariants.{Shape, Mem
 use Rattle.policy_merge.specs.declared.operator.Operator.{Operator}
 use Rattle.policy_merge.specs.declared.operator.Operator.TheVariants.{Value, Add, Default, OneOf, SubsetOf, SupersetOf, Essential}
 use Rattle.policy_merge.specs.declared.operators.Operators.{Operators}
-use Rattle.policy_merge.specs.declared.named.Named.{Named}
+use Rattle.fed_json.specs.declared.named.Named.{Named}
 use Rattle.policy_merge.specs.Names.{operator_name}
-use Rattle.policy_merge.specs.Policies.{Types, named, is_null}
+use Rattle.policy_merge.specs.Policies.{Types, named}
+use Rattle.fed_json.specs.Trees.{is_null}
 
 -- true or false, at one level of a tree
 abbrev truth_in : Json-F Json Member → Option Bool

@@ -6,16 +6,16 @@ ghost use Rattle.fed_json.specs.declared.tree.Json.{Json as Tree};
 ghost use Rattle.std.specs.Option.{option_copied, option_and_then, option_map_or};
 ghost use Rattle.fed_json.specs.Sets.{is_among};
 ghost use Rattle.fed_base.specs.Answers.{unless};
-ghost use Rattle.policy_merge.specs.Combining.{Gives, IsFault, conflict_at, conflict_in, conflict_in_parameters, stand as stands, clash as clash_of, are_among, have_members, if_both};
+ghost use Rattle.policy_merge.specs.Combining.{Gives, IsFault, conflict_at, conflict_in, conflict_in_parameters, stand as stands, clash as clash_of, have_members, if_both};
+ghost use Rattle.fed_json.specs.Sets.{are_among};
 ghost use Rattle.policy_merge.specs.Scope.{members_of, words_in as words_of};
-ghost use Rattle.policy_merge.specs.Policies.{is_null as null_tree};
+ghost use Rattle.fed_json.specs.Trees.{is_null as null_tree};
 
 use crate::fault::PolicyFault;
-use crate::named::Named;
 use crate::operator::Operator;
 use crate::operators::Operators;
 use crate::scope::{members, words_in};
-use fed_json::{Json, includes, json_equal};
+use fed_json::{Json, Named, includes, is_member, is_null};
 use fed_base::{Duplicate, Memory, Seq, Text};
 use std::alloc::Global;
 
@@ -232,7 +232,7 @@ fn lists_stand(list: &Option<Seq<Json>>, part: &Option<Seq<Json>>) -> bool
     ensures { result ≡ if_both are_among list.now part.now }
 {
     match (list, part) {
-        (Some(list), Some(part)) => holds_all(list, part),
+        (Some(list), Some(part)) => includes(list, part),
         _ => true,
     }
 }
@@ -243,7 +243,7 @@ fn has_all(members: Option<&Seq<Json>>, part: &Option<Seq<Json>>) -> bool
 {
     match (members, part) {
         (_, None) => true,
-        (Some(members), Some(part)) => holds_all(members, part),
+        (Some(members), Some(part)) => includes(members, part),
         (None, Some(_)) => false,
     }
 }
@@ -254,28 +254,7 @@ fn all_in(members: Option<&Seq<Json>>, list: &Option<Seq<Json>>) -> bool
 {
     match (members, list) {
         (_, None) => true,
-        (Some(members), Some(list)) => holds_all(list, members),
+        (Some(members), Some(list)) => includes(list, members),
         (None, Some(_)) => false,
     }
-}
-
-/// Whether each value of the part is in the list.
-pub fn holds_all(list: &Seq<Json>, part: &Seq<Json>) -> bool
-    ensures { result ≡ are_among list.now part.now }
-{
-    includes(list, part)
-}
-
-/// Whether the value is in the list.
-pub fn is_member(list: &Seq<Json>, tree: &Json) -> bool
-    ensures { result ≡ is_among list.now tree.now }
-{
-    list.as_slice().iter().any(|item| json_equal(item, tree))
-}
-
-/// Whether the value is null.
-pub(crate) fn is_null(tree: &Json) -> bool
-    ensures { result ≡ null_tree tree.now }
-{
-    matches!(tree, Json::Null)
 }

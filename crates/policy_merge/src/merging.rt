@@ -9,11 +9,9 @@ ghost use Rattle.policy_merge.specs.Merging.{met, value_or, merged_operators, me
 
 use crate::combining::{clash, conflict};
 use crate::fault::PolicyFault;
-use crate::named::Named;
 use crate::operator::Operator;
 use crate::operators::Operators;
-use crate::sides::Sides;
-use fed_json::{Json, intersect, json_equal, union};
+use fed_json::{Json, Named, Sides, intersect, json_equal, union};
 use fed_base::{Duplicate, Memory, Seq, Text};
 use std::alloc::Global;
 

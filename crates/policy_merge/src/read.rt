@@ -8,10 +8,9 @@ ghost use Rattle.policy_merge.specs.Shapes.{Reads, at, as_default, as_truth, ope
 ghost use Rattle.policy_merge.specs.Names.{operator_name};
 
 use crate::fault::PolicyShape;
-use crate::named::Named;
 use crate::operator::Operator;
 use crate::operators::Operators;
-use fed_json::{Json, Member, find};
+use fed_json::{Json, Member, Named, find};
 use fed_base::{Duplicate, Seq};
 use std::alloc::Global;
 

@@ -2,13 +2,13 @@
 
 ghost use Rattle.std.specs.Prelude.{◌≡◌, IfOk, None};
 ghost use Rattle.policy_merge.specs.Combining.{conflict_in};
-ghost use Rattle.policy_merge.specs.Metadata.{IsMetadata};
+ghost use Rattle.fed_json.specs.Metadata.{IsMetadata};
 
 use crate::words::{add_word, cut};
 use fed_base::{Duplicate, Memory, Seq, Text};
-use fed_json::{Json, TreeFault, is_whole, read_tree, write_tree};
+use fed_json::{Json, Named, TreeFault, is_metadata, is_whole, read_tree, write_tree};
 use policy_apply::{ApplyFault, apply};
-use policy_merge::{Named, Operator, Operators, Policy, PolicyFault, PolicyShape, is_metadata};
+use policy_merge::{Operator, Operators, Policy, PolicyFault, PolicyShape};
 use std::alloc::Global;
 
 // The policy of a text, and the empty one where there is no text.

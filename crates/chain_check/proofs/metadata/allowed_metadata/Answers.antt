@@ -1,6 +1,6 @@
 use Rattle.std.proofs.Common.{sym, ◌∙◌, subst}
 use Rattle.std.proofs.lemmas.Result.{IfOk-weaker}
-use Rattle.policy_merge.specs.Metadata.{IsMetadata}
+use Rattle.fed_json.specs.Metadata.{IsMetadata}
 use Rattle.chain_check.proofs.Overrides.{metadata-types_allowed}
 use Rattle.chain_check.proofs.ResolveLaws.{allowed-is}
 use Rattle.chain_check.proofs.metadata.allowed_metadata.Goals as goal

@@ -1,7 +1,7 @@
 use Rattle.std.proofs.Common.{IsTrue, map, sym, subst}
 use Rattle.fed_json.specs.declared.tree.Member.{Member}
 use Rattle.fed_json.specs.Forms.{rising}
-use Rattle.policy_merge.specs.Metadata.{IsMetadata}
+use Rattle.fed_json.specs.Metadata.{IsMetadata}
 use Rattle.fed_json.specs.Trees.{member_name, object_members}
 use Rattle.chain_check.proofs.Overrides.{formed-types, metadata-put_over, own-rises, put-all, upper-rises}
 use Rattle.chain_check.proofs.metadata.put_over.Goals as goal

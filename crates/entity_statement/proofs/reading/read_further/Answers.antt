@@ -1,7 +1,7 @@
 use Rattle.std.proofs.Common.{◌≡◌, true, codes, unwrap_or, sym, ap, ◌∙◌}
 use Rattle.fed_json.specs.Forms.{members_well_formed}
 use Rattle.fed_json.specs.Trees.{find}
-use Rattle.policy_merge.specs.Metadata.{is_metadata}
+use Rattle.fed_json.specs.Metadata.{is_metadata}
 use Rattle.entity_statement.specs.Claims.{no_metadata}
 use Rattle.entity_statement.proofs.Facts.{hints-differ, metadata-is}
 use Rattle.entity_statement.proofs.reading.read_further.Goals as goal

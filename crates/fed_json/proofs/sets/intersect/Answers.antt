@@ -1,11 +1,10 @@
-use Rattle.std.proofs.Common.{◌≡◌, ◌∙◌, sym, ap, subst, take, take_all, filter, true≢false}
-use Rattle.std.specs.List.{Contains}
+use Rattle.std.proofs.Common.{◌≡◌, ◌∙◌, sym, ap, take, take_all, filter, true≢false}
 use Rattle.std.proofs.lemmas.List.Elements.{All-filter}
 use Rattle.fed_json.specs.Forms.{IsWellFormed}
 use Rattle.fed_json.specs.Sets.{once, is_among, intersection_of}
 use Rattle.fed_json.proofs.Onces.{Contains-intersection_of, AllPairs-once, All-once, once-more_in, once-more_out}
 use Rattle.fed_json.proofs.sets.intersect.Goals as goal
-use Rattle.fed_json.proofs.sets.intersect.Goals.{then-is_among+in_ok-add, else-is_among}
+use Rattle.fed_json.proofs.sets.intersect.Goals.{then-is_member+in_ok-add, else-is_member}
 
 pub loop-tree-preserved : goal.loop-tree-preserved
 loop-tree-preserved c =
@@ -13,14 +12,14 @@ loop-tree-preserved c =
     let trees = c.as_slice-tree-items.result.now in
     let i = c.loop-tree.tree-index in
     let b = c.args.b.now in
-    elim c.if-is_among.branch [
-      | then-is_among+in_ok-add w ↦
-          once-more_in c.if-is_among.list trees b i tree c.loop-tree-test.true c.tree-item.is
-          (subst (λ xs. Contains xs tree) c.as_slice.ensures (c.is_among.ensures.0 w.if-is_among.true))
+    elim c.if-is_member.branch [
+      | then-is_member+in_ok-add w ↦
+          once-more_in c.if-is_member.list trees b i tree c.loop-tree-test.true c.tree-item.is
+          (c.is_member.ensures.member.0 w.if-is_member.true)
           (w.list-is ∙ w.in_ok-add.ensures (filter (is_among b) (take i trees)) c.loop-tree.invariant)
-      | else-is_among w ↦
-          once-more_out c.if-is_among.list trees b i tree c.loop-tree-test.true c.tree-item.is
-          (λ there. true≢false (sym (c.is_among.ensures.1 (subst (λ xs. Contains xs tree) (sym c.as_slice.ensures) there)) ∙ w.if-is_among.false))
+      | else-is_member w ↦
+          once-more_out c.if-is_member.list trees b i tree c.loop-tree-test.true c.tree-item.is
+          (λ there. true≢false (sym (c.is_member.ensures.member.1 there) ∙ w.if-is_member.false))
           (w.list-is ∙ c.loop-tree.invariant)
     ]
 

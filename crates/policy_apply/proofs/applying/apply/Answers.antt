@@ -2,8 +2,8 @@ use Rattle.std.proofs.Common.{◌∙◌, Ok, ap, subst}
 use Rattle.std.proofs.lemmas.Result.{err_from_is_err_and}
 use Rattle.fed_json.specs.Forms.{whole, members_whole}
 use Rattle.fed_json.specs.declared.tree.Json.{Object}
-use Rattle.policy_merge.specs.Metadata.{IsMetadata}
-use Rattle.policy_merge.proofs.Order.{left_true}
+use Rattle.fed_json.specs.Metadata.{IsMetadata}
+use Rattle.fed_json.proofs.Booleans.{left_true}
 use Rattle.policy_apply.specs.Applying.{HasType, parameter_at}
 use Rattle.policy_apply.proofs.Walking.{object_members-whole}
 use Rattle.policy_apply.proofs.Places.{applying-ok, applying-is, applying-err, applying-first, first-utf8, acted-at, types-same}

@@ -5,8 +5,8 @@ use Rattle.std.specs.List.{filter_map}
 use Rattle.fed_json.specs.Reading.{member_of}
 use Rattle.fed_json.specs.declared.tree.Member.{Member}
 use Rattle.fed_json.specs.Trees.{member_name}
-use Rattle.policy_merge.specs.Tables.{Side}
-use Rattle.policy_merge.specs.declared.named.Named.{Named}
+use Rattle.fed_json.specs.Tables.{Side}
+use Rattle.fed_json.specs.declared.named.Named.{Named}
 use Rattle.policy_merge.specs.declared.operators.Operators.{Operators}
 use Rattle.policy_merge.specs.Merging.{name_of, value_or}
 use Rattle.policy_merge.proofs.Walks.{passed-more, passed-found, passed-all}

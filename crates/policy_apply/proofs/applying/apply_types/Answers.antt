@@ -7,8 +7,8 @@ use Rattle.fed_json.specs.Reading.{member_of}
 use Rattle.fed_json.specs.declared.tree.Json.{Object}
 use Rattle.fed_json.specs.declared.tree.Member.{Member}
 use Rattle.fed_json.specs.Trees.{object_members, member_name}
-use Rattle.policy_merge.specs.Tables.{Side}
-use Rattle.policy_merge.specs.declared.named.Named.{Named}
+use Rattle.fed_json.specs.Tables.{Side}
+use Rattle.fed_json.specs.declared.named.Named.{Named}
 use Rattle.policy_merge.specs.Policies.{Parameters, operators_formed, parameters_formed}
 use Rattle.policy_merge.specs.Merging.{name_of, value_or}
 use Rattle.policy_merge.proofs.MergedTables.{table-rises}

@@ -1,4 +1,4 @@
-use Rattle.policy_merge.proofs.Among.{same_from_equal}
+use Rattle.fed_json.proofs.Among.{same_from_equal}
 use Rattle.policy_merge.proofs.merging.agree.Goals as goal
 
 pub returns-in-Some-Some : goal.returns-in-Some-Some

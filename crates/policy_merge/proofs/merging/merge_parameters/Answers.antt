@@ -1,8 +1,8 @@
 use Rattle.std.proofs.Common.{◌≡◌, ◌∙◌, ◌∷◌, ◌++◌, [], map, sym, ap}
 use Rattle.std.specs.Option.{option_copied}
 use Rattle.std.proofs.lemmas.Result.{err_from_is_err_and}
-use Rattle.policy_merge.specs.Tables.{Side}
-use Rattle.policy_merge.specs.declared.named.Named.{Named}
+use Rattle.fed_json.specs.Tables.{Side}
+use Rattle.fed_json.specs.declared.named.Named.{Named}
 use Rattle.policy_merge.specs.declared.operators.Operators.{Operators}
 use Rattle.policy_merge.specs.Policies.{named}
 use Rattle.policy_merge.specs.Merging.{name_of, value_or, parameter_conflict, merged_parameter}

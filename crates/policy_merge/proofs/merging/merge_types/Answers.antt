@@ -1,8 +1,8 @@
 use Rattle.std.proofs.Common.{◌≡◌, ◌∙◌, ◌∷◌, ◌++◌, [], map, sym, ap}
 use Rattle.std.specs.Option.{option_copied}
 use Rattle.std.proofs.lemmas.Result.{err_from_is_err_and}
-use Rattle.policy_merge.specs.Tables.{Side}
-use Rattle.policy_merge.specs.declared.named.Named.{Named}
+use Rattle.fed_json.specs.Tables.{Side}
+use Rattle.fed_json.specs.declared.named.Named.{Named}
 use Rattle.policy_merge.specs.Policies.{Parameters, named, parameters_formed}
 use Rattle.policy_merge.specs.Merging.{name_of, type_conflict, merged_type}
 use Rattle.policy_merge.proofs.Walks.{map-more, passed-more, passed-found, passed-passes, passed-all}

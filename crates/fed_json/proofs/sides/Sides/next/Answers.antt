@@ -1,6 +1,6 @@
 use Rattle.std.proofs.Common.{◌∙◌, refl, [], None}
-use Rattle.policy_merge.proofs.SideBySide.{next-none, next-upper, next-lower, next-less, next-greater, next-equal}
-use Rattle.policy_merge.proofs.sides.Sides.next.Goals as goal
+use Rattle.fed_json.proofs.SideBySide.{next-none, next-upper, next-lower, next-less, next-greater, next-equal}
+use Rattle.fed_json.proofs.sides.Sides.next.Goals as goal
 
 pub returns-in-None-None-clause-side : goal.returns-in-None-None-clause-side
 returns-in-None-None-clause-side g c =

@@ -2,11 +2,12 @@
 
 ghost use Rattle.std.specs.Prelude.{◌≡◌, ◌↔◌, IsTrue, not};
 ghost use Rattle.std.specs.List.{list_all};
-ghost use Rattle.policy_merge.specs.Policies.{is_null as null_tree};
-ghost use Rattle.policy_merge.specs.Metadata.{IsMetadata, is_object_of};
+ghost use Rattle.fed_json.specs.Trees.{is_null as null_tree};
+ghost use Rattle.fed_json.specs.Metadata.{IsMetadata, is_object_of};
 
-use crate::combining::is_null;
-use fed_json::{Json, Member, is_whole};
+use crate::forms::is_whole;
+use crate::lookup::is_null;
+use crate::tree::{Json, Member};
 
 /// Whether the tree is metadata (OpenID Federation 1.0 section 5): an object from entity type to an object from
 /// parameter to a value that isn't null, with no `Odd` anywhere.

@@ -5,7 +5,7 @@ use Rattle.std.specs.List.{list_all}
 use Rattle.fed_json.specs.Trees.{as_object}
 use Rattle.fed_json.specs.Forms.{whole}
 use Rattle.fed_json.specs.declared.tree.Json.{Json}
-use Rattle.policy_merge.specs.Policies.{is_null}
+use Rattle.fed_json.specs.Trees.{is_null}
 
 -- an object, each of whose values passes
 abbrev pub is_object_of : (Json → Bool) → Json → Bool

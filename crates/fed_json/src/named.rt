@@ -2,7 +2,7 @@
 
 ghost use Rattle.std.specs.Prelude.{◌≡◌, List, ℕ};
 
-use fed_json::Member;
+use crate::tree::Member;
 use fed_base::{Duplicate, Memory, Text};
 use std::alloc::Global;
 

@@ -4,11 +4,9 @@ use Rattle.std.specs.Bool.{Decides}
 use Rattle.std.specs.List.{All, Contains}
 use Rattle.std.proofs.lemmas.Bool.Decides.{Decides-by_and, same_from_decides}
 use Rattle.fed_json.specs.declared.tree.Json.{Json}
-use Rattle.fed_json.specs.Sets.{is_among}
-use Rattle.fed_json.specs.Sets.{same}
+use Rattle.fed_json.specs.Sets.{same, is_among, are_among}
 use Rattle.fed_json.proofs.Onces.{is_among-Decides}
 use Rattle.fed_json.proofs.Sames.{same-Decides}
-use Rattle.policy_merge.specs.Combining.{are_among}
 
 pub are_among-Decides : (list part : List Json) → Decides (are_among list part) (All (Contains list) part)
 are_among-Decides list part = Decides-by_and (is_among list) (Contains list) (are_among list) (is_among-Decides list) refl (λ _ _. refl) part

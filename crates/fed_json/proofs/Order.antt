@@ -1,5 +1,5 @@
 -- The byte order of names.
-use Rattle.std.proofs.Common.{◌≡◌, List, [], ◌∷◌, Bool, true, false, ◌&&◌, refl, sym, ap, ap₂, ◌∙◌, Ordering, Less, Equal, Greater, nat_cmp, bytes_eq}
+use Rattle.std.proofs.Common.{◌≡◌, List, [], ◌∷◌, true, false, refl, sym, ap, ◌∙◌, Less, Equal, Greater, nat_cmp, bytes_eq}
 use Rattle.std.specs.Ordering.{is_lt, is_eq, ordering_reverse}
 use Rattle.std.specs.List.{list_all}
 use Rattle.std.specs.Cmp.Lexicographic.{slice_cmp}
@@ -7,23 +7,9 @@ use Rattle.std.proofs.lemmas.Cmp.{nat_list_cmp_total, tied_itself}
 use Rattle.std.proofs.lemmas.Map.Text.{is_eq-slice_cmp}
 use Rattle.std.proofs.lemmas.Slice.Eq.{bytes_eq-Decides}
 use Rattle.fed_json.specs.Forms.{is_before, rising}
-use Rattle.policy_merge.specs.Tables.{Name}
-
-pub left_true : (a b : Bool) → (a && b) ≡ true → a ≡ true
-left_true true b e = refl
-left_true false b e = absurd (cc)
-
-pub right_true : (a b : Bool) → (a && b) ≡ true → b ≡ true
-right_true true b e = e
-right_true false b e = absurd (cc)
-
-pub both_true : {a b : Bool} → a ≡ true → b ≡ true → (a && b) ≡ true
-both_true e f = ap₂ (λ a b. a && b) e f
-
-less : (o : Ordering) → is_lt o ≡ true → o ≡ Less
-less Less e = refl
-less Equal e = absurd (cc)
-less Greater e = absurd (cc)
+use Rattle.fed_json.specs.Tables.{Name}
+use Rattle.fed_json.proofs.Booleans.{left_true, right_true, both_true}
+use Rattle.fed_json.proofs.Names.{less, is_before-trans}
 
 -- what `cmp` answers where the first name stands before the second
 pub cmp-before : (a b : Name) → is_before a b ≡ true → slice_cmp nat_cmp a b ≡ Less
@@ -40,9 +26,6 @@ before-cmp_less a b e = ap is_lt e
 
 pub before-cmp_greater : (a b : Name) → slice_cmp nat_cmp a b ≡ Greater → is_before b a ≡ true
 before-cmp_greater a b e = ap is_lt (nat_list_cmp_total.antisymm b a ∙ ap ordering_reverse e)
-
-pub is_before-trans : (a b c : Name) → is_before a b ≡ true → is_before b c ≡ true → is_before a c ≡ true
-is_before-trans a b c e f = ap is_lt (nat_list_cmp_total.trans a b c (less _ e) (less _ f))
 
 -- of two names of which one stands before the other neither is the other
 pub other_before : (a b : Name) → is_before a b ≡ true → bytes_eq a b ≡ false
@@ -72,10 +55,6 @@ first_before a [] rise = refl
 first_before a (b ∷ names) rise =
     let e = left_true (is_before a b) _ rise in
     both_true e (all_behind a b names e (first_before b names (right_true (is_before a b) _ rise)))
-
-pub rising-tail : (a : Name) (names : List Name) → rising (a ∷ names) ≡ true → rising names ≡ true
-rising-tail a [] rise = refl
-rising-tail a (b ∷ names) rise = right_true (is_before a b) _ rise
 
 pub rising-cons : (a : Name) (names : List Name) → list_all (is_before a) names ≡ true → rising names ≡ true → rising (a ∷ names) ≡ true
 rising-cons a [] all rise = refl

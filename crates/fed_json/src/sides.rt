@@ -3,7 +3,7 @@
 ghost use Rattle.std.specs.Prelude.{◌≡◌, ◌∷◌, ◌<◌, ◌+◌, [], map, length, MatchOption, IsTrue, Some, None};
 ghost use Rattle.std.specs.Option.{option_copied};
 ghost use Rattle.fed_json.specs.Forms.{rising};
-ghost use Rattle.policy_merge.specs.Tables.{sides};
+ghost use Rattle.fed_json.specs.Tables.{sides};
 
 use crate::named::HasName;
 use fed_base::Text;

@@ -4,10 +4,11 @@ use Rattle.std.specs.Ordering.{match_ordering}
 use Rattle.std.specs.List.{list_all}
 use Rattle.std.specs.Cmp.Lexicographic.{slice_cmp}
 use Rattle.fed_json.specs.Forms.{is_before, rising}
-use Rattle.policy_merge.specs.Tables.{Name, with_name, names_of_both, item_of, Side, side_at, sides}
+use Rattle.fed_json.specs.Tables.{Name, with_name, names_of_both, item_of, Side, side_at, sides}
 use Rattle.std.proofs.Common.{length, subst}
 use Rattle.std.proofs.lemmas.List.{nil_from_length}
-use Rattle.policy_merge.proofs.Order.{equal-cmp, left_true, right_true, both_true, cmp-before, cmp-behind, cmp-itself, before-cmp_less, before-cmp_greater, other_before, other_behind, bytes_eq-itself, all_behind, first_before}
+use Rattle.fed_json.proofs.Booleans.{left_true, right_true, both_true}
+use Rattle.fed_json.proofs.Order.{equal-cmp, cmp-before, cmp-behind, cmp-itself, before-cmp_less, before-cmp_greater, other_before, other_behind, bytes_eq-itself, all_behind, first_before}
 
 -- ---- names
 
