@@ -1,3 +1,3 @@
+pub mod Kept
 pub mod Utf8
 pub mod Verdicts
-pub mod Kept

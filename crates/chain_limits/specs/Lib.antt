@@ -1,3 +1,3 @@
-pub mod Reading
 pub mod Limits
+pub mod Reading
 pub mod Types

@@ -6,9 +6,9 @@ use std::alloc::Global;
 use std::fmt;
 use thiserror::Error;
 
-/// Why a compact text, or a tree of claims, is no entity statement. Of several faults the first is answered: `Typ`, `Tree`, and then claim by
-/// claim in the order of the fields of [`Statement`](crate::Statement), `crit` before all others. The text that a fault
-/// carries is a claim's name, but for `Critical`.
+/// Why a compact text, or a tree of claims, is no entity statement. Of several faults the first is answered: `Typ`,
+/// `Tree`, and then claim by claim in the order of the fields of [`Statement`](crate::Statement), `crit` before all
+/// others. The text that a fault carries is a claim's name, but for `Critical`.
 #[derive(Drop, Error)]
 pub enum StatementFault {
     /// The header's `typ` isn't `entity-statement+jwt`.

@@ -1,8 +1,8 @@
 //! Layer 4, statements: entity statements (OpenID Federation 1.0 section 3): what a compact text claims.
 //!
 //! A statement of an entity about itself is its configuration; any other is a superior's about its subordinate. The
-//! crates above read texts by [`Statement::read`] and trees by [`Statement::of_claims`], ask whether a statement is current, and where its entity answers
-//! statements about its subordinates.
+//! crates above read texts by [`Statement::read`] and trees by [`Statement::of_claims`], ask whether a statement is
+//! current, and where its entity answers statements about its subordinates.
 #![tactic(auto)]
 
 mod claims;

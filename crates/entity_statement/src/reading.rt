@@ -70,7 +70,7 @@ fn read_further(
     })
 }
 
-/// The claim `metadata`, moved out of the others, and an empty object where it is absent.
+// The claim `metadata`, moved out of the others, and an empty object where it is absent.
 fn take_metadata(alloc: Global, claims: Seq<Member>) -> Json
     ensures { result ≡ unwrap_or (value_at (codes "metadata") claims) no_metadata }
 {

@@ -1,4 +1,4 @@
-//! Rows that show what the calls on identifiers, limits and metadata policies answer.
+//! Layer 8, rows: what the calls on identifiers, limits and metadata policies answer.
 //!
 //! Each line of the input is a row: the name of a call or of a group of calls, then what it is given, with a tab before each part. For each
 //! row the program writes a line with what was answered. A line that begins with `#` tells what the rows behind it are about, and is
@@ -15,7 +15,7 @@ use std::alloc::Global;
 use std::io;
 use words::cut;
 
-/// What is answered to a row.
+// What is answered to a row.
 fn answer(alloc: Global, row: &str) -> Result<Text, Memory> {
     let (kind, given) = cut(row);
     match kind {
