@@ -50,7 +50,9 @@ names_of members = do
 
 -- the same of a JSON text (RFC 7515 section 5.2, steps 3 to 5)
 unfoldable pub names_in : List ℕ → Result (Option (List ℕ) × Option (List ℕ)) FormFault
-names_in bytes = ok_or (option_and_then as_object (tree_in bytes)) Header >>= names_of
+names_in bytes = do
+  members ← ok_or (option_and_then as_object (tree_in bytes)) Header
+  names_of members
 
 -- the bytes of a part, by its number (RFC 7515 section 2)
 unfoldable pub bytes_of : ℕ → List ℕ → Result (List ℕ) FormFault
@@ -88,7 +90,9 @@ compact_of x parts = do
 unfoldable pub splitting : List ℕ → Result Compact FormFault
 splitting x =
     if nat_lt max_bytes (length x) then Err TooLong
-    else (ok_or (three_of (parts_of x)) Parts >>= compact_of x)
+    else do
+      parts ← ok_or (three_of (parts_of x)) Parts
+      compact_of x parts
 
 -- what the types of the code say of an answer's parts
 pub record HasForms (c : Compact) : Type 0 where

@@ -1,4 +1,4 @@
-//! Texts in the compact serialization of JSON Web Signature, as OpenID Federation 1.0 sends them (RFC 7515 sections 3
+//! Layer 2, texts: the compact serialization of JSON Web Signature, as OpenID Federation 1.0 sends it (RFC 7515 sections 3
 //! and 7.1): three base64url parts between full stops, which are a header, a payload and a signature.
 //!
 //! [`split`] takes a text apart and says what is wrong with one that it refuses. [`signing_input`] and [`join`] put one
@@ -12,8 +12,6 @@ mod header;
 mod joining;
 mod parts;
 mod splitting;
-#[cfg(test)]
-mod tests;
 
 pub use compact::Compact;
 pub use fault::FormFault;
