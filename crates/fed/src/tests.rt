@@ -155,9 +155,7 @@ fn a_ring_is_made_and_kept_before_its_key_is_written(rt: HostRuntime) -> Result<
         );
         assert_eq!(rt; got, status);
         assert_eq!(rt; out.as_slice(), written);
-        let kept = store
-            .file(b"r")
-            .map_or(b"".as_slice(), |file| file.as_slice());
+        let kept = store.file(b"r").unwrap_or(b"");
         assert_eq!(rt; kept, if there { RING } else { b"".as_slice() });
     }
     Ok(())
