@@ -3,15 +3,17 @@ use Rattle.std.proofs.Common.{◌≡◌, ◌≢◌, ℕ, List, [], ◌∷◌, �
 use Rattle.std.proofs.lemmas.Slice.Eq.{bytes_eq-Decides}
 use Rattle.std.proofs.Math.ListN.{drop_of_length-le}
 use Rattle.std.proofs.lemmas.List.{drop_more}
-use Rattle.fed_ports.specs.MemoryStores.{file_of, first_of}
+use Rattle.fed_ports.specs.NamedFiles.{file_of, first_of}
 use Rattle.fed_ports.specs.Stores.{IsKept}
-use Rattle.fed_ports.specs.declared.memory_store.NamedFile.{NamedFile}
+use Rattle.fed_ports.specs.declared.named_file.NamedFile.{NamedFile}
 
-first_first : (x y z : Option (List ℕ)) → first_of (first_of x y) z ≡ first_of x (first_of y z)
+-- of three files the first that is there, whichever two are compared first
+pub first_first : (x y z : Option (List ℕ)) → first_of (first_of x y) z ≡ first_of x (first_of y z)
 first_first None y z = refl
 first_first (Some bytes) y z = refl
 
-first_none : (x : Option (List ℕ)) → x ≡ first_of x None
+-- the file itself where there is no other
+pub first_none : (x : Option (List ℕ)) → x ≡ first_of x None
 first_none None = refl
 first_none (Some bytes) = refl
 

@@ -1,9 +1,11 @@
 pub mod Bytes
 pub mod Causes
 pub mod Inputs
+pub mod KeptFiles
 pub mod MemoryClocks
 pub mod MemoryStores
 pub mod MemoryStreams
+pub mod NamedFiles
 pub mod Plans
 pub mod Stores
 pub mod Times

@@ -1,5 +1,5 @@
 -- Which calls of an object in memory fail.
-use Rattle.std.specs.Prelude.{ℕ, ◌≤◌, ◌⊎◌, List, Contains}
+use Rattle.std.specs.Prelude.{ℕ, ◌-◌, ◌≤◌, ◌⊎◌, List, Contains}
 use Rattle.fed_base.specs.Counts.{next_count}
 use Rattle.fed_ports.specs.declared.call_plan.CallPlan.{CallPlan}
 
@@ -12,6 +12,10 @@ pub record Plan : Type 0 where
 -- the plan that an object in memory keeps
 abbrev pub plan_of : CallPlan → Plan
 plan_of plan = record { failing = plan.failing.items; room = plan.room; made = plan.made }
+
+-- how many calls there is still room for
+abbrev pub calls_left : Plan → ℕ
+calls_left plan = plan.room - plan.made
 
 -- the next call is to fail
 abbrev pub IsDue : Plan → Type 0

@@ -1,7 +1,7 @@
 // Which calls of an object in memory fail.
 
-ghost use Rattle.std.specs.Prelude.{◌≡◌, ◌↔◌, IsTrue, IfOk};
-ghost use Rattle.fed_ports.specs.Plans.{Plan, plan_of, after_call, IsDue};
+ghost use Rattle.std.specs.Prelude.{◌≡◌, ◌↔◌, ◌<◌, ◌-◌, IsTrue, IfOk};
+ghost use Rattle.fed_ports.specs.Plans.{Plan, plan_of, after_call, calls_left, IsDue};
 
 use fed_base::Memory;
 use std::alloc::Global;
@@ -27,10 +27,18 @@ impl CallPlan {
         })
     }
 
+    /// Whether there is room for a further call.
+    pub fn has_room(&self) -> bool
+        ensures { IsTrue result ↔ (0 < calls_left (plan_of self.now)) }
+    {
+        self.made < self.room
+    }
+
     /// Counts a call, and says whether it is to fail: its number is listed, or there is no room for it.
     pub fn next_fails(&mut self) -> bool
         ensures due { IsTrue result ↔ IsDue (plan_of self.old) }
         ensures counted { plan_of self.new ≡ after_call (plan_of self.old) }
+        ensures left { calls_left (plan_of self.new) ≡ calls_left (plan_of self.old) - 1 }
     {
         let call = self.made;
         self.made = call.saturating_add(1);

@@ -6,8 +6,8 @@ ghost use Rattle.fed_ports.specs.Bytes.{Appends};
 ghost use Rattle.fed_ports.specs.Plans.{after_call, IsDue};
 
 use crate::call_plan::CallPlan;
-use fed_base::{Failed, Memory};
 use crate::sink::Sink;
+use fed_base::{Failed, Memory};
 use std::alloc::Global;
 
 /// A sink that keeps what it is given. Each call takes as much of the piece as there is room for.

@@ -6,8 +6,8 @@ ghost use Rattle.fed_ports.specs.Bytes.{Takes};
 ghost use Rattle.fed_ports.specs.Plans.{after_call, IsDue};
 
 use crate::call_plan::CallPlan;
-use fed_base::{Failed, Memory};
 use crate::source::Source;
+use fed_base::{Failed, Memory};
 use std::alloc::Global;
 
 /// A source of given bytes. Each call gives as many of them as the buffer takes.
@@ -59,6 +59,7 @@ impl Source for MemorySource {
         ensures within { IfOk result (λ n. n ≤ length into.old) }
         ensures bytes { IfOk result (λ n. Takes (Some (source_left self.old)) (Some (source_left self.new)) into.old into.new n) }
         ensures err { OnErr result (source_left self.new ≡ source_left self.old) }
+        ensures buffer { OnErr result (into.new ≡ into.old) }
         ensures cause { HasCause (source_faults self.old) (source_faults self.new) result }
         // It fails exactly where the call is to fail, and else gives all that the buffer takes.
         ensures planned { IsErr result ↔ IsDue (source_plan self.old) }

@@ -2,10 +2,13 @@
 
 ghost use Rattle.std.specs.Prelude.{◌≡◌, None};
 
-use fed_base::Failed;
 use crate::sink::Sink;
 use crate::source::Source;
+use fed_base::Failed;
 use std::io::{Read, Write};
+
+/// How many bytes a reading takes at most.
+const PIECE: usize = 8192;
 
 /// A source over a reader of the standard library, as standard input.
 #[derive(Drop)]
@@ -31,8 +34,14 @@ impl<R: Read + Drop> Source for RealSource<R> {
     ghost read_faults = { λ source. source.faults };
 
     fn take(&mut self, into: &mut [u8]) -> Result<usize, Failed> {
-        match self.reader.read(into) {
-            Ok(n) => Ok(n),
+        // A reader may write into what it is given and fail all the same, so it isn't given the caller's buffer.
+        let mut piece = [0u8; PIECE];
+        let most = into.len().min(PIECE);
+        match self.reader.read(&mut piece[..most]) {
+            Ok(n) => {
+                into[..n].copy_from_slice(&piece[..n]);
+                Ok(n)
+            }
             Err(_) => {
                 self.faults = self.faults.saturating_add(1);
                 Err(Failed)

@@ -18,9 +18,10 @@ pub struct RealClock<'a, R: SystemClock> {
 }
 
 impl<'a, R: SystemClock + Sync> RealClock<'a, R> {
-    /// A clock of which no reading was made.
+    /// A clock of which no reading was made, so that its last one counts as 0.
     pub fn new(rt: &'a R) -> RealClock<'a, R>
-        ensures { ⟦<RealClock<'a, R> as Clock>⟧.readings result ≡ 0 }
+        ensures readings { ⟦<RealClock<'a, R> as Clock>⟧.readings result ≡ 0 }
+        ensures last { ⟦<RealClock<'a, R> as Clock>⟧.last result ≡ 0 }
     {
         RealClock {
             rt,

@@ -3,10 +3,10 @@
 ghost use Rattle.std.specs.Prelude.{◌≡◌, None};
 ghost use Rattle.fed_ports.specs.Stores.{Loads};
 
-use fed_base::{Duplicate, Failed, Text};
 use crate::input::{ReadEnd, read_all};
 use crate::real::RealSource;
 use crate::store::{Store, StoreFault};
+use fed_base::{Duplicate, Failed, Text};
 use std::alloc::Global;
 use std::fs::{OpenFile, OpenOptions};
 use std::io::{ErrorKind, Write};

@@ -83,7 +83,7 @@ pub fn told<D: Display>(alloc: Global, value: &D) -> Result<Text, Memory> {
     Ok(Text::from_vec(told.into_bytes()))
 }
 
-/// A word where there is none of the bytes that it tells of.
+/// The text of a word.
 pub fn word(alloc: Global, word: &str) -> Result<Text, Memory> {
     Text::of(alloc, word.as_bytes())
 }

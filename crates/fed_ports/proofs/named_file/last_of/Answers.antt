@@ -1,15 +1,13 @@
 use Rattle.std.proofs.Common.{◌≡◌, ◌+◌, true, false, drop, sym, ap, ◌∙◌, subst, cond, Some, None, bytes_eq}
 use Rattle.std.specs.Option.{option_copied}
-use Rattle.fed_ports.specs.MemoryStores.{file_of, first_of}
+use Rattle.fed_ports.specs.NamedFiles.{file_of, first_of}
 use Rattle.fed_ports.proofs.FileLaws.{looked_on, looked_at_all, looked_at_none}
-use Rattle.fed_ports.proofs.memory_store.last_of.Goals.{then-eq, else-eq}
-use Rattle.fed_ports.proofs.memory_store.last_of.Goals as goal
+use Rattle.fed_ports.proofs.named_file.last_of.Goals.{then-eq, else-eq}
+use Rattle.fed_ports.proofs.named_file.last_of.Goals as goal
 
--- src/memory_store.rt
 pub files-init : goal.files-init
 files-init c = looked_at_none c.args.files.now c.args.name.now
 
--- src/memory_store.rt
 pub files-preserved : goal.files-preserved
 files-preserved c =
     let fs = c.args.files.now in
@@ -24,6 +22,5 @@ files-preserved c =
       | else-eq w ↦ ap (λ x. first_of (file_of (drop (i + 1) fs) name) (option_copied x)) w.found-is ∙ found false (sym w.if-eq.false ∙ same)
     ]
 
--- src/memory_store.rt
 pub returns : goal.returns
 returns c = looked_at_all c.args.files.now c.files.file-index c.args.name.now _ c.files-test.false c.files.invariant
