@@ -22,7 +22,7 @@ use Rattle.fed_json.specs.Tables.{Name, Side, item_of, side_at, sides}
 use Rattle.fed_json.proofs.Booleans.{left_true, right_true, both_true}
 use Rattle.fed_json.proofs.Names.{rising-tail}
 use Rattle.fed_json.proofs.Order.{first_before, rising-cons, equal-bytes_eq}
-use Rattle.policy_merge.proofs.MergedTables.{item_of-passes, rising-names_of_both}
+use Rattle.fed_json.proofs.NamesOfBoth.{item_of-passes, rising-names_of_both}
 use Rattle.chain_limits.specs.declared.place.Place.{Place}
 use Rattle.chain_limits.specs.Types.{is_allowed, members_allowed, types_allowed}
 use Rattle.chain_limits.proofs.Kept.{types_allowed-Object}

@@ -7,9 +7,9 @@ use Rattle.fed_json.specs.declared.tree.Json.{Json, Text, Int, List as ListOf, O
 use Rattle.fed_json.specs.declared.tree.Json.TheOpen.{Json-F}
 use Rattle.fed_json.specs.declared.tree.Json.TheViews.{roll-Json}
 use Rattle.fed_json.specs.declared.tree.Member.{Member}
-use Rattle.fed_json.specs.Forms.{well_formed, members_well_formed, rising}
+use Rattle.fed_json.specs.Forms.{well_formed, members_well_formed, rising, whole, members_whole}
 use Rattle.fed_json.specs.Trees.{find, text_at, as_text, as_int, as_list, as_object, text_in, int_in, list_in, object_in}
-use Rattle.fed_json.proofs.Layers.{well_formed-Text}
+use Rattle.fed_json.proofs.Layers.{well_formed-Text, whole-List, whole-Object}
 use Rattle.fed_json.proofs.Booleans.{left_true, right_true}
 use Rattle.fed_json.proofs.Names.{names}
 
@@ -69,6 +69,14 @@ List-as_list tree items e = sym (roll_out tree) ∙ ap roll-Json (list_layer (ou
 
 pub Object-as_object : (tree : Json) (members : List Member) → as_object tree ≡ Some members → tree ≡ Object members
 Object-as_object tree members e = sym (roll_out tree) ∙ ap roll-Json (object_layer (out-Json tree) members e) ∙ roll-Object members
+
+-- ---- the parts of a tree that has a text have one
+
+pub whole-items : (tree : Json) (items : List Json) → whole tree ≡ true → as_list tree ≡ Some items → list_all whole items ≡ true
+whole-items tree items good e = sym (whole-List items) ∙ ap whole (sym (List-as_list tree items e)) ∙ good
+
+pub whole-members : (tree : Json) (members : List Member) → whole tree ≡ true → as_object tree ≡ Some members → members_whole members ≡ true
+whole-members tree members good e = sym (whole-Object members) ∙ ap whole (sym (Object-as_object tree members e)) ∙ good
 
 -- ---- what is found in a well formed object
 

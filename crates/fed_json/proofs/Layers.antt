@@ -75,6 +75,16 @@ whole-Object ms =
 pub well_formed-Text : (bytes : List ℕ) → well_formed (Text bytes) ≡ is_utf8 bytes
 well_formed-Text bytes = search (rules, the_lemmas)
 
+has_odd-Text : (bytes : List ℕ) → has_odd (Text bytes) ≡ false
+has_odd-Text bytes = search (rules, the_lemmas)
+
+and_true : (b : Bool) → (b && true) ≡ b
+and_true true = refl
+and_true false = refl
+
+pub whole-Text : (bytes : List ℕ) → whole (Text bytes) ≡ is_utf8 bytes
+whole-Text bytes = ap₂ (λ a b. a && not b) (well_formed-Text bytes) (has_odd-Text bytes) ∙ and_true (is_utf8 bytes)
+
 pub nesting-List : (ts : List Json) → nesting (ListOf ts) ≡ suc (greatest (map nesting ts))
 nesting-List ts = search (rules, the_lemmas)
 

@@ -1,5 +1,5 @@
 -- The byte order of names.
-use Rattle.std.proofs.Common.{◌≡◌, List, [], ◌∷◌, true, false, refl, sym, ap, ◌∙◌, Less, Equal, Greater, nat_cmp, bytes_eq}
+use Rattle.std.proofs.Common.{◌≡◌, List, [], ◌∷◌, Bool, true, false, true≢false, refl, sym, ap, ◌∙◌, Less, Equal, Greater, nat_cmp, bytes_eq}
 use Rattle.std.specs.Ordering.{is_lt, is_eq, ordering_reverse}
 use Rattle.std.specs.List.{list_all}
 use Rattle.std.specs.Cmp.Lexicographic.{slice_cmp}
@@ -39,6 +39,15 @@ bytes_eq-itself a = sym (is_eq-slice_cmp a a) ∙ ap is_eq (cmp-itself a)
 
 pub equal-bytes_eq : (a b : Name) → bytes_eq a b ≡ true → a ≡ b
 equal-bytes_eq a b e = (bytes_eq-Decides a b).0 e
+
+-- the test answers the same of the two the other way round
+pub bytes_eq-back : (b : Bool) (m n : Name) → bytes_eq m n ≡ b → bytes_eq n m ≡ b
+bytes_eq-back true m n e = ap (λ x. bytes_eq n x) (equal-bytes_eq m n e) ∙ bytes_eq-itself n
+bytes_eq-back false m n e = by (bytes_eq n m) refl
+  where
+    by : (c : Bool) → bytes_eq n m ≡ c → bytes_eq n m ≡ false
+    by true is = absurd (true≢false (sym (ap (bytes_eq m) (equal-bytes_eq n m is) ∙ bytes_eq-itself m) ∙ e))
+    by false is = is
 
 pub equal-cmp : (a b : Name) → slice_cmp nat_cmp a b ≡ Equal → a ≡ b
 equal-cmp a b e = equal-bytes_eq a b (sym (is_eq-slice_cmp a b) ∙ ap is_eq e)

@@ -1,9 +1,9 @@
-pub mod Trees
-pub mod Reading
-pub mod Forms
 pub mod Compact
-pub mod Values
-pub mod Sets
+pub mod Forms
 pub mod Members
 pub mod Metadata
+pub mod Reading
+pub mod Sets
 pub mod Tables
+pub mod Trees
+pub mod Values

@@ -1,6 +1,7 @@
 -- Lists of items with names, in rising byte order of the names, and two such lists side by side, as two policies are
 -- merged (OpenID Federation 1.0 section 6.1.4.1) and one is applied to metadata (section 6.1.4.2).
 use Rattle.std.specs.Prelude.{ℕ, List, [], ◌∷◌, Option, Some, None, map, bytes_eq, if◌then◌else◌}
+use Rattle.std.specs.Option.{option_map_or}
 use Rattle.std.specs.Ordering.{nat_cmp, match_ordering}
 use Rattle.std.specs.Cmp.Lexicographic.{slice_cmp}
 
@@ -39,3 +40,8 @@ side_at upper_name lower_name upper lower name =
 unfoldable pub sides : {U L : Type 0} → (U → Name) → (L → Name) → List U → List L → List (Side U L)
 sides upper_name lower_name upper lower =
     map (side_at upper_name lower_name upper lower) (names_of_both (map upper_name upper) (map lower_name lower))
+
+-- the first answer that the items give
+abbrev pub first : {X Y : Type 0} → (X → Option Y) → List X → Option Y
+first answer [] = None
+first answer (x ∷ xs) = option_map_or Some (answer x) (first answer xs)

@@ -1,6 +1,6 @@
 -- What a JSON value holds (RFC 8259 section 3).
 use Rattle.std.specs.Prelude.{ℕ, ℤ, pos, List, [], ◌∷◌, Option, Some, None, option_map, unwrap_or, bytes_eq, nat_lt, if◌then◌else◌, Bool, true, false}
-use Rattle.std.specs.Option.{option_and_then}
+use Rattle.fed_base.specs.Values.{◌>>=◌}
 use Rattle.fed_json.specs.declared.tree.Json.{Json, out-Json}
 use Rattle.fed_json.specs.declared.tree.Json.TheOpen.{Json-F}
 use Rattle.fed_json.specs.declared.tree.Member.{Member}
@@ -62,7 +62,7 @@ find name (m ∷ ms) = if bytes_eq m.name name then Some m.value else find name 
 
 -- the text under a name (RFC 8259 sections 4 and 7)
 abbrev pub text_at : List ℕ → List Member → Option (List ℕ)
-text_at name members = option_and_then as_text (find name members)
+text_at name members = find name members >>= as_text
 
 -- the members of an object; any other tree has none (RFC 8259 section 4)
 abbrev pub object_members : Json → List Member
@@ -80,11 +80,13 @@ optional form (Some tree) = option_map Some (form tree)
 -- what the parts of a list are, where each part has the form (RFC 8259 section 5)
 abbrev pub each : {A X : Type 0} → (A → Option X) → List A → Option (List X)
 each form [] = Some []
-each form (part ∷ parts) = option_and_then (λ x. option_map (λ xs. x ∷ xs) (each form parts)) (form part)
+each form (part ∷ parts) = do
+  x ← form part
+  option_map (λ xs. x ∷ xs) (each form parts)
 
 -- the texts of a list that has no other items (RFC 8259 sections 5 and 7)
 abbrev pub texts_in : List Json → Option (List (List ℕ))
 texts_in items = each as_text items
 
 abbrev pub texts_of : Json → Option (List (List ℕ))
-texts_of tree = option_and_then texts_in (as_list tree)
+texts_of tree = as_list tree >>= texts_in

@@ -5,6 +5,7 @@ use Rattle.std.specs.List.{join_with_byte}
 use Rattle.std.proofs.lemmas.List.{drop_more, drop_all}
 use Rattle.fed_json.specs.Trees.{as_text, texts_in}
 use Rattle.fed_json.specs.declared.tree.Json.{Json}
+use Rattle.fed_json.proofs.Options.{option_map_none, option_map_some}
 
 -- each word with a space behind it
 abbrev pub ended : List (List ℕ) → List ℕ
@@ -31,19 +32,11 @@ joining-more list text i x word lt is word_is joining =
     ∙ ap (λ o. option_map (λ more. text ++ ended more) (option_and_then (λ w. option_map (λ rest. w ∷ rest) (texts_in (drop (i + 1) list))) o)) word_is
     ∙ with_word word text (texts_in (drop (i + 1) list))
 
-none_of : {X Y : Type 0} (f : X → Y) (o : Option X) → option_map f o ≡ None → o ≡ None
-none_of f None e = refl
-none_of f (Some x) e = absurd (cc)
-
-some_of : {X Y : Type 0} (f : X → Y) (o : Option X) (y : Y) → option_map f o ≡ Some y → (x : X) × (o ≡ Some x) × (f x ≡ y)
-some_of f None y e = absurd (cc)
-some_of f (Some x) y e = (x, refl, (cc))
-
 -- a value that isn't a text
 pub joining-broken : (list : List Json) (text : List ℕ) (i : ℕ) (x : Json) → i < length list → x ≡ get_or list i x → as_text x ≡ None
     → Joining list text (drop i list) → option_map (join_with_byte 32) (texts_in list) ≡ None
 joining-broken list text i x lt is other joining =
-    let none : texts_in list ≡ None = none_of ended (texts_in list) (joining ∙ ap (λ xs. option_map (λ more. text ++ ended more) (texts_in xs)) (drop_more list i x lt ∙ ap (λ y. y ∷ drop (i + 1) list) (sym is))
+    let none : texts_in list ≡ None = option_map_none ended (texts_in list) (joining ∙ ap (λ xs. option_map (λ more. text ++ ended more) (texts_in xs)) (drop_more list i x lt ∙ ap (λ y. y ∷ drop (i + 1) list) (sym is))
     ∙ ap (λ o. option_map (λ more. text ++ ended more) (option_and_then (λ w. option_map (λ rest. w ∷ rest) (texts_in (drop (i + 1) list))) o)) other) in
     ap (option_map (join_with_byte 32)) none
 
@@ -56,7 +49,7 @@ pub joining-end : (list : List Json) (text : List ℕ) (i : ℕ) → length list
     → (words : List (List ℕ)) × (texts_in list ≡ Some words) × (ended words ≡ text)
 joining-end list text i done joining =
     let all : option_map ended (texts_in list) ≡ Some text = joining ∙ ap (λ xs. option_map (λ more. text ++ ended more) (texts_in xs)) (drop_all i list done) ∙ ap Some (append-nil text) in
-    some_of ended (texts_in list) text all
+    option_map_some ended (texts_in list) text all
 
 snoc_same : (xs ys : List ℕ) (x y : ℕ) → xs ++ x ∷ [] ≡ ys ++ y ∷ [] → xs ≡ ys
 snoc_same [] [] x y e = refl

@@ -21,7 +21,7 @@ use Rattle.policy_apply.specs.Acting.{made, by_add, by_subset_of, with_added, wi
 use Rattle.policy_apply.specs.Keeping.{is_value, is_within, KeepsWithin, AddsWords}
 use Rattle.policy_apply.proofs.Courses.{Course, course, acted-course, set_first}
 use Rattle.policy_apply.proofs.Made.{Has, Fresh, made-again, add-absent, add-present, add-nothing, kept-absent, kept-present, kept-nothing}
-use Rattle.policy_apply.proofs.SetLaws.{Within, within-all, all-within, within-trans, left-union, right-union, union-within, intersection-left, intersection-right, within-intersection, union-known, intersection-known}
+use Rattle.fed_json.proofs.SetLaws.{Within, within-all, all-within, within-trans, left-union, right-union, union-within, intersection-left, intersection-right, within-intersection, union-known, intersection-known}
 use Rattle.policy_apply.proofs.Standing.{Stands, stands}
 
 -- ---- members

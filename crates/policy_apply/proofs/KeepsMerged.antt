@@ -18,7 +18,7 @@ use Rattle.policy_merge.proofs.MergeWalk.{merging-ok, merging-clear}
 use Rattle.policy_merge.proofs.Lookups.{operators_at-merged, merge_clash-at}
 use Rattle.policy_apply.specs.Acting.{has_all, is_there}
 use Rattle.policy_apply.specs.Keeping.{is_value, is_within, KeepsWithin, IsMergedOf, OfEach}
-use Rattle.policy_apply.proofs.SetLaws.{Within, within-all, all-within, within-trans, left-union, right-union, intersection-left, intersection-right}
+use Rattle.fed_json.proofs.SetLaws.{Within, within-all, all-within, within-trans, left-union, right-union, intersection-left, intersection-right}
 
 -- ---- one operator
 

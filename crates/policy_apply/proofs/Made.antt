@@ -11,9 +11,10 @@ use Rattle.policy_merge.specs.declared.operators.Operators.{Operators}
 use Rattle.fed_json.specs.Tables.{Name}
 use Rattle.fed_base.specs.Values.{if_there}
 use Rattle.policy_merge.specs.Scope.{is_scope, is_empty, words, word_members, members_of}
-use Rattle.fed_json.proofs.Booleans.{left_true, right_true, both_true}
-use Rattle.policy_merge.proofs.Trees.{text_is, as_text-Text, as_list-List}
-use Rattle.policy_merge.proofs.MergedTables.{all-union, all-intersection}
+use Rattle.fed_json.proofs.Booleans.{left_true, right_true, both_true, not_true}
+use Rattle.fed_json.proofs.Accessors.{Text-as_text, as_text-Text, as_list-List}
+use Rattle.fed_json.proofs.Among.{all-union, all-intersection}
+use Rattle.policy_merge.proofs.Words.{is_space}
 use Rattle.policy_apply.specs.Acting.{joined_words, is_text, stays_text, made, with_added, by_add, with_kept, by_subset_of}
 use Rattle.policy_apply.specs.Keeping.{is_word, AddsWords}
 
@@ -25,15 +26,8 @@ spaceless bytes = list_all (λ byte. not (byte == 32)) bytes
 abbrev pub good_word : List ℕ → Bool
 good_word bytes = not (is_empty bytes) && spaceless bytes
 
-abbrev is_space : ℕ → Bool
-is_space byte = byte == 32
-
 no_space : (x : ℕ) (w : List ℕ) → spaceless (x ∷ w) ≡ true → is_space x ≡ false
-no_space x w good = by (x == 32) (left_true (not (x == 32)) _ good)
-  where
-    by : (b : Bool) → not b ≡ true → b ≡ false
-    by true e = absurd (cc)
-    by false e = refl
+no_space x w good = not_true (x == 32) (left_true (not (x == 32)) _ good)
 
 split_word : (w : List ℕ) → spaceless w ≡ true → slice_split is_space w ≡ w ∷ []
 split_word [] good = refl
@@ -104,7 +98,7 @@ texts-list (x ∷ xs) ws e = by (as_text x) refl (texts_in xs) refl e (texts-lis
     by (Some w) is_o None is_r e later = absurd (cc)
     by (Some w) is_o (Some vs) is_r e later =
         let is : w ∷ vs ≡ ws = (cc) in
-        ap (map Text) (sym is) ∙ ap₂ (λ t ts. t ∷ ts) (sym (text_is x w is_o)) (later vs is_r)
+        ap (map Text) (sym is) ∙ ap₂ (λ t ts. t ∷ ts) (sym (Text-as_text x w is_o)) (later vs is_r)
 
 words-good : (ws : List (List ℕ)) → list_all is_word (map Text ws) ≡ true → list_all good_word ws ≡ true
 words-good [] good = refl
@@ -193,7 +187,7 @@ before-words p v members stays e = by (as_text v) refl (right_true (is_scope p) 
     by : (o : Option (List ℕ)) → as_text v ≡ o → option_map_or (λ _. true) o false ≡ true → list_all is_word members ≡ true
     by None is there = absurd (cc)
     by (Some text) is there =
-        let same : Some (word_members text) ≡ Some members = sym (members-Text p text (left_true (is_scope p) _ stays)) ∙ ap (members_of p) (sym (text_is v text is)) ∙ e in
+        let same : Some (word_members text) ≡ Some members = sym (members-Text p text (left_true (is_scope p) _ stays)) ∙ ap (members_of p) (sym (Text-as_text v text is)) ∙ e in
         let are : word_members text ≡ members = (cc) in
         ap (list_all is_word) (sym are) ∙ word_members-words text
 

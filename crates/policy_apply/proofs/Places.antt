@@ -17,12 +17,13 @@ use Rattle.policy_merge.specs.Policies.{Parameters, Types, no_operators, operato
 use Rattle.fed_base.specs.Values.{if_there}
 use Rattle.policy_merge.specs.Merging.{name_of, value_or}
 use Rattle.fed_json.proofs.Booleans.{left_true, right_true}
-use Rattle.fed_json.proofs.Order.{equal-bytes_eq, bytes_eq-itself}
-use Rattle.policy_merge.proofs.Lookups.{is_name, side_at-absent, none_at}
-use Rattle.policy_merge.proofs.Least.{LeastSide, least_side}
-use Rattle.policy_merge.proofs.MergedTables.{table-names, table-values, item_of-passes}
-use Rattle.policy_merge.proofs.Trees.{as_object-Object}
-use Rattle.policy_merge.proofs.Firsts.{unless_ok, unless_err}
+use Rattle.fed_json.proofs.Order.{equal-bytes_eq, bytes_eq-back}
+use Rattle.fed_json.proofs.Options.{option_map_none}
+use Rattle.fed_json.proofs.Accessors.{as_object-Object}
+use Rattle.fed_json.proofs.Firsts.{unless_ok, unless_err}
+use Rattle.fed_json.proofs.NamesOfBoth.{is_name, item_of-passes, side_at-absent, none_at}
+use Rattle.fed_json.proofs.LeastSides.{LeastSide, least_side}
+use Rattle.policy_merge.proofs.MergedTables.{table-names, table-values}
 use Rattle.policy_apply.specs.declared.fault.ApplyFault.{ApplyFault}
 use Rattle.policy_apply.specs.declared.fault.ApplyFault.TheVariants.{Refused, Memory}
 use Rattle.policy_apply.specs.Acting.{Outcome, acted, by_value, by_add, by_default, by_one_of, by_subset_of, by_superset_of, by_essential, is_there}
@@ -88,29 +89,21 @@ found-given {U} us u ms g n (m ∷ names) = by (bytes_eq m n) refl (g (side_at u
     answer : Side U Member → Option Member
     answer = λ s. option_map (member_of s.name) (g s)
 
-    back : (b : Bool) → bytes_eq m n ≡ b → bytes_eq n m ≡ b
-    back true e = ap (λ x. bytes_eq n x) (equal-bytes_eq m n e) ∙ bytes_eq-itself n
-    back false e = by (bytes_eq n m) refl
-      where
-        by : (c : Bool) → bytes_eq n m ≡ c → bytes_eq n m ≡ false
-        by true is = let both : true ≡ false = sym (ap (bytes_eq m) (equal-bytes_eq n m is) ∙ bytes_eq-itself m) ∙ e in absurd (cc)
-        by false is = is
-
     by : (b : Bool) → bytes_eq m n ≡ b → (o : Option Json) → g (at m) ≡ o → find n (filter_map answer (map at names)) ≡ cond (list_any (bytes_eq n) names) (g (at n)) None
         → find n (cons_option (option_map (member_of m) o) (filter_map answer (map at names))) ≡ cond (bytes_eq n m || list_any (bytes_eq n) names) (g (at n)) None
     by true is_b (Some v) is_o rest =
         ap (λ b. cond b (Some v) (find n (filter_map answer (map at names)))) is_b
-        ∙ sym (ap (λ b. cond (b || list_any (bytes_eq n) names) (g (at n)) None) (back true is_b) ∙ ap (λ x. g (at x)) (sym (equal-bytes_eq m n is_b)) ∙ is_o)
+        ∙ sym (ap (λ b. cond (b || list_any (bytes_eq n) names) (g (at n)) None) (bytes_eq-back true m n is_b) ∙ ap (λ x. g (at x)) (sym (equal-bytes_eq m n is_b)) ∙ is_o)
     by true is_b None is_o rest =
         let none : g (at n) ≡ None = ap (λ x. g (at x)) (sym (equal-bytes_eq m n is_b)) ∙ is_o in
-        rest ∙ cond_none (list_any (bytes_eq n) names) none ∙ sym (ap (λ b. cond (b || list_any (bytes_eq n) names) (g (at n)) None) (back true is_b) ∙ none)
+        rest ∙ cond_none (list_any (bytes_eq n) names) none ∙ sym (ap (λ b. cond (b || list_any (bytes_eq n) names) (g (at n)) None) (bytes_eq-back true m n is_b) ∙ none)
       where
         cond_none : (b : Bool) → g (at n) ≡ None → cond b (g (at n)) None ≡ None
         cond_none true none = none
         cond_none false none = refl
     by false is_b (Some v) is_o rest =
-        ap (λ b. cond b (Some v) (find n (filter_map answer (map at names)))) is_b ∙ rest ∙ sym (ap (λ b. cond (b || list_any (bytes_eq n) names) (g (at n)) None) (back false is_b))
-    by false is_b None is_o rest = rest ∙ sym (ap (λ b. cond (b || list_any (bytes_eq n) names) (g (at n)) None) (back false is_b))
+        ap (λ b. cond b (Some v) (find n (filter_map answer (map at names)))) is_b ∙ rest ∙ sym (ap (λ b. cond (b || list_any (bytes_eq n) names) (g (at n)) None) (bytes_eq-back false m n is_b))
+    by false is_b None is_o rest = rest ∙ sym (ap (λ b. cond (b || list_any (bytes_eq n) names) (g (at n)) None) (bytes_eq-back false m n is_b))
 
 found-beside : {U : Type 0} (us : List U) (u : U → Name) (ms : List Member) (g : Side U Member → Option Json) (n : Name) → g (record { name = n; upper = None; lower = None }) ≡ None
     → find n (filter_map (λ s. option_map (member_of s.name) (g s)) (sides u member_name us ms)) ≡ g (side_at u member_name us ms n)
@@ -160,10 +153,6 @@ pub applying-err : (us us' : Types) (t : Json) (ms' : List Member) (f : ApplyFau
 unfolding applying_types applying
 applying-err us us' t ms' f is_u is_m gives = gives_on f _ _ _ _ gives (λ e some. ap₂ types_refusal (sym is_u) (sym is_m) ∙ some)
 
-none_of : {X Y : Type 0} (f : X → Y) (o : Option X) → option_map f o ≡ None → o ≡ None
-none_of f None e = refl
-none_of f (Some x) e = absurd (cc)
-
 left_is : (r : Outcome) → refuser r ≡ None → r ≡ Ok (left_of r)
 left_is (Ok x) e = refl
 left_is (Err operator) e = absurd (cc)
@@ -172,7 +161,7 @@ left_is (Err operator) e = absurd (cc)
 parameter_clear : (ty p : Name) (us : Parameters) (ms : List Member) → parameters_refusal ty us ms ≡ None → refuser (outcome_at (side_at name_of member_name us ms p)) ≡ None
 unfolding parameters_refusal
 parameter_clear ty p us ms none =
-    none_of (λ operator. Refused ty p operator) _ (none_at name_of member_name (parameter_refusal ty) us ms p none (ap (λ r. option_map (λ operator. Refused ty p operator) (refuser r)) (acted-nothing p None)))
+    option_map_none (λ operator. Refused ty p operator) _ (none_at name_of member_name (parameter_refusal ty) us ms p none (ap (λ r. option_map (λ operator. Refused ty p operator) (refuser r)) (acted-nothing p None)))
 
 type_clear : (us : Types) (ms : List Member) (ty : Name) (m : Member) → type_refusal (side_at name_of member_name us ms ty) ≡ None → item_of member_name ty ms ≡ Some m
     → parameters_refusal ty (parameters_at us ty) (object_members m.value) ≡ None
@@ -225,7 +214,7 @@ at_parameter ty us ms a b operator rise e =
     let is = refused_is ty l.name (outcome_at (side_at name_of member_name us ms l.name)) a b operator l.here in (
       is.0,
       subst (λ n. outcome_at (side_at name_of member_name us ms n) ≡ Err operator) is.1 is.2,
-      λ p early. none_of (λ operator. Refused ty p operator) _ (l.before p (ap (is_before p) is.1 ∙ early)),
+      λ p early. option_map_none (λ operator. Refused ty p operator) _ (l.before p (ap (is_before p) is.1 ∙ early)),
     )
 
 first_refusal : (us : Types) (t : Json) (a b : Name) (operator : Operator) → whole t ≡ true → types_refusal us (object_members t) ≡ Some (Refused a b operator) → IsFirstRefusal us t (Refused a b operator)

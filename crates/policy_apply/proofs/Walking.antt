@@ -11,15 +11,15 @@ use Rattle.fed_json.specs.declared.tree.Json.{Json, Object}
 use Rattle.fed_json.specs.declared.tree.Member.{Member}
 use Rattle.fed_json.specs.declared.named.Named.{Named}
 use Rattle.policy_merge.specs.declared.operators.Operators.{Operators}
-use Rattle.fed_json.specs.Tables.{Name, Side}
+use Rattle.fed_json.specs.Tables.{Name, Side, first}
 use Rattle.policy_merge.specs.Policies.{Parameters, Types, no_operators, table_formed}
 use Rattle.fed_base.specs.Values.{if_there}
-use Rattle.policy_merge.specs.Combining.{first}
 use Rattle.policy_merge.specs.Merging.{name_of, value_or}
 use Rattle.fed_json.proofs.Booleans.{left_true, right_true, both_true}
-use Rattle.policy_merge.proofs.MergedTables.{side_passes, sides-pass, table-names, table-values}
-use Rattle.policy_merge.proofs.Trees.{whole-members}
-use Rattle.policy_merge.proofs.Firsts.{unless_ok, unless_err}
+use Rattle.fed_json.proofs.Accessors.{whole-members}
+use Rattle.fed_json.proofs.Firsts.{unless_ok, unless_err}
+use Rattle.fed_json.proofs.NamesOfBoth.{side_passes, sides-pass}
+use Rattle.policy_merge.proofs.MergedTables.{table-names, table-values}
 use Rattle.policy_apply.specs.declared.fault.ApplyFault.{ApplyFault}
 use Rattle.policy_apply.specs.declared.fault.ApplyFault.TheVariants.{Refused, Memory}
 use Rattle.policy_apply.specs.Acting.{Outcome, acted}

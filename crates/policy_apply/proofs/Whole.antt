@@ -10,7 +10,7 @@ use Rattle.fed_json.specs.Trees.{as_object, object_members, member_name}
 use Rattle.fed_json.specs.Sets.{union_of, intersection_of}
 use Rattle.fed_json.specs.declared.tree.Json.{Json, Text, List as ListOf, Object, the_lemmas}
 use Rattle.fed_json.specs.declared.tree.Member.{Member}
-use Rattle.fed_json.proofs.Layers.{whole-List, whole-Object}
+use Rattle.fed_json.proofs.Layers.{whole-Text, whole-List, whole-Object}
 use Rattle.fed_json.specs.declared.named.Named.{Named}
 use Rattle.policy_merge.specs.declared.operator.Operator.TheVariants.{Add, SubsetOf}
 use Rattle.policy_merge.specs.declared.operators.Operators.{Operators}
@@ -25,9 +25,11 @@ use Rattle.policy_merge.specs.Merging.{name_of, value_or}
 use Rattle.fed_json.proofs.Booleans.{left_true, right_true, both_true}
 use Rattle.fed_json.proofs.Names.{rising-tail}
 use Rattle.fed_json.proofs.Order.{first_before, rising-cons}
-use Rattle.policy_merge.proofs.MergedTables.{side_passes, sides-pass, table-names, table-values, all-union, all-intersection, rising-names_of_both, name-sides}
-use Rattle.policy_merge.proofs.Trees.{as_object-Object, object_is}
-use Rattle.policy_merge.proofs.Words.{whole-Text, members-whole}
+use Rattle.fed_json.proofs.Accessors.{as_object-Object, whole-members}
+use Rattle.fed_json.proofs.Among.{all-union, all-intersection}
+use Rattle.fed_json.proofs.NamesOfBoth.{side_passes, sides-pass, rising-names_of_both, name-sides}
+use Rattle.policy_merge.proofs.MergedTables.{table-names, table-values}
+use Rattle.policy_merge.proofs.Words.{members-whole}
 use Rattle.policy_apply.specs.Acting.{Outcome, made, acted, by_add, by_subset_of, with_added, with_kept}
 use Rattle.policy_apply.specs.Applying.{beside_members, left_of, outcome_at, applied_parameters, applied_types}
 use Rattle.policy_apply.proofs.Courses.{course, set_first}
@@ -139,7 +141,7 @@ good-members q t good = by (as_object t) refl (right_true (whole t) _ good)
     by : (o : Option (List Member)) → as_object t ≡ o → option_map_or (list_all (λ m. q m.value)) o false ≡ true → (members_whole (unwrap_or o []) ≡ true) × (list_all (λ m. whole m.value && q m.value) (unwrap_or o []) ≡ true)
     by None is all = absurd (cc)
     by (Some ms) is all =
-        let w : members_whole ms ≡ true = sym (whole-Object ms) ∙ ap whole (sym (object_is t ms is)) ∙ left_true (whole t) _ good in
+        let w : members_whole ms ≡ true = whole-members t ms (left_true (whole t) _ good) is in
         (w, both ms (right_true (rising (map member_name ms)) _ w) all)
 
 good-Object : (q : Json → Bool) (ms : List Member) → rising (map member_name ms) ≡ true → list_all (λ m. is_utf8 m.name && (whole m.value && q m.value)) ms ≡ true → is_good q (Object ms) ≡ true

@@ -107,7 +107,7 @@ acted name o x =
     by_value o x >>= by_add name o >>= by_default o >>= by_one_of o >>= by_subset_of name o >>= by_superset_of name o >>= by_essential o
 
 -- the code's answer is the outcome; of want of memory nothing is said
-abbrev pub Leaves : Result (Option Json) Stop → Outcome → Type 0
-Leaves (Ok x) outcome = outcome ≡ Ok x
-Leaves (Err (Refused operator)) outcome = outcome ≡ Err operator
-Leaves (Err Memory) outcome = Unit {0}
+abbrev pub Gives : Result (Option Json) Stop → Outcome → Type 0
+Gives (Ok x) outcome = outcome ≡ Ok x
+Gives (Err (Refused operator)) outcome = outcome ≡ Err operator
+Gives (Err Memory) outcome = Unit {0}

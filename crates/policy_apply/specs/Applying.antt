@@ -1,6 +1,6 @@
 -- Metadata under a policy (OpenID Federation 1.0 section 6.1.4.2).
 use Rattle.std.specs.Prelude.{◌≡◌, IsTrue, List, [], Option, Some, None, option_map, Result, Ok, Err}
-use Rattle.std.specs.Option.{option_and_then}
+use Rattle.fed_base.specs.Values.{◌>>=◌}
 use Rattle.std.specs.List.{filter_map}
 use Rattle.fed_base.specs.Answers.{unless}
 use Rattle.fed_json.specs.Reading.{member_of}
@@ -10,10 +10,9 @@ use Rattle.fed_json.specs.declared.tree.Member.{Member}
 use Rattle.fed_json.specs.declared.named.Named.{Named}
 use Rattle.policy_merge.specs.declared.operator.Operator.{Operator}
 use Rattle.policy_merge.specs.declared.operators.Operators.{Operators}
-use Rattle.fed_json.specs.Tables.{Name, Side, sides}
+use Rattle.fed_json.specs.Tables.{Name, Side, sides, first}
 use Rattle.policy_merge.specs.Places.{IsEarlier, AreUtf8}
 use Rattle.policy_merge.specs.Policies.{Parameters, Types, no_operators, operators_at}
-use Rattle.policy_merge.specs.Combining.{first}
 use Rattle.policy_merge.specs.Merging.{name_of, value_or}
 use Rattle.policy_apply.specs.declared.fault.ApplyFault.{ApplyFault}
 use Rattle.policy_apply.specs.declared.fault.ApplyFault.TheVariants.{Refused, Memory}
@@ -59,7 +58,7 @@ type_left s =
 
 -- the first refusal in an entity type that the metadata has
 abbrev pub type_refusal : Side (Named Parameters) Member → Option ApplyFault
-type_refusal s = option_and_then (λ m. parameters_refusal s.name (value_or [] s.upper) (object_members m.value)) s.lower
+type_refusal s = s.lower >>= λ m. parameters_refusal s.name (value_or [] s.upper) (object_members m.value)
 
 -- the entity types with the parameters that are left
 unfoldable pub applied_types : Types → List Member → List Member
@@ -106,7 +105,7 @@ value_at tree name = find name (object_members tree)
 
 -- the parameter of an entity type (section 5)
 abbrev pub parameter_at : Json → Name → Name → Option Json
-parameter_at metadata entity_type parameter = option_and_then (λ tree. value_at tree parameter) (value_at metadata entity_type)
+parameter_at metadata entity_type parameter = value_at metadata entity_type >>= λ tree. value_at tree parameter
 
 -- the metadata has the entity type (section 5)
 abbrev pub HasType : Json → Name → Type 0

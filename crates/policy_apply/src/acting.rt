@@ -5,11 +5,11 @@ ghost use Rattle.std.specs.Option.{option_copied};
 ghost use Rattle.std.specs.List.{join_with_byte};
 ghost use Rattle.fed_json.specs.Trees.{texts_in};
 ghost use Rattle.fed_base.specs.Values.{if_there};
-ghost use Rattle.policy_apply.specs.Acting.{Leaves, acted as acted_on, by_value as value_by, by_add as add_by, by_default as default_by, by_one_of as one_of_by, by_subset_of as subset_of_by, by_superset_of as superset_of_by, by_essential as essential_by, made as made_of, stays_text as text_stays, with_added as added_to, with_kept as kept_of, is_one_of as one_of_passes, is_superset_of as superset_of_passes, is_enough as essential_passes};
+ghost use Rattle.policy_apply.specs.Acting.{Gives, acted as acted_on, by_value as value_by, by_add as add_by, by_default as default_by, by_one_of as one_of_by, by_subset_of as subset_of_by, by_superset_of as superset_of_by, by_essential as essential_by, made as made_of, stays_text as text_stays, with_added as added_to, with_kept as kept_of, is_one_of as one_of_passes, is_superset_of as superset_of_passes, is_enough as essential_passes};
 
 use crate::stop::Stop;
-use fed_json::{Json, includes, intersect, is_member, union};
 use fed_base::{Duplicate, Memory, Seq, Text};
+use fed_json::{Json, includes, intersect, is_member, union};
 use policy_merge::{Operator, Operators, is_scope, members, words_in};
 use std::alloc::Global;
 
@@ -22,7 +22,7 @@ pub(crate) fn acted(
     operators: &Operators,
     value: Option<&Json>,
 ) -> Result<Option<Json>, Stop>
-    ensures { Leaves result (acted_on name.now operators.now (option_copied value.entry)) }
+    ensures { Gives result (acted_on name.now operators.now (option_copied value.entry)) }
 {
     let value = by_value(alloc, operators, value)?;
     let value = by_add(alloc, name, operators, value)?;
@@ -39,7 +39,7 @@ fn by_value(
     operators: &Operators,
     value: Option<&Json>,
 ) -> Result<Option<Json>, Stop>
-    ensures { Leaves result (value_by operators.now (option_copied value.entry)) }
+    ensures { Gives result (value_by operators.now (option_copied value.entry)) }
 {
     match (&operators.value, value) {
         (Some(Json::Null), _) => Ok(None),
@@ -56,7 +56,7 @@ fn by_add(
     operators: &Operators,
     value: Option<Json>,
 ) -> Result<Option<Json>, Stop>
-    ensures { Leaves result (add_by name.now operators.now value) }
+    ensures { Gives result (add_by name.now operators.now value) }
 {
     match &operators.add {
         Some(list) => with_added(alloc, name, list, value.as_ref()),
@@ -71,7 +71,7 @@ fn with_added(
     list: &Seq<Json>,
     value: Option<&Json>,
 ) -> Result<Option<Json>, Stop>
-    ensures { Leaves result (added_to name.now list.now (option_copied value.entry)) }
+    ensures { Gives result (added_to name.now list.now (option_copied value.entry)) }
 {
     let Some(value) = value else {
         let list = union(alloc, list, &Seq::new(alloc))?;
@@ -93,7 +93,7 @@ fn by_default(
     operators: &Operators,
     value: Option<Json>,
 ) -> Result<Option<Json>, Stop>
-    ensures { Leaves result (default_by operators.now value) }
+    ensures { Gives result (default_by operators.now value) }
 {
     match (value, &operators.default) {
         (Some(value), _) => Ok(Some(value)),
@@ -104,7 +104,7 @@ fn by_default(
 
 #[tactic(auto, unfolding(crate::specs::Acting::by_one_of))]
 fn by_one_of(operators: &Operators, value: Option<Json>) -> Result<Option<Json>, Stop>
-    ensures { Leaves result (one_of_by operators.now value) }
+    ensures { Gives result (one_of_by operators.now value) }
 {
     if is_one_of(&operators.one_of, value.as_ref()) {
         Ok(value)
@@ -129,7 +129,7 @@ fn by_subset_of(
     operators: &Operators,
     value: Option<Json>,
 ) -> Result<Option<Json>, Stop>
-    ensures { Leaves result (subset_of_by name.now operators.now value) }
+    ensures { Gives result (subset_of_by name.now operators.now value) }
 {
     match &operators.subset_of {
         Some(list) => with_kept(alloc, name, list, value.as_ref()),
@@ -144,7 +144,7 @@ fn with_kept(
     list: &Seq<Json>,
     value: Option<&Json>,
 ) -> Result<Option<Json>, Stop>
-    ensures { Leaves result (kept_of name.now list.now (option_copied value.entry)) }
+    ensures { Gives result (kept_of name.now list.now (option_copied value.entry)) }
 {
     let Some(value) = value else {
         return Ok(None);
@@ -166,7 +166,7 @@ fn by_superset_of(
     operators: &Operators,
     value: Option<Json>,
 ) -> Result<Option<Json>, Stop>
-    ensures { Leaves result (superset_of_by name.now operators.now value) }
+    ensures { Gives result (superset_of_by name.now operators.now value) }
 {
     if is_superset_of(alloc, name, &operators.superset_of, value.as_ref())? {
         Ok(value)
@@ -195,7 +195,7 @@ fn is_superset_of(
 
 #[tactic(auto, unfolding(crate::specs::Acting::by_essential))]
 fn by_essential(operators: &Operators, value: Option<Json>) -> Result<Option<Json>, Stop>
-    ensures { Leaves result (essential_by operators.now value) }
+    ensures { Gives result (essential_by operators.now value) }
 {
     if is_enough(operators.essential, value.as_ref()) {
         Ok(value)
@@ -219,7 +219,7 @@ fn made(
     before: Option<&Json>,
     list: Seq<Json>,
 ) -> Result<Option<Json>, Stop>
-    ensures { Leaves result (made_of name.now operator (option_copied before.entry) list) }
+    ensures { Gives result (made_of name.now operator (option_copied before.entry) list) }
 {
     if !stays_text(name, before) {
         return Ok(Some(Json::List(list)));

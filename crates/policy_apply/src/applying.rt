@@ -17,8 +17,8 @@ ghost use Rattle.policy_apply.specs.Keeping.{KeepsWithin, AddsWords, IsMergedOf,
 use crate::acting::acted;
 use crate::fault::ApplyFault;
 use crate::stop::Stop;
-use fed_json::{Json, Member, Named, Side, Sides, object_members};
 use fed_base::{Duplicate, Seq, Text};
+use fed_json::{Json, Member, Named, Side, Sides, object_members};
 use policy_merge::{Operator, Operators, Parameters, Policy, operators_of, parameters_of};
 use std::alloc::Global;
 

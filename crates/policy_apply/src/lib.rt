@@ -1,4 +1,4 @@
-//! Metadata under a policy of OpenID Federation 1.0 (section 6.1.4.2).
+//! Layer 4, statements: metadata under a policy of OpenID Federation 1.0 (section 6.1.4.2).
 //!
 //! The chain checker merges the policies of a chain by `policy_merge` and applies the result to the leaf's metadata
 //! here. What comes out keeps within each of the policies that were merged.

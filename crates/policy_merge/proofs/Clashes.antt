@@ -12,7 +12,7 @@ use Rattle.fed_json.specs.declared.named.Named.{Named}
 use Rattle.policy_merge.specs.declared.fault.PolicyFault.{PolicyFault}
 use Rattle.policy_merge.specs.Policies.{Parameters, Types}
 use Rattle.policy_merge.specs.Combining.{Pair, stand, judged, pairs, clash, conflict_at, conflict_in_parameters, conflict_in}
-use Rattle.policy_merge.proofs.Firsts.{first_more, first_found}
+use Rattle.fed_json.proofs.Firsts.{first_more, first_found}
 
 -- with the members at hand
 pub clash-members : (name : Name) (o : Operators) (value_members default_members : Option (List Json))

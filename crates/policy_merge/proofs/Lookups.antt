@@ -1,100 +1,16 @@
 -- What two tables side by side have under a name.
-use Rattle.std.proofs.Common.{◌≡◌, List, [], ◌∷◌, Option, Some, None, option_map, Bool, true, false, ◌||◌, cond, map, bytes_eq, refl, sym, ap, ap₂, ◌∙◌, true≢false, Ordering, Less, Equal, Greater, nat_cmp}
+use Rattle.std.proofs.Common.{◌≡◌, List, [], ◌∷◌, Option, Some, None, option_map, Bool, true, false, ◌||◌, cond, map, bytes_eq, refl, sym, ap, ◌∙◌}
 use Rattle.std.specs.Option.{option_map_or}
-use Rattle.std.specs.Ordering.{match_ordering}
 use Rattle.std.specs.List.{list_any}
-use Rattle.std.specs.Cmp.Lexicographic.{slice_cmp}
 use Rattle.fed_json.specs.declared.named.Named.{Named}
 use Rattle.policy_merge.specs.declared.operators.Operators.{Operators}
-use Rattle.fed_json.specs.Tables.{Name, with_name, names_of_both, item_of, Side, side_at, sides}
+use Rattle.fed_json.specs.Tables.{Name, names_of_both, item_of, Side, side_at, sides, first}
 use Rattle.policy_merge.specs.Policies.{Parameters, Types, named, no_operators, parameters_at, operators_at}
-use Rattle.policy_merge.specs.Combining.{clash, first, conflict_at, conflict_in_parameters, conflict_in, stand, judged, pairs}
+use Rattle.policy_merge.specs.Combining.{clash, conflict_at, conflict_in_parameters, conflict_in, stand, judged, pairs}
 use Rattle.policy_merge.specs.Merging.{name_of, value_or, beside, merged_operators, merge_clash, merged_parameters, merged, parameter_conflict, parameters_conflict, type_conflict, merge_conflict}
-use Rattle.fed_json.proofs.Order.{equal-bytes_eq, bytes_eq-itself, equal-cmp}
-use Rattle.policy_merge.proofs.Neutral.{option_map_none}
-
--- ---- the names of both
-
-or_swap : (a b c : Bool) → (a || (b || c)) ≡ (b || (a || c))
-or_swap true true c = refl
-or_swap true false c = refl
-or_swap false b c = refl
-
-or_same : (a c : Bool) → (a || c) ≡ (a || (a || c))
-or_same true c = refl
-or_same false c = refl
-
-or_assoc : (a b c : Bool) → ((a || b) || c) ≡ (a || (b || c))
-or_assoc true b c = refl
-or_assoc false b c = refl
-
-unfoldable pub is_name : Name → List Name → Bool
-is_name name names = list_any (bytes_eq name) names
-
-any-with_name : (n a : Name) (names : List Name) → is_name n (with_name a names) ≡ (bytes_eq n a || is_name n names)
-unfolding is_name
-any-with_name n a [] = refl
-any-with_name n a (b ∷ names) = by (slice_cmp nat_cmp a b) refl (any-with_name n a names)
-  where
-    by : (o : Ordering) → slice_cmp nat_cmp a b ≡ o → list_any (bytes_eq n) (with_name a names) ≡ (bytes_eq n a || list_any (bytes_eq n) names)
-        → list_any (bytes_eq n) (match_ordering o (a ∷ b ∷ names) (b ∷ names) (b ∷ with_name a names)) ≡ (bytes_eq n a || (bytes_eq n b || list_any (bytes_eq n) names))
-    by Less o rest = refl
-    by Equal o rest = or_same (bytes_eq n b) (list_any (bytes_eq n) names) ∙ ap (λ c. bytes_eq n c || (bytes_eq n b || list_any (bytes_eq n) names)) (sym (equal-cmp a b o))
-    by Greater o rest = ap (λ c. bytes_eq n b || c) rest ∙ or_swap (bytes_eq n b) (bytes_eq n a) (list_any (bytes_eq n) names)
-
-any-names_of_both : (n : Name) (us ls : List Name) → is_name n (names_of_both us ls) ≡ (is_name n us || is_name n ls)
-unfolding is_name names_of_both
-any-names_of_both n [] ls = refl
-any-names_of_both n (a ∷ us) ls = any-with_name n a (names_of_both us ls) ∙ ap (λ c. bytes_eq n a || c) (any-names_of_both n us ls) ∙ sym (or_assoc (bytes_eq n a) (list_any (bytes_eq n) us) (list_any (bytes_eq n) ls))
-
-eq_back : (b : Bool) (m n : Name) → bytes_eq m n ≡ b → bytes_eq n m ≡ b
-eq_back true m n e = ap (λ x. bytes_eq n x) (equal-bytes_eq m n e) ∙ bytes_eq-itself n
-eq_back false m n e = by (bytes_eq n m) refl
-  where
-    by : (c : Bool) → bytes_eq n m ≡ c → bytes_eq n m ≡ false
-    by true is = absurd (true≢false (sym (ap (bytes_eq m) (equal-bytes_eq n m is) ∙ bytes_eq-itself m) ∙ e))
-    by false is = is
-
-or_none : (a b : Bool) → (a || b) ≡ false → (a ≡ false) × (b ≡ false)
-or_none true b e = absurd (cc)
-or_none false b e = (refl, e)
-
--- a name that no item has
-item_of-absent : {X : Type 0} (name_of : X → Name) (n : Name) (xs : List X) → is_name n (map name_of xs) ≡ false → item_of name_of n xs ≡ None
-unfolding is_name
-item_of-absent name_of n [] e = refl
-item_of-absent name_of n (x ∷ xs) e =
-    let parts = or_none (bytes_eq n (name_of x)) (list_any (bytes_eq n) (map name_of xs)) e in
-    ap (λ b. cond b (Some x) (item_of name_of n xs)) (eq_back false n (name_of x) parts.0) ∙ item_of-absent name_of n xs parts.1
-
--- a name of neither list has nothing beside it
-pub side_at-absent : {U L : Type 0} (u : U → Name) (l : L → Name) (us : List U) (ls : List L) (n : Name) → is_name n (names_of_both (map u us) (map l ls)) ≡ false
-    → side_at u l us ls n ≡ record { name = n; upper = None; lower = None }
-side_at-absent {U} {L} u l us ls n e =
-    let parts = or_none (is_name n (map u us)) (is_name n (map l ls)) (sym (any-names_of_both n (map u us) (map l ls)) ∙ e) in
-    ap₂ (λ (a : Option U) (b : Option L). record { name = n; upper = a; lower = b }) (item_of-absent u n us parts.0) (item_of-absent l n ls parts.1)
-
--- ---- what holds of each side holds at each name
-
-none_each : {S F : Type 0} (f : S → Option F) (at : Name → S) (n : Name) (names : List Name) → first f (map at names) ≡ None → is_name n names ≡ true → f (at n) ≡ None
-unfolding is_name
-none_each f at n [] none is = absurd (cc)
-none_each {F = F} f at n (m ∷ names) none is = by (f (at m)) refl none (bytes_eq n m) refl is (none_each f at n names)
-  where
-    by : (o : Option F) → f (at m) ≡ o → option_map_or Some o (first f (map at names)) ≡ None → (b : Bool) → bytes_eq n m ≡ b → (b || list_any (bytes_eq n) names) ≡ true
-        → (first f (map at names) ≡ None → list_any (bytes_eq n) names ≡ true → f (at n) ≡ None) → f (at n) ≡ None
-    by (Some y) is_o none b is_b is later = absurd (cc)
-    by None is_o none true is_b is later = ap (λ x. f (at x)) (equal-bytes_eq n m is_b) ∙ is_o
-    by None is_o none false is_b is later = later none is
-
-pub none_at : {U L F : Type 0} (u : U → Name) (l : L → Name) (f : Side U L → Option F) (us : List U) (ls : List L) (n : Name)
-    → first f (sides u l us ls) ≡ None → f (record { name = n; upper = None; lower = None }) ≡ None → f (side_at u l us ls n) ≡ None
-unfolding sides
-none_at u l f us ls n none empty = by (is_name n (names_of_both (map u us) (map l ls))) refl
-  where
-    by : (b : Bool) → is_name n (names_of_both (map u us) (map l ls)) ≡ b → f (side_at u l us ls n) ≡ None
-    by true is = none_each f (side_at u l us ls) n _ none is
-    by false is = ap f (side_at-absent u l us ls n is) ∙ empty
+use Rattle.fed_json.proofs.NamesOfBoth.{is_name, side_at-absent, none_at}
+use Rattle.fed_json.proofs.Options.{option_map_none}
+use Rattle.fed_json.proofs.Order.{equal-bytes_eq, bytes_eq-back}
 
 -- ---- a merged table at a name
 
@@ -107,8 +23,8 @@ module _ {S T : Type 0} (at : Name → S) (f : S → T) where
       by : (b : Bool) → bytes_eq m n ≡ b → item_of name_of n (map (λ m. named m (f (at m))) names) ≡ cond (list_any (bytes_eq n) names) (Some (named n (f (at n)))) None
           → cond b (Some (named m (f (at m)))) (item_of name_of n (map (λ m. named m (f (at m))) names)) ≡ cond (bytes_eq n m || list_any (bytes_eq n) names) (Some (named n (f (at n)))) None
       by true is rest =
-          ap (λ x. Some (named x (f (at x)))) (equal-bytes_eq m n is) ∙ sym (ap (λ b. cond (b || list_any (bytes_eq n) names) (Some (named n (f (at n)))) None) (eq_back true m n is))
-      by false is rest = rest ∙ sym (ap (λ b. cond (b || list_any (bytes_eq n) names) (Some (named n (f (at n)))) None) (eq_back false m n is))
+          ap (λ x. Some (named x (f (at x)))) (equal-bytes_eq m n is) ∙ sym (ap (λ b. cond (b || list_any (bytes_eq n) names) (Some (named n (f (at n)))) None) (bytes_eq-back true m n is))
+      by false is rest = rest ∙ sym (ap (λ b. cond (b || list_any (bytes_eq n) names) (Some (named n (f (at n)))) None) (bytes_eq-back false m n is))
 
 map-map : {X Y Z : Type 0} (g : Y → Z) (f : X → Y) (xs : List X) → map g (map f xs) ≡ map (λ x. g (f x)) xs
 map-map g f [] = refl

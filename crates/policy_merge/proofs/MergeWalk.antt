@@ -4,13 +4,14 @@ use Rattle.std.specs.Str.{is_utf8}
 use Rattle.policy_merge.specs.declared.fault.PolicyFault.{PolicyFault}
 use Rattle.policy_merge.specs.declared.operators.Operators.{Operators}
 use Rattle.fed_json.specs.declared.named.Named.{Named}
-use Rattle.fed_json.specs.Tables.{Name, Side}
+use Rattle.fed_json.specs.Tables.{Name, Side, first}
 use Rattle.policy_merge.specs.Policies.{Parameters, Types, named, no_operators, parameters_formed}
 use Rattle.fed_base.specs.Values.{if_there}
-use Rattle.policy_merge.specs.Combining.{first, conflict_at, Gives}
+use Rattle.policy_merge.specs.Combining.{conflict_at, Gives}
 use Rattle.policy_merge.specs.Merging.{merged_operators, merge_clash, merging_operators, value_or, beside, merged_parameter, merged_parameters, merged_type, merged, parameter_conflict, parameters_conflict, type_conflict, merge_conflict, merging_parameters, merging}
 use Rattle.fed_json.proofs.Booleans.{left_true, right_true}
-use Rattle.policy_merge.proofs.Firsts.{unless_ok, unless_none, gives_on}
+use Rattle.fed_json.proofs.Firsts.{unless_ok, unless_none}
+use Rattle.policy_merge.proofs.Faults.{gives_on}
 use Rattle.policy_merge.proofs.MergedTables.{side_formed, value_or-formed}
 
 -- ---- parameters

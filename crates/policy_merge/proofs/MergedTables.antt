@@ -1,76 +1,19 @@
 -- Tables that are merged: what every side has, and what the merged table is.
-use Rattle.std.proofs.Common.{◌≡◌, List, [], ◌∷◌, ◌++◌, Option, Some, None, Bool, true, false, ◌&&◌, not, map, filter, cond, bytes_eq, refl, ap, ◌∙◌, Ordering, Less, Equal, Greater, nat_cmp}
-use Rattle.std.specs.Ordering.{match_ordering}
+use Rattle.std.proofs.Common.{◌≡◌, List, [], ◌∷◌, Option, Some, None, Bool, true, ◌&&◌, not, map, refl, ap, ◌∙◌}
 use Rattle.std.specs.List.{list_all}
 use Rattle.std.specs.Str.{is_utf8}
-use Rattle.std.specs.Cmp.Lexicographic.{slice_cmp}
-use Rattle.std.proofs.lemmas.List.Folds.{list_all-append}
-use Rattle.fed_json.specs.declared.tree.Json.{Json}
-use Rattle.fed_json.specs.Forms.{is_before, rising, whole}
-use Rattle.fed_json.specs.Sets.{same, is_among, once, union_of, intersection_of}
+use Rattle.fed_json.specs.Forms.{rising, whole}
+use Rattle.fed_json.specs.Sets.{union_of, intersection_of}
 use Rattle.fed_json.specs.declared.named.Named.{Named}
 use Rattle.policy_merge.specs.declared.operators.Operators.{Operators}
-use Rattle.fed_json.specs.Tables.{Name, with_name, names_of_both, item_of, Side, side_at, sides}
+use Rattle.fed_json.specs.Tables.{Side}
 use Rattle.policy_merge.specs.Policies.{Parameters, Types, named, no_operators, operators_formed, table_formed, parameters_formed, types_formed}
 use Rattle.fed_json.specs.Trees.{is_null}
 use Rattle.fed_base.specs.Values.{if_there}
 use Rattle.policy_merge.specs.Merging.{met, merged_operators, value_or, name_of, beside, merged_parameters, merged}
 use Rattle.fed_json.proofs.Booleans.{left_true, right_true, both_true}
-use Rattle.fed_json.proofs.Names.{rising-tail}
-use Rattle.fed_json.proofs.Order.{before-cmp_less, before-cmp_greater, first_before, rising-cons}
-use Rattle.fed_json.proofs.SideBySide.{all_with_name, all_names_of_both}
-
--- ---- the names of both rise
-
-rising-with_name : (a : Name) (names : List Name) → rising names ≡ true → rising (with_name a names) ≡ true
-rising-with_name a [] rise = refl
-rising-with_name a (b ∷ names) rise = by (slice_cmp nat_cmp a b) refl (rising-with_name a names (rising-tail b names rise))
-  where
-    by : (o : Ordering) → slice_cmp nat_cmp a b ≡ o → rising (with_name a names) ≡ true → rising (match_ordering o (a ∷ b ∷ names) (b ∷ names) (b ∷ with_name a names)) ≡ true
-    by Less o rest = both_true (before-cmp_less a b o) rise
-    by Equal o rest = rise
-    by Greater o rest = rising-cons b (with_name a names) (all_with_name (is_before b) a names (before-cmp_greater a b o) (first_before b names rise)) rest
-
-pub rising-names_of_both : (us bs : List Name) → rising bs ≡ true → rising (names_of_both us bs) ≡ true
-unfolding names_of_both
-rising-names_of_both [] bs rise = rise
-rising-names_of_both (a ∷ us) bs rise = rising-with_name a _ (rising-names_of_both us bs rise)
-
--- ---- a test that items pass
-
-pub item_of-passes : {X : Type 0} (name_of : X → Name) (p : X → Bool) (name : Name) (xs : List X) → list_all p xs ≡ true → if_there p (item_of name_of name xs) ≡ true
-item_of-passes name_of p name [] all = refl
-item_of-passes name_of p name (x ∷ xs) all = by (bytes_eq (name_of x) name) (item_of-passes name_of p name xs (right_true (p x) _ all))
-  where
-    by : (b : Bool) → if_there p (item_of name_of name xs) ≡ true → if_there p (cond b (Some x) (item_of name_of name xs)) ≡ true
-    by true rest = left_true (p x) _ all
-    by false rest = rest
-
-module _ {U L : Type 0} (u : U → Name) (l : L → Name) (p : Name → Bool) (q : U → Bool) (r : L → Bool) where
-  -- a side's name, upper and lower item pass
-  abbrev pub side_passes : Side U L → Bool
-  side_passes s = p s.name && (if_there q s.upper && if_there r s.lower)
-
-  passes_at : (us : List U) (ls : List L) → list_all q us ≡ true → list_all r ls ≡ true → (names : List Name) → list_all p names ≡ true
-      → list_all side_passes (map (side_at u l us ls) names) ≡ true
-  passes_at us ls all_us all_ls [] all = refl
-  passes_at us ls all_us all_ls (n ∷ names) all =
-      both_true (both_true (left_true (p n) _ all) (both_true (item_of-passes u q n us all_us) (item_of-passes l r n ls all_ls)))
-      (passes_at us ls all_us all_ls names (right_true (p n) _ all))
-
-  pub sides-pass : (us : List U) (ls : List L) → list_all p (map u us) ≡ true → list_all p (map l ls) ≡ true → list_all q us ≡ true → list_all r ls ≡ true
-      → list_all side_passes (sides u l us ls) ≡ true
-  unfolding sides
-  sides-pass us ls names_us names_ls all_us all_ls = passes_at us ls all_us all_ls _ (all_names_of_both p (map u us) (map l ls) names_us names_ls)
-
-names_of_sides : {U L : Type 0} (u : U → Name) (l : L → Name) (us : List U) (ls : List L) (names : List Name) → map (λ (s : Side U L). s.name) (map (side_at u l us ls) names) ≡ names
-names_of_sides u l us ls [] = refl
-names_of_sides u l us ls (n ∷ names) = ap (λ rest. n ∷ rest) (names_of_sides u l us ls names)
-
--- the names of the sides are those of both, in their order
-pub name-sides : {U L : Type 0} (u : U → Name) (l : L → Name) (us : List U) (ls : List L) → map (λ s. s.name) (sides u l us ls) ≡ names_of_both (map u us) (map l ls)
-unfolding sides
-name-sides u l us ls = names_of_sides u l us ls _
+use Rattle.fed_json.proofs.Among.{all-union, all-intersection}
+use Rattle.fed_json.proofs.NamesOfBoth.{rising-names_of_both, side_passes, sides-pass, name-sides}
 
 -- ---- what is formed
 
@@ -119,26 +62,6 @@ module _ {T : Type 0} (formed : T → Bool) where
   pub value_or-formed : (none : T) → formed none ≡ true → (o : Option (Named T)) → if_there (λ e. formed e.value) o ≡ true → formed (value_or none o) ≡ true
   value_or-formed none good None there = good
   value_or-formed none good (Some e) there = there
-
--- ---- lists as sets
-
-list_all-filter : (p q : Json → Bool) (xs : List Json) → list_all p xs ≡ true → list_all p (filter q xs) ≡ true
-list_all-filter p q [] all = refl
-list_all-filter p q (x ∷ xs) all = by (q x) (list_all-filter p q xs (right_true (p x) _ all))
-  where
-    by : (b : Bool) → list_all p (filter q xs) ≡ true → list_all p (cond b (x ∷ filter q xs) (filter q xs)) ≡ true
-    by true rest = both_true (left_true (p x) _ all) rest
-    by false rest = rest
-
-list_all-once : (p : Json → Bool) (xs : List Json) → list_all p xs ≡ true → list_all p (once xs) ≡ true
-list_all-once p [] all = refl
-list_all-once p (x ∷ xs) all = both_true (left_true (p x) _ all) (list_all-filter p (λ y. not (same y x)) (once xs) (list_all-once p xs (right_true (p x) _ all)))
-
-pub all-union : (p : Json → Bool) (xs ys : List Json) → list_all p xs ≡ true → list_all p ys ≡ true → list_all p (union_of xs ys) ≡ true
-all-union p xs ys all_xs all_ys = list_all-once p (xs ++ ys) (list_all-append p xs ys ∙ both_true all_xs all_ys)
-
-pub all-intersection : (p : Json → Bool) (xs ys : List Json) → list_all p xs ≡ true → list_all p (intersection_of xs ys) ≡ true
-all-intersection p xs ys all_xs = list_all-once p (filter (is_among ys) xs) (list_all-filter p (is_among ys) xs all_xs)
 
 -- ---- operators
 

@@ -7,13 +7,14 @@ use Rattle.fed_json.specs.Sets.{same, union_of, intersection_of}
 use Rattle.policy_merge.specs.declared.operators.Operators.{Operators}
 use Rattle.fed_json.specs.declared.named.Named.{Named}
 use Rattle.policy_merge.specs.declared.operator.Operator.TheVariants.{Value, Default}
-use Rattle.fed_json.specs.Tables.{Name, Side}
+use Rattle.fed_json.specs.Tables.{Name, Side, first}
 use Rattle.policy_merge.specs.Policies.{Parameters, Types, named, no_operators, operators_formed, parameters_formed, types_formed}
 use Rattle.fed_base.specs.Answers.{unless}
-use Rattle.policy_merge.specs.Combining.{if_both, clash, first, conflict_at, conflict_in_parameters, conflict_in}
+use Rattle.policy_merge.specs.Combining.{if_both, clash, conflict_at, conflict_in_parameters, conflict_in}
 use Rattle.policy_merge.specs.Merging.{met, merged_operators, merge_clash, name_of, beside, merged_parameter, merged_parameters, merged_type, merged, parameter_conflict, parameters_conflict, type_conflict, merge_conflict, merging}
 use Rattle.fed_json.proofs.Booleans.{left_true, right_true}
 use Rattle.fed_json.proofs.Names.{rising-tail}
+use Rattle.fed_json.proofs.Options.{option_map_none}
 use Rattle.fed_json.proofs.SideBySide.{sides-upper, sides-lower, sides-none}
 use Rattle.policy_merge.proofs.MergedTables.{table-rises, table-values}
 
@@ -121,10 +122,6 @@ first_none {F = F} f g h each (x ∷ xs) none = by (f x) refl none (first_none f
     by : (o : Option F) → f x ≡ o → option_map_or Some o (first f xs) ≡ None → (first f xs ≡ None → first h (map g xs) ≡ None) → option_map_or Some (h (g x)) (first h (map g xs)) ≡ None
     by None is none later = ap₂ (λ o rest. option_map_or Some o rest) (each x is) (later none)
     by (Some y) is none later = absurd (cc)
-
-pub option_map_none : {X Y : Type 0} (f : X → Y) (o : Option X) → option_map f o ≡ None → o ≡ None
-option_map_none f None none = refl
-option_map_none f (Some x) none = absurd (cc)
 
 pub merge_clash-none : (name : Name) (u l : Operators) → merge_clash name u l ≡ None → clash name (merged_operators u l) ≡ None
 unfolding merge_clash

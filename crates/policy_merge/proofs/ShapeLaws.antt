@@ -20,7 +20,8 @@ use Rattle.policy_merge.specs.declared.fault.PolicyShape.{PolicyShape}
 use Rattle.policy_merge.specs.declared.fault.PolicyShape.TheVariants.{Shape, Memory}
 use Rattle.policy_merge.specs.Shapes.{Reads, as_default, as_truth, at, operators_of, operators_shape, table_of, table_shape, policy_shape}
 use Rattle.fed_json.proofs.Booleans.{left_true, right_true, both_true}
-use Rattle.policy_merge.proofs.Trees.{whole-items, whole-members}
+use Rattle.fed_json.proofs.Accessors.{whole-items, whole-members}
+use Rattle.fed_json.proofs.Options.{and_then_some, option_map_some}
 
 -- ---- the whole tree
 
@@ -113,14 +114,6 @@ default-formed t v good e = by (is_null t) refl e
     by : (b : Bool) → is_null t ≡ b → cond b None (Some t) ≡ Some v → (whole v && not (is_null v)) ≡ true
     by true is e = absurd (cc)
     by false is e = let same : t ≡ v = (cc) in subst (λ x. (whole x && not (is_null x)) ≡ true) same (both_true good (ap not is))
-
-and_then_some : {X Y : Type 0} (f : X → Option Y) (o : Option X) (y : Y) → option_and_then f o ≡ Some y → (x : X) × (o ≡ Some x) × (f x ≡ Some y)
-and_then_some f None y e = absurd (cc)
-and_then_some f (Some x) y e = (x, refl, e)
-
-option_map_some : {X Y : Type 0} (f : X → Y) (o : Option X) (y : Y) → option_map f o ≡ Some y → (x : X) × (o ≡ Some x) × (f x ≡ y)
-option_map_some f None y e = absurd (cc)
-option_map_some f (Some x) y e = (x, refl, (cc))
 
 operators-formed : (ms : List Member) (o : Operators) → list_all (λ m. is_utf8 m.name && whole m.value) ms ≡ true → operators_of ms ≡ Some o → operators_formed o ≡ true
 operators-formed ms o good e =

@@ -1,18 +1,17 @@
 -- The words of a text.
-use Rattle.std.proofs.Common.{◌≡◌, ◌<◌, ◌+◌, ◌==◌, ◌&&◌, ℕ, List, [], ◌∷◌, ◌++◌, Option, Some, None, option_map, Bool, true, false, not, cond, map, filter, length, get_or, refl, sym, ap, ap₂, ◌∙◌, subst, append_assoc, append-nil, length-append, arith, rules}
+use Rattle.std.proofs.Common.{◌≡◌, ◌<◌, ◌+◌, ◌==◌, ℕ, List, [], ◌∷◌, ◌++◌, Option, Some, None, option_map, Bool, true, false, not, cond, map, filter, length, get_or, refl, sym, ap, ◌∙◌, subst, append_assoc, append-nil, length-append, arith}
 use Rattle.std.proofs.Math.Seq.{get_or-append_seam, take-append_seam, drop-append-add}
 use Rattle.std.proofs.lemmas.Str.{IsUtf8-take, IsUtf8-drop, IsCharBoundary-before_ascii, IsCharBoundary-after_ascii, is_utf8-from_IsUtf8, IsUtf8-from_is_utf8}
 use Rattle.std.specs.Str.{IsUtf8, is_utf8}
 use Rattle.std.specs.Option.{option_or}
 use Rattle.std.specs.List.{list_all, slice_split, onto_first}
 use Rattle.std.proofs.lemmas.Bool.{eqb-true}
-use Rattle.fed_json.specs.Forms.{whole, has_odd}
+use Rattle.fed_json.specs.Forms.{whole}
 use Rattle.fed_json.specs.Trees.{as_text, as_list}
-use Rattle.fed_json.specs.declared.tree.Json.{the_lemmas}
-use Rattle.fed_json.proofs.Layers.{well_formed-Text}
+use Rattle.fed_json.proofs.Layers.{whole-Text}
 use Rattle.fed_json.specs.Tables.{Name}
 use Rattle.fed_json.proofs.Booleans.{left_true, right_true, both_true}
-use Rattle.policy_merge.proofs.Trees.{text_is, whole-items}
+use Rattle.fed_json.proofs.Accessors.{Text-as_text, whole-items}
 use Rattle.std.specs.Iterator.{Yields}
 use Rattle.std.proofs.lemmas.Iterator.{YieldsList}
 use Rattle.std.proofs.lemmas.Iterator.Consumers.{YieldsList-end}
@@ -52,17 +51,8 @@ onto-onto_first before x (part ∷ parts) = ap (λ p. p ∷ parts) (sym (append_
 onto-nil : (parts : List (List ℕ)) → (first : List ℕ) × (rest : List (List ℕ)) × (parts ≡ first ∷ rest) → onto [] parts ≡ parts
 onto-nil parts there = ap (onto []) there.2 ∙ sym there.2
 
-has_odd-Text : (bytes : List ℕ) → has_odd (Text bytes) ≡ false
-has_odd-Text bytes = search (rules, the_lemmas)
-
-kept_true : (b : Bool) → (b && true) ≡ b
-kept_true true = refl
-kept_true false = refl
-
-pub whole-Text : (bytes : List ℕ) → whole (Text bytes) ≡ is_utf8 bytes
-whole-Text bytes = ap₂ (λ a b. a && not b) (well_formed-Text bytes) (has_odd-Text bytes) ∙ kept_true (is_utf8 bytes)
-
-abbrev is_space : ℕ → Bool
+-- the byte is a space (RFC 6749 section 3.3)
+abbrev pub is_space : ℕ → Bool
 is_space byte = byte == 32
 
 utf8_before : (before : List ℕ) (x : ℕ) (rest : List ℕ) → IsUtf8 (before ++ x ∷ rest) → x ≡ 32 → IsUtf8 before
@@ -113,4 +103,4 @@ members-whole name t members good e = by (is_scope name) (as_text t) refl e
     by true None is e = whole-items t members good e
     by true (Some text) is e =
         let same : word_members text ≡ members = (cc) in
-        ap (list_all whole) (sym same) ∙ words-whole text (sym (whole-Text text) ∙ ap whole (sym (text_is t text is)) ∙ good)
+        ap (list_all whole) (sym same) ∙ words-whole text (sym (whole-Text text) ∙ ap whole (sym (Text-as_text t text is)) ∙ good)

@@ -1,7 +1,8 @@
 -- Which operators of one parameter stand together (OpenID Federation 1.0 section 6.1.3.1).
-use Rattle.std.specs.Prelude.{◌≡◌, List, [], ◌∷◌, Option, Some, None, option_map, Bool, true, false, ◌&&◌, not, Result, Ok, Err}
-use Rattle.std.specs.Option.{option_and_then, option_map_or}
-use Rattle.std.specs.List.{list_all, find}
+use Rattle.std.specs.Prelude.{◌≡◌, List, [], ◌∷◌, Option, Some, option_map, Bool, true, false, ◌&&◌, not, Result, Ok, Err}
+use Rattle.std.specs.Option.{option_map_or}
+use Rattle.fed_base.specs.Values.{◌>>=◌}
+use Rattle.std.specs.List.{find}
 use Rattle.fed_json.specs.Sets.{are_among, is_among}
 use Rattle.fed_json.specs.declared.tree.Json.{Json}
 use Rattle.policy_merge.specs.declared.operator.Operator.{Operator}
@@ -9,7 +10,7 @@ use Rattle.policy_merge.specs.declared.operator.Operator.TheVariants.{Value, Add
 use Rattle.policy_merge.specs.declared.operators.Operators.{Operators}
 use Rattle.policy_merge.specs.declared.fault.PolicyFault.{PolicyFault}
 use Rattle.policy_merge.specs.declared.fault.PolicyFault.TheVariants.{Conflict, Memory}
-use Rattle.fed_json.specs.Tables.{Name}
+use Rattle.fed_json.specs.Tables.{Name, first}
 use Rattle.policy_merge.specs.Scope.{members_of, is_empty}
 use Rattle.policy_merge.specs.Policies.{Parameters, Types}
 use Rattle.fed_json.specs.Trees.{is_null}
@@ -31,7 +32,7 @@ pub record Judged : Type 0 where
 
 -- the operators of the parameter, judged by the members that its values have
 unfoldable pub judged : Name → Operators → Judged
-judged name o = record { operators = o; value_members = option_and_then (members_of name) o.value; default_members = option_and_then (members_of name) o.default }
+judged name o = record { operators = o; value_members = o.value >>= members_of name; default_members = o.default >>= members_of name }
 
 -- whether two operators of the parameter stand together; an empty one_of doesn't stand by itself
 unfoldable pub stand : Judged → Operator → Operator → Bool
@@ -66,11 +67,6 @@ pairs =
 -- the first pair of one parameter that doesn't stand together
 unfoldable pub clash : Name → Operators → Option Pair
 clash name o = find (λ pair. not (stand (judged name o) pair.0 pair.1)) pairs
-
--- the first answer that the items give
-abbrev pub first : {X Y : Type 0} → (X → Option Y) → List X → Option Y
-first answer [] = None
-first answer (x ∷ xs) = option_map_or Some (answer x) (first answer xs)
 
 -- a pair of operators, at its entity type and parameter
 abbrev pub conflict_at : Name → Name → Pair → PolicyFault

@@ -1,7 +1,7 @@
-pub mod Names
-pub mod Places
-pub mod Scope
-pub mod Policies
 pub mod Combining
 pub mod Merging
+pub mod Names
+pub mod Places
+pub mod Policies
+pub mod Scope
 pub mod Shapes

@@ -9,10 +9,10 @@ use Rattle.fed_json.specs.declared.named.Named.{Named}
 use Rattle.policy_merge.specs.declared.fault.PolicyFault.{PolicyFault}
 use Rattle.policy_merge.specs.declared.fault.PolicyFault.TheVariants.{Conflict, Memory}
 use Rattle.fed_base.specs.Answers.{unless}
-use Rattle.fed_json.specs.Tables.{Name, Side, sides}
+use Rattle.fed_json.specs.Tables.{Name, Side, sides, first}
 use Rattle.policy_merge.specs.Places.{IsEarlier, AreUtf8}
 use Rattle.policy_merge.specs.Policies.{Parameters, Types, named, no_operators, operators_at}
-use Rattle.policy_merge.specs.Combining.{Pair, if_both, clash, first, conflict_at}
+use Rattle.policy_merge.specs.Combining.{Pair, if_both, clash, conflict_at}
 
 -- the one that is there, or what becomes of both
 abbrev pub met : {X : Type 0} → (X → X → X) → Option X → Option X → Option X

@@ -1,7 +1,7 @@
 -- The shape of a policy as a tree (OpenID Federation 1.0 section 6.1.2).
 use Rattle.std.specs.Prelude.{◌≡◌, List, Option, Some, None, option_map, Bool, Result, Ok, Err, if◌then◌else◌}
-use Rattle.std.specs.Option.{option_and_then}
-use Rattle.fed_json.specs.Trees.{as_list, as_object, find, optional, each}
+use Rattle.fed_base.specs.Values.{◌>>=◌}
+use Rattle.fed_json.specs.Trees.{as_list, as_object, find, is_null, optional, each}
 use Rattle.fed_json.specs.Forms.{has_odd}
 use Rattle.fed_json.specs.declared.tree.Json.{Json, out-Json}
 use Rattle.fed_json.specs.declared.tree.Json.TheOpen.{Json-F}
@@ -14,7 +14,6 @@ use Rattle.policy_merge.specs.declared.operators.Operators.{Operators}
 use Rattle.fed_json.specs.declared.named.Named.{Named}
 use Rattle.policy_merge.specs.Names.{operator_name}
 use Rattle.policy_merge.specs.Policies.{Types, named}
-use Rattle.fed_json.specs.Trees.{is_null}
 
 -- true or false, at one level of a tree
 abbrev truth_in : Json-F Json Member → Option Bool
@@ -35,21 +34,27 @@ at shape operator members = optional shape (find (operator_name operator) member
 
 -- the operators of a parameter; other members of the object are left unread
 abbrev pub operators_of : List Member → Option Operators
-operators_of ms =
-    option_and_then (λ value. option_and_then (λ add. option_and_then (λ default. option_and_then (λ one_of.
-    option_and_then (λ subset_of. option_and_then (λ superset_of. option_map (λ essential. record {
-      value = value;
-      add = add;
-      default = default;
-      one_of = one_of;
-      subset_of = subset_of;
-      superset_of = superset_of;
-      essential = essential;
-    }) (at as_truth Essential ms)) (at as_list SupersetOf ms)) (at as_list SubsetOf ms)) (at as_list OneOf ms)) (at as_default Default ms)) (at as_list Add ms)) (at Some Value ms)
+operators_of members = do
+  value ← at Some Value members
+  add ← at as_list Add members
+  default ← at as_default Default members
+  one_of ← at as_list OneOf members
+  subset_of ← at as_list SubsetOf members
+  superset_of ← at as_list SupersetOf members
+  essential ← at as_truth Essential members
+  Some (record {
+    value = value;
+    add = add;
+    default = default;
+    one_of = one_of;
+    subset_of = subset_of;
+    superset_of = superset_of;
+    essential = essential;
+  })
 
 -- an object of operators (section 6.1.3)
 unfoldable pub operators_shape : Json → Option Operators
-operators_shape tree = option_and_then operators_of (as_object tree)
+operators_shape tree = as_object tree >>= operators_of
 
 -- members as a table, where each of their values has the shape
 abbrev pub table_of : {T : Type 0} → (Json → Option T) → List Member → Option (List (Named T))
@@ -57,7 +62,7 @@ table_of shape = each (λ m. option_map (named m.name) (shape m.value))
 
 -- an object as a table
 unfoldable pub table_shape : {T : Type 0} → (Json → Option T) → Json → Option (List (Named T))
-table_shape shape tree = option_and_then (table_of shape) (as_object tree)
+table_shape shape tree = as_object tree >>= table_of shape
 
 -- a policy: an object from entity type to an object from parameter to an object of operators, with no Odd anywhere
 unfoldable pub policy_shape : Json → Option Types

@@ -15,8 +15,8 @@ use crate::fault::PolicyFault;
 use crate::operator::Operator;
 use crate::operators::Operators;
 use crate::scope::{members, words_in};
-use fed_json::{Json, Named, includes, is_member, is_null};
 use fed_base::{Duplicate, Memory, Seq, Text};
+use fed_json::{Json, Named, includes, is_member, is_null};
 use std::alloc::Global;
 
 // The pairs that may not stand together, in the order in which a conflict is named.

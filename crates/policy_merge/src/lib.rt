@@ -18,7 +18,7 @@ mod scope;
 
 pub use fault::{PolicyFault, PolicyShape};
 pub use merging::{Parameters, Types, operators_of, parameters_of};
-pub use operator::Operator;
+pub use operator::{OPERATORS, Operator};
 pub use operators::Operators;
 pub use policy::Policy;
 pub use scope::{is_scope, members, words_in};

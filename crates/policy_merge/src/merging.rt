@@ -11,8 +11,8 @@ use crate::combining::{clash, conflict};
 use crate::fault::PolicyFault;
 use crate::operator::Operator;
 use crate::operators::Operators;
-use fed_json::{Json, Named, Sides, intersect, json_equal, union};
 use fed_base::{Duplicate, Memory, Seq, Text};
+use fed_json::{Json, Named, Sides, intersect, json_equal, union};
 use std::alloc::Global;
 
 /// The parameters of an entity type with their operators, in byte order of the parameters' names.

@@ -22,6 +22,17 @@ pub enum Operator {
     Essential,
 }
 
+/// The seven operators, in the order in which they act (section 6.1.3.1).
+pub const OPERATORS: [Operator; 7] = [
+    Operator::Value,
+    Operator::Add,
+    Operator::Default,
+    Operator::OneOf,
+    Operator::SubsetOf,
+    Operator::SupersetOf,
+    Operator::Essential,
+];
+
 impl Operator {
     /// The operator's name in a policy, as `subset_of`.
     pub fn name(self) -> &'static str

@@ -3,8 +3,8 @@
 ghost use Rattle.std.specs.Prelude.{◌≡◌};
 ghost use Rattle.policy_merge.specs.Policies.{no_operators};
 
-use fed_json::Json;
 use fed_base::{Duplicate, Memory, Seq};
+use fed_json::Json;
 use std::alloc::Global;
 
 /// The operators of one parameter (OpenID Federation 1.0 section 6.1.3.1); those that are absent say nothing.

@@ -13,8 +13,8 @@ use crate::combining::types_combined;
 use crate::fault::{PolicyFault, PolicyShape};
 use crate::merging::{Parameters, Types, merge_types};
 use crate::read::FromTree;
-use fed_json::{Json, Named, is_whole};
 use fed_base::{Duplicate, Memory, Seq};
+use fed_json::{Json, Named, is_whole};
 use std::alloc::Global;
 use std::marker::Model;
 

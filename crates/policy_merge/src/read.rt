@@ -10,8 +10,8 @@ ghost use Rattle.policy_merge.specs.Names.{operator_name};
 use crate::fault::PolicyShape;
 use crate::operator::Operator;
 use crate::operators::Operators;
-use fed_json::{Json, Member, Named, find};
 use fed_base::{Duplicate, Seq};
+use fed_json::{Json, Member, Named, find};
 use std::alloc::Global;
 
 /// A part of a policy that is read from its tree.

@@ -5,8 +5,8 @@ ghost use Rattle.std.specs.Option.{option_or, option_copied};
 ghost use Rattle.fed_json.specs.Trees.{as_list};
 ghost use Rattle.policy_merge.specs.Scope.{is_scope as names_scope, word_members, words_in as words_of};
 
-use fed_json::Json;
 use fed_base::{Memory, Seq, Text};
+use fed_json::Json;
 use std::alloc::Global;
 
 /// Whether the parameter is `scope`, whose texts are words with spaces between them (RFC 6749 section 3.3).

@@ -9,9 +9,9 @@ use Rattle.fed_json.specs.Tables.{Side}
 use Rattle.fed_json.specs.declared.named.Named.{Named}
 use Rattle.policy_merge.specs.declared.operators.Operators.{Operators}
 use Rattle.policy_merge.specs.Merging.{name_of, value_or}
-use Rattle.policy_merge.proofs.Walks.{passed-more, passed-found, passed-all}
+use Rattle.fed_json.proofs.Walks.{passed-more, passed-found, passed-all}
 use Rattle.policy_apply.specs.Applying.{parameter_left, parameter_refusal}
-use Rattle.policy_apply.proofs.Loops.{given-more, given-none}
+use Rattle.fed_json.proofs.Walks.{given-more, given-none}
 use Rattle.policy_apply.proofs.Walking.{parameter-err, parameter-ok, parameters-applied}
 use Rattle.policy_apply.proofs.applying.apply_parameters.Goals as goal
 

@@ -12,9 +12,9 @@ use Rattle.fed_json.specs.declared.named.Named.{Named}
 use Rattle.policy_merge.specs.Policies.{Parameters, operators_formed, parameters_formed}
 use Rattle.policy_merge.specs.Merging.{name_of, value_or}
 use Rattle.policy_merge.proofs.MergedTables.{table-rises}
-use Rattle.policy_merge.proofs.Walks.{passed-more, passed-found, passed-passes, passed-all}
+use Rattle.fed_json.proofs.Walks.{passed-more, passed-found, passed-passes, passed-all}
 use Rattle.policy_apply.specs.Applying.{type_left, type_refusal}
-use Rattle.policy_apply.proofs.Loops.{given-more, given-none}
+use Rattle.fed_json.proofs.Walks.{given-more, given-none}
 use Rattle.policy_apply.proofs.Walking.{type-none, type-err, type-ok, types-applied, side_good, beside-good, upper-good, lower-good, object_members-whole, members-rise}
 use Rattle.policy_apply.proofs.applying.apply_types.Goals as goal
 

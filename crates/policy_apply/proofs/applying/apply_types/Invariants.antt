@@ -2,7 +2,7 @@ use Rattle.std.proofs.Common.{◌+◌, length}
 use Rattle.std.specs.List.{filter_map}
 use Rattle.fed_json.specs.Trees.{member_name}
 use Rattle.policy_merge.specs.Merging.{name_of}
-use Rattle.policy_merge.proofs.Walks.{Passed}
+use Rattle.fed_json.proofs.Walks.{Passed}
 use Rattle.policy_apply.specs.Applying.{type_left, type_refusal}
 use Rattle.policy_apply.proofs.applying.apply_types.Given as goal
 

@@ -1,5 +1,6 @@
 use Rattle.std.proofs.Common.{◌∙◌, sym}
-use Rattle.policy_merge.proofs.Firsts.{gives_fault, unless_none, unless_some}
+use Rattle.fed_json.proofs.Firsts.{unless_none, unless_some}
+use Rattle.policy_merge.proofs.Faults.{gives_fault}
 use Rattle.policy_merge.proofs.Clashes.{parameters-end, parameters-more, parameters-found}
 use Rattle.policy_merge.proofs.combining.parameters_combined.Goals as goal
 

@@ -1,7 +1,8 @@
 use Rattle.std.proofs.Common.{◌∙◌, sym, ap}
 use Rattle.std.proofs.lemmas.Result.{err_from_is_err_and}
 use Rattle.policy_merge.specs.Combining.{conflict_in_parameters}
-use Rattle.policy_merge.proofs.Firsts.{gives_on, unless_none, unless_ok}
+use Rattle.fed_json.proofs.Firsts.{unless_none, unless_ok}
+use Rattle.policy_merge.proofs.Faults.{gives_on}
 use Rattle.policy_merge.proofs.Clashes.{types-end, types-more, types-found}
 use Rattle.policy_merge.proofs.combining.types_combined.Goals as goal
 

@@ -1,6 +1,6 @@
 use Rattle.std.proofs.Common.{◌∙◌, sym, ap, Ok}
 use Rattle.policy_merge.specs.Combining.{clash}
-use Rattle.policy_merge.proofs.Firsts.{gives_fault}
+use Rattle.policy_merge.proofs.Faults.{gives_fault}
 use Rattle.policy_merge.proofs.MergeLaws.{operators-values, operators-defaults, operators-clash, operators-merged}
 use Rattle.policy_merge.proofs.merging.merge_operators.Goals as goal
 

@@ -6,7 +6,7 @@ use Rattle.fed_json.specs.declared.named.Named.{Named}
 use Rattle.policy_merge.specs.declared.operators.Operators.{Operators}
 use Rattle.policy_merge.specs.Policies.{named}
 use Rattle.policy_merge.specs.Merging.{name_of, value_or, parameter_conflict, merged_parameter}
-use Rattle.policy_merge.proofs.Walks.{map-more, passed-more, passed-found, passed-all}
+use Rattle.fed_json.proofs.Walks.{map-more, passed-more, passed-found, passed-all}
 use Rattle.policy_merge.proofs.MergeWalk.{parameter-ok, parameter-err, parameters-merged}
 use Rattle.policy_merge.proofs.merging.merge_parameters.Goals as goal
 

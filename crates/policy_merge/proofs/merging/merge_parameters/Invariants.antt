@@ -1,6 +1,6 @@
 use Rattle.std.proofs.Common.{◌+◌, length, map}
 use Rattle.policy_merge.specs.Merging.{name_of, parameter_conflict, merged_parameter}
-use Rattle.policy_merge.proofs.Walks.{Passed}
+use Rattle.fed_json.proofs.Walks.{Passed}
 use Rattle.policy_merge.proofs.merging.merge_parameters.Given as goal
 
 abbrev pub invariant-loop-side : goal.invariant-loop-side

@@ -5,7 +5,7 @@ use Rattle.fed_json.specs.Tables.{Side}
 use Rattle.fed_json.specs.declared.named.Named.{Named}
 use Rattle.policy_merge.specs.Policies.{Parameters, named, parameters_formed}
 use Rattle.policy_merge.specs.Merging.{name_of, type_conflict, merged_type}
-use Rattle.policy_merge.proofs.Walks.{map-more, passed-more, passed-found, passed-passes, passed-all}
+use Rattle.fed_json.proofs.Walks.{map-more, passed-more, passed-found, passed-passes, passed-all}
 use Rattle.policy_merge.proofs.MergedTables.{side_formed, beside-formed}
 use Rattle.policy_merge.proofs.MergeWalk.{type-ok, type-err, type-formed, types-merged}
 use Rattle.policy_merge.proofs.merging.merge_types.Goals as goal

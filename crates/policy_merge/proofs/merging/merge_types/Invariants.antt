@@ -1,6 +1,6 @@
 use Rattle.std.proofs.Common.{◌+◌, length, map}
 use Rattle.policy_merge.specs.Merging.{name_of, type_conflict, merged_type}
-use Rattle.policy_merge.proofs.Walks.{Passed}
+use Rattle.fed_json.proofs.Walks.{Passed}
 use Rattle.policy_merge.proofs.merging.merge_types.Given as goal
 
 abbrev pub invariant-loop-side : goal.invariant-loop-side

@@ -1,14 +1,14 @@
 -- Two lists that are gone through side by side, as far as the walk has come.
 use Rattle.std.proofs.Common.{◌≡◌, List, [], ◌∷◌, ◌++◌, Option, Some, None, Bool, true, map, refl, sym, ap, ◌∙◌, append_assoc, append-nil}
 use Rattle.std.specs.Option.{option_map_or}
-use Rattle.std.specs.List.{list_all}
+use Rattle.std.specs.List.{list_all, filter_map, cons_option}
 use Rattle.std.proofs.lemmas.List.Folds.{list_all-append}
 use Rattle.std.proofs.lemmas.List.{map-append}
+use Rattle.std.proofs.lemmas.List.Elements.{filter_map-append}
 use Rattle.fed_json.specs.Forms.{rising}
-use Rattle.fed_json.specs.Tables.{Name, Side, sides}
-use Rattle.policy_merge.specs.Combining.{first}
+use Rattle.fed_json.specs.Tables.{Name, Side, sides, first}
 use Rattle.fed_json.proofs.Booleans.{left_true, right_true}
-use Rattle.policy_merge.proofs.Firsts.{first-append, first-append_none}
+use Rattle.fed_json.proofs.Firsts.{first-append, first-append_none}
 
 -- the sides that were passed, none of which gives a fault, and what was collected of them; the names of what is left rise
 pub record Passed {U L F Y : Type 0} (u : U → Name) (l : L → Name) (fault : Side U L → Option F) (collect : List (Side U L) → List Y) (us : List U) (ls : List L) (xs : List U) (ys : List L) (got : List Y) : Type 0 where
@@ -22,6 +22,16 @@ pub record Passed {U L F Y : Type 0} (u : U → Name) (l : L → Name) (fault : 
 -- one more in a list that is made item by item
 pub map-more : {X Y : Type 0} (f : X → Y) (x : X) (got got' : List Y) → got' ≡ got ++ f x ∷ [] → (done : List X) → got ≡ map f done → got' ≡ map f (done ++ x ∷ [])
 map-more f x got got' more done is = more ∙ ap (λ ys. ys ++ f x ∷ []) is ∙ sym (map-append f done (x ∷ []))
+
+-- one more that gives something
+pub given-more : {X Y : Type 0} (answer : X → Option Y) (x : X) (y : Y) (got got' : List Y) → answer x ≡ Some y → got' ≡ got ++ y ∷ [] → (done : List X) → got ≡ filter_map answer done → got' ≡ filter_map answer (done ++ x ∷ [])
+given-more answer x y got got' some more done is =
+    more ∙ ap (λ ys. ys ++ y ∷ []) is ∙ sym (filter_map-append answer done (x ∷ []) ∙ ap (λ o. filter_map answer done ++ cons_option o []) some)
+
+-- one more that gives nothing
+pub given-none : {X Y : Type 0} (answer : X → Option Y) (x : X) (got : List Y) → answer x ≡ None → (done : List X) → got ≡ filter_map answer done → got ≡ filter_map answer (done ++ x ∷ [])
+given-none answer x got none done is =
+    is ∙ sym (filter_map-append answer done (x ∷ []) ∙ ap (λ o. filter_map answer done ++ cons_option o []) none ∙ append-nil (filter_map answer done))
 
 module _ {U L F Y : Type 0} (u : U → Name) (l : L → Name) (fault : Side U L → Option F) (collect : List (Side U L) → List Y) (us : List U) (ls : List L) where
   pub passed-start : (got : List Y) → got ≡ collect [] → rising (map u us) ≡ true → rising (map l ls) ≡ true → Passed u l fault collect us ls us ls got

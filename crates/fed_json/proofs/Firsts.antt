@@ -1,11 +1,9 @@
--- The first answer that items give, and the faults that code answers.
-use Rattle.std.proofs.Common.{◌≡◌, ◌<◌, ◌+◌, ℕ, List, [], ◌∷◌, ◌++◌, Option, Some, None, Result, Ok, Err, Bool, true, false, not, drop, length, get_or, refl, sym, ap, ◌∙◌}
+-- The first answer that items give, and what stands unless there is one.
+use Rattle.std.proofs.Common.{◌≡◌, ◌<◌, ◌+◌, ℕ, List, [], ◌∷◌, ◌++◌, Option, Some, None, Ok, Err, drop, length, get_or, refl, sym, ap, ◌∙◌}
 use Rattle.std.specs.Option.{option_map_or}
 use Rattle.std.proofs.lemmas.List.{drop_more}
-use Rattle.policy_merge.specs.declared.fault.PolicyFault.{PolicyFault}
-use Rattle.policy_merge.specs.declared.fault.PolicyFault.TheVariants.{Conflict, Memory}
 use Rattle.fed_base.specs.Answers.{unless}
-use Rattle.policy_merge.specs.Combining.{first, Gives, IsFault}
+use Rattle.fed_json.specs.Tables.{first}
 
 module _ {X Y : Type 0} (answer : X → Option Y) where
   -- an item that gives no answer is passed over
@@ -44,22 +42,3 @@ unless_none o value e = ap (λ p. unless p value) e
 
 pub unless_some : {T E : Type 0} (o : Option E) (value : T) (f : E) → o ≡ Some f → unless o value ≡ Err f
 unless_some o value f e = ap (λ p. unless p value) e
-
--- the fault that was named is the one expected
-pub gives_fault : {T : Type 0} (f e : PolicyFault) (expected : Result T PolicyFault) → IsFault f e → expected ≡ Err e → Gives (Err f) expected
-gives_fault Memory e expected is err = tt
-gives_fault (Conflict t p g s) e expected is err = err ∙ ap Err (sym is)
-
--- a fault that is handed on
-pub gives_on : {T U : Type 0} (f : PolicyFault) (o : Option PolicyFault) (value : T) (o' : Option PolicyFault) (value' : U)
-    → Gives (Err f) (unless o value) → ((e : PolicyFault) → o ≡ Some e → o' ≡ Some e) → Gives (Err f) (unless o' value')
-gives_on Memory o value o' value' is later = tt
-gives_on (Conflict t p g s) o value o' value' is later = unless_some o' value' _ (later _ (unless_err o value _ is))
-
-pub not_true : (b : Bool) → not b ≡ true → b ≡ false
-not_true true e = absurd (cc)
-not_true false e = refl
-
-pub not_false : (b : Bool) → not b ≡ false → b ≡ true
-not_false true e = refl
-not_false false e = absurd (cc)
