@@ -39,12 +39,11 @@ sealed_payload keys typ payload = joined (signed_of keys typ payload) (signature
 abbrev pub sealed_text : List ℕ → List ℕ → Json → List ℕ
 sealed_text keys typ claims = sealed_payload keys typ (compact claims)
 
--- what a set seals of what these keys sign: a text that isn't too long to be taken apart, under the signer's key by its name
--- (RFC 7515 section 4.1.4)
+-- a text of these keys is short enough to be taken apart, and the set has the signer's key under its name (RFC 7515 section 4.1.4)
 pub record IsSealable (keys text : List ℕ) (set : List Jwk) : Type 0 where
   pub short : length text ≤ max_bytes
   pub named : key_named (signer_name keys) set ≡ Some (public_key P128S keys)
 
--- the text is sealed by each set that can seal it (RFC 7515 section 5.2)
+-- the text is sealed by each such set (RFC 7515 section 5.2)
 abbrev pub IsSealedFor : List ℕ → List ℕ → Type 0
 IsSealedFor keys text = (set : List Jwk) → IsSealable keys text set → IsSealedBy text set
