@@ -11,7 +11,7 @@ pub struct KeptFile {
     pub bytes: usize,
 }
 
-/// As many bytes of the front as there are up to that number, and those behind them.
+// As many bytes of the front as there are up to that number, and those behind them.
 #[tactic(auto, using(std::proofs::lemmas::List::take_min, std::proofs::lemmas::List::drop_min))]
 fn cut(bytes: &[u8], at: usize) -> (&[u8], &[u8])
     ensures front { result.0.now ≡ take at bytes.now }

@@ -1,9 +1,9 @@
-//! Layer 1, the outside of `fed`.
+//! Layer 1, the outside: what `fed` reads from and writes to.
 //!
 //! Everything that the program reads or writes goes through a trait of this crate: bytes come from a [`Source`] and go to a [`Sink`], files
 //! are in a [`Store`], and a [`Clock`] gives the moment. Each trait states what a call does to the bytes where the object tells them, and
-//! that an answer `Failed` comes only where the object's own count of faults rose. The versions in memory tell what they hold; the real ones
-//! are a few lines over the standard library and tell nothing.
+//! that an answer `Failed` comes only where the object's own count of faults rose. The versions in memory tell what they hold; the real
+//! ones are a few lines over the standard library and tell nothing.
 //!
 //! The texts, lists, errors and ledgers of the base are given again here under their names.
 #![tactic(auto)]

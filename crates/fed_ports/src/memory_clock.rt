@@ -33,7 +33,7 @@ impl MemoryClock {
     }
 }
 
-/// The moment of the reading of that number.
+// The moment of the reading of that number.
 fn moment(moments: &[u64], reading: u64) -> u64
     ensures value { result ≡ moment_at moments.now reading }
     ensures small { result < moment_limit }

@@ -29,7 +29,7 @@ pub struct MemoryStore {
     ghost entry_room: { vec_len kept + calls_left (plan_of plan) ≤ vec_capacity kept },
 }
 
-/// The bytes of the last file of that name, where those that were kept are behind the others.
+// The bytes of the last file of that name, where those that were kept are behind the others.
 fn found<'a>(
     kept: &[KeptFile],
     bytes: &'a [u8],

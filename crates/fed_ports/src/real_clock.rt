@@ -31,7 +31,7 @@ impl<'a, R: SystemClock + Sync> RealClock<'a, R> {
     }
 }
 
-/// The system's moment in whole seconds since 1970, or `None` where its clock fails.
+// The system's moment in whole seconds since 1970, or `None` where its clock fails.
 fn moment<R: SystemClock>(rt: &R) -> Option<u64> {
     let now = SystemTime::now(rt).ok()?;
     let since = now.duration_since(UNIX_EPOCH).ok()?;

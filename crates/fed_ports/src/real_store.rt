@@ -30,7 +30,7 @@ impl<'a, R: Files + AllocGlobal> RealStore<'a, R> {
     }
 }
 
-/// The whole file, or `None` where there is none. A name in a folder that isn't there is that of no file.
+// The whole file, or `None` where there is none. A name in a folder that isn't there is that of no file.
 fn load_file<R: Files>(rt: &R, alloc: Global, name: &Text) -> Result<Option<Text>, StoreFault>
     ensures { Loads None name.now result }
 {
@@ -55,8 +55,8 @@ fn load_file<R: Files>(rt: &R, alloc: Global, name: &Text) -> Result<Option<Text
 /// How many names for the new file are tried, where files of these names are there already.
 const NAMES: u8 = 16;
 
-/// Writes the bytes into a new file beside that name, readable by its owner alone, and names it so once they are on the disk. A file that
-/// is there under another name stays as it is.
+// Writes the bytes into a new file beside that name, readable by its owner alone, and names it so once they are on the disk. A file that
+// is there under another name stays as it is.
 fn keep_file<R: Files>(rt: &R, alloc: Global, name: &Text, bytes: &[u8]) -> Option<()> {
     let path = str::from_utf8(name.as_slice()).ok()?;
     for letter in 0..NAMES {
@@ -72,7 +72,7 @@ fn keep_file<R: Files>(rt: &R, alloc: Global, name: &Text, bytes: &[u8]) -> Opti
     None
 }
 
-/// Writes a file that isn't there yet, and puts it in the place of the other. Where that fails, the new file is taken away.
+// Writes a file that isn't there yet, and puts it in the place of the other. Where that fails, the new file is taken away.
 fn keep_beside<R: Files>(rt: &R, path: &str, beside: &str, bytes: &[u8]) -> io::Result<()> {
     let mut how = OpenOptions::new();
     how.write(true).create_new(true).mode(0o600);
@@ -87,7 +87,7 @@ fn keep_beside<R: Files>(rt: &R, path: &str, beside: &str, bytes: &[u8]) -> io::
     kept
 }
 
-/// Writes the bytes down to the disk.
+// Writes the bytes down to the disk.
 fn write_down<F: Write + OpenFile + Drop>(mut file: F, bytes: &[u8]) -> io::Result<()> {
     file.write_all(bytes)?;
     file.sync_all()

@@ -17,8 +17,8 @@ pub trait Source {
     /// How often a call has failed.
     ghost read_faults: { Self → ℕ };
 
-    /// Takes the next bytes into the front of the buffer, and answers how many. `Ok(0)` is the end of the input. `Failed` takes nothing away and leaves the
-    /// buffer as it was.
+    /// Takes the next bytes into the front of the buffer, and answers how many. `Ok(0)` is the end of the input. `Failed` takes nothing
+    /// away and leaves the buffer as it was.
     fn take(&mut self, into: &mut [u8]) -> Result<usize, Failed>
         requires { 0 < length into.old }
         ensures within { IfOk result (λ n. n ≤ length into.old) }

@@ -8,8 +8,8 @@ ghost use Rattle.fed_json.specs.Trees.{find as found};
 ghost use Rattle.jws_form.specs.Splitting.{Gives, GivesBy, text_of, names_of, names_in};
 
 use crate::FormFault;
-use fed_json::{Json, Member, TreeFault, find, read_tree};
 use fed_base::{Duplicate, Memory, Text};
+use fed_json::{Json, Member, TreeFault, find, read_tree};
 use std::alloc::Global;
 
 /// The `alg` of every text and key that verifies: the parameter set of FIPS 205 (RFC 7515 section 4.1.1).
@@ -32,7 +32,7 @@ pub(crate) fn read_header(
     }
 }
 
-/// The same of the header's members.
+// The same of the header's members.
 #[tactic(auto, unfolding(crate::specs::Splitting::names_of))]
 fn read_members(
     alloc: Global,
@@ -55,7 +55,7 @@ fn read_members(
     }
 }
 
-/// The text under a name, where the name is there (RFC 7515 section 4).
+// The text under a name, where the name is there (RFC 7515 section 4).
 fn optional_text<'a>(members: &'a [Member], name: &[u8]) -> Result<Option<&'a Text>, FormFault>
     requires { IsTrue (members_well_formed members.now) }
     ensures exact { GivesBy option_copied result (text_of (found name.now members.now)) }
@@ -68,7 +68,7 @@ fn optional_text<'a>(members: &'a [Member], name: &[u8]) -> Result<Option<&'a Te
     }
 }
 
-/// A copy of a text that may be absent.
+// A copy of a text that may be absent.
 fn copied(alloc: Global, text: Option<&Text>) -> Result<Option<Text>, Memory>
     ensures { IfOk result (λ copy. copy ≡ option_copied text.entry) }
 {

@@ -9,8 +9,8 @@ ghost use Rattle.jws_form.specs.Header.{IsHeader};
 
 use crate::parts::STOP;
 use base64::engine::general_purpose::URL_SAFE_NO_PAD;
-use fed_json::{Json, write_tree};
 use fed_base::{Memory, Text};
+use fed_json::{Json, write_tree};
 use std::alloc::Global;
 
 /// What the signature of a text with this header and payload is over (RFC 7515 section 5.1): the base64url of the
@@ -26,8 +26,8 @@ pub fn signing_input(alloc: Global, header: &Json, payload: &[u8]) -> Result<Tex
     encoded_parts(alloc, header.as_slice(), payload)
 }
 
-/// The first two parts of a text, joined by a full stop. Both are encoded into the one text, where `base64url::encode`
-/// would make a text of each and copy the payload's once more.
+// The first two parts of a text, joined by a full stop. Both are encoded into the one text, where `base64url::encode`
+// would make a text of each and copy the payload's once more.
 #[tactic(auto, unfolding(base64url::specs::Base64url::base64url))]
 fn encoded_parts(alloc: Global, header: &[u8], payload: &[u8]) -> Result<Text, Memory>
     ensures { IfOk result (λ text. text ≡ signing_input_of header.now payload.now) }

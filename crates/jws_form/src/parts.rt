@@ -22,7 +22,7 @@ pub(crate) struct Parts<'a> {
     pub signed: &'a [u8],
 }
 
-/// What stands before the first full stop of a text, and behind it.
+// What stands before the first full stop of a text, and behind it.
 fn split_once(text: &[u8]) -> Option<(&[u8], &[u8])>
     ensures { MatchOption result (parts_of text.now ≡ text.now ∷ [])
         (λ p. parts_of text.now ≡ p.0.now ∷ parts_of p.1.now) }

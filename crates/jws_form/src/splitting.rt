@@ -33,7 +33,7 @@ pub fn split(alloc: Global, text: &[u8]) -> Result<Compact, FormFault>
     }
 }
 
-/// What the three parts of a text give.
+// What the three parts of a text give.
 #[tactic(auto, unfolding(crate::specs::Splitting::compact_of))]
 fn read_parts(alloc: Global, text: &[u8], parts: &Parts<'_>) -> Result<Compact, FormFault>
     requires { parts.now.signed.now ≡ parts.now.header.now ++ stop ∷ parts.now.payload.now }

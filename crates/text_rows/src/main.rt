@@ -1,4 +1,4 @@
-//! Layer 3, signatures: rows that show what the calls of the base, the outside, the texts and the sealed texts answer.
+//! Layer 8, rows: what the calls of the base, the outside, the texts and the sealed texts answer.
 //!
 //! Each line of the input is a row: the name of a call or of a group of calls, then what it is given, with a tab before each part. For each
 //! row the program writes a line with what was answered. In both, `%` and two hexadecimal digits stand for a byte that isn't printed as it
@@ -19,7 +19,7 @@ use spelling::{cut, spelled};
 use std::alloc::Global;
 use std::io;
 
-/// What a row answers that asks for nothing but memory.
+// What a row answers that asks for nothing but memory.
 fn answer(alloc: Global, kind: &str, given: &str) -> Result<Text, Memory> {
     match kind {
         "lists" => port_rows::lists(alloc, given),

@@ -20,7 +20,7 @@ const SEEDS: [u8; 48] = [
     135, 136, 137, 138, 139, 140, 141, 142, 143,
 ];
 
-/// Signs the claims by the key of the seeds from 96 to 143, keeps the text for the rows behind it, and answers the text's length, its first 581
+/// Signs the claims by the key of the seeds from 96 to 143 and keeps the text for the rows behind it. Answers its length, its first 581
 /// bytes and its last 40.
 pub fn seal(alloc: Global, given: &str, sealed: &mut Text) -> Result<Text, Memory> {
     match read_tree(alloc, given.as_bytes()) {

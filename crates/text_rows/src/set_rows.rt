@@ -27,7 +27,7 @@ fn of_lists(alloc: Global, first: &Seq<Json>, second: &Seq<Json>) -> Result<Text
     joined(alloc, parts.as_slice(), b" | ")
 }
 
-/// The items of a list, which may hold a number whose value isn't kept.
+// The items of a list, which may hold a number whose value isn't kept.
 fn items(alloc: Global, list: Seq<Json>) -> Result<Text, Memory> {
     let mut texts = Seq::new(alloc);
     for item in list.as_slice() {

@@ -17,7 +17,7 @@ fn letter(loaded: Result<Option<Text>, StoreFault>) -> u8 {
     }
 }
 
-/// A store whose file `ring` has the bytes `old`: the calls that fail, the room, and whether a failing call leaves the new file.
+// A store whose file `ring` has the bytes `old`: the calls that fail, the room, and whether a failing call leaves the new file.
 fn store(alloc: Global, given: &str) -> Result<MemoryStore, Memory> {
     let (failing, given) = cut(given);
     let (room, leaves) = cut(given);
