@@ -4,13 +4,14 @@ ghost use Rattle.std.specs.Prelude.{◌≡◌, ℕ, List, [], ◌+◌, ◌*◌, 
 ghost use Rattle.slh_hash.specs.declared.address.Address.{Address};
 ghost use Rattle.slh_hash.specs.Addresses.{address};
 ghost use Rattle.slh_hash.specs.Lists.{Begins};
-ghost use Rattle.fors.specs.Fors.{Instance, SecretInstance, instance_of, secret_instance_of, secret, parent, leaf, key_of_roots};
+ghost use Rattle.slh_hash.specs.Places.{Place, place_of};
+ghost use Rattle.fors.specs.Fors.{SecretPlace, secret_place_of, secret, parent, leaf, key_of_roots};
 ghost use Rattle.fors.specs.Lengths.{length-parent, length-leaf};
 
 use slh_hash::{Address, AddressType, BATCH, LeafHash, ParentHash, SeedHash};
 use std::marker::Model;
 
-// The trees of the key of a key pair. Contracts see the instance.
+// The trees of the key of a key pair. Contracts see where that is.
 #[derive(Drop)]
 pub(crate) struct Forest<'a> {
     seed: &'a SeedHash,
@@ -19,14 +20,14 @@ pub(crate) struct Forest<'a> {
 }
 
 impl<'a> Model for Forest<'a> {
-    ghost Value = { Instance };
+    ghost Value = { Place };
 
-    ghost view = { λ f. instance_of f.seed.now f.tree f.pair };
+    ghost view = { λ f. place_of f.seed.now f.tree f.pair };
 }
 
 impl<'a> Forest<'a> {
     pub(crate) fn new(seed: &'a SeedHash, tree: u64, pair: u32) -> Forest<'a>
-        ensures { result ≡ instance_of seed.now tree pair }
+        ensures { result ≡ place_of seed.now tree pair }
     {
         Forest { seed, tree, pair }
     }
@@ -120,9 +121,9 @@ pub(crate) struct SecretForest<'a> {
 }
 
 impl<'a> Model for SecretForest<'a> {
-    ghost Value = { SecretInstance };
+    ghost Value = { SecretPlace };
 
-    ghost view = { λ f. secret_instance_of f.forest f.sk_seed.now };
+    ghost view = { λ f. secret_place_of f.forest f.sk_seed.now };
 }
 
 impl<'a> SecretForest<'a> {
@@ -132,7 +133,7 @@ impl<'a> SecretForest<'a> {
         tree: u64,
         pair: u32,
     ) -> SecretForest<'a>
-        ensures { result ≡ secret_instance_of (instance_of seed.now tree pair) sk_seed.now }
+        ensures { result ≡ secret_place_of (place_of seed.now tree pair) sk_seed.now }
     {
         SecretForest {
             forest: Forest::new(seed, tree, pair),
@@ -144,28 +145,28 @@ impl<'a> SecretForest<'a> {
 impl SecretForest<'_> {
     // The secret value of a leaf.
     pub(crate) fn secret(&self, index: u32) -> [u8; 16]
-        ensures { result ≡ secret self.now.trees self.now.sk_seed index }
+        ensures { result ≡ secret self.now.place self.now.sk_seed index }
     {
         self.forest.secret(self.sk_seed, index)
     }
 
     // A leaf, from its secret value.
     pub(crate) fn leaf(&self, index: u32, secret: &[u8; 16]) -> [u8; 16]
-        ensures { result ≡ parent self.now.trees 0 index secret.now }
+        ensures { result ≡ parent self.now.place 0 index secret.now }
     {
         self.forest.leaf(index, secret)
     }
 
     // The key, from the roots of all trees.
     pub(crate) fn key(&self, roots: &[u8]) -> [u8; 16]
-        ensures { result ≡ key_of_roots self.now.trees roots.now }
+        ensures { result ≡ key_of_roots self.now.place roots.now }
     {
         self.forest.key(roots)
     }
 }
 
 impl ParentHash for SecretForest<'_> {
-    ghost parent = { λ f z i m. parent f.trees z i m };
+    ghost parent = { λ f z i m. parent f.place z i m };
 
     fn parent(&self, height: u32, index: u32, left: &[u8; 16], right: &[u8; 16]) -> [u8; 16] {
         self.forest.parent(height, index, left, right)
@@ -175,15 +176,15 @@ impl ParentHash for SecretForest<'_> {
         self.forest.parents(height, first, nodes);
     }
 
-    ghost parent_length = { λ f z i m. length-parent f.trees z i m };
+    ghost parent_length = { λ f z i m. length-parent f.place z i m };
 }
 
 impl LeafHash for SecretForest<'_> {
-    ghost leaf = { λ f i. leaf f.trees f.sk_seed i };
+    ghost leaf = { λ f i. leaf f.place f.sk_seed i };
 
     fn leaves(&self, first: u32, nodes: &mut [[u8; 16]]) {
         self.forest.leaves(self.sk_seed, first, nodes);
     }
 
-    ghost leaf_length = { λ f i. length-leaf f.trees f.sk_seed i };
+    ghost leaf_length = { λ f i. length-leaf f.place f.sk_seed i };
 }

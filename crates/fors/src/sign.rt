@@ -1,20 +1,22 @@
 // Signing a digest (FIPS 205 Algorithm 16).
 
 ghost use Rattle.std.specs.Prelude.{◌≡◌, ℕ, ◌+◌, ◌*◌, ◌/◌, ◌^◌, ◌<◌, ◌≤◌, length};
+ghost use Rattle.slh_hash.specs.Sets.{sha2_128s};
 ghost use Rattle.slh_hash.specs.Trees.{tree_node};
-ghost use Rattle.fors.specs.Fors.{instance_of, parent, leaf, opening, fors_signature, fors_key_from, fors_key};
+ghost use Rattle.slh_hash.specs.Places.{place_of};
+ghost use Rattle.fors.specs.Fors.{fors_bytes, parent, leaf, opening, fors_signature, fors_key_from, fors_key};
 
 use crate::forest::SecretForest;
 use crate::key::named_leaf;
 use crate::sizes::{FORS_BYTES, HEIGHT, LEAVES, OPENING_BYTES, ROOTS_BYTES, TREES};
-use slh_hash::{P128S, SeedHash, fill_leaves_around, put_piece, root_and_path};
+use slh_hash::{SeedHash, fill_leaves_around, put_piece, root_and_path};
 
 // Opens leaf `index` of its tree, and answers the root. The nodes are room for the leaves.
 fn open(forest: &SecretForest, index: u32, nodes: &mut [[u8; 16]], out: &mut [u8]) -> [u8; 16]
     requires leaves { length nodes.old ≡ LEAVES }
     requires room { length out.old ≡ OPENING_BYTES }
-    ensures opening { out.new ≡ opening P128S.a forest.now.trees forest.now.sk_seed index }
-    ensures root { result ≡ tree_node (leaf forest.now.trees forest.now.sk_seed) (parent forest.now.trees) P128S.a (index / 2 ^ P128S.a) }
+    ensures opening { out.new ≡ opening sha2_128s.a forest.now.place forest.now.sk_seed index }
+    ensures root { result ≡ tree_node (leaf forest.now.place forest.now.sk_seed) (parent forest.now.place) sha2_128s.a (index / 2 ^ sha2_128s.a) }
 {
     let (revealed, path) = out.split_at_mut(16);
     let secret = forest.secret(index);
@@ -35,10 +37,10 @@ pub fn fors_sign_with(
     md: &[u8; 21],
     out: &mut [u8],
 ) -> [u8; 16]
-    requires { length out.old ≡ FORS_BYTES }
-    ensures signature { out.new ≡ fors_signature P128S.a P128S.k (instance_of seed.now tree pair) sk_seed.now md.now }
-    ensures key { result ≡ fors_key P128S.a P128S.k (instance_of seed.now tree pair) sk_seed.now }
-    ensures leads_back { fors_key_from P128S.a P128S.k (instance_of seed.now tree pair) md.now out.new ≡ result }
+    requires { length out.old ≡ fors_bytes }
+    ensures signature { out.new ≡ fors_signature sha2_128s.a sha2_128s.k (place_of seed.now tree pair) sk_seed.now md.now }
+    ensures key { result ≡ fors_key sha2_128s.a sha2_128s.k (place_of seed.now tree pair) sk_seed.now }
+    ensures leads_back { fors_key_from sha2_128s.a sha2_128s.k (place_of seed.now tree pair) md.now out.new ≡ result }
 {
     let forest = SecretForest::new(seed, sk_seed, tree, pair);
     let mut nodes = [[0u8; 16]; LEAVES];
@@ -62,10 +64,10 @@ pub fn fors_sign(
     md: &[u8; 21],
     out: &mut [u8],
 )
-    requires { length out.old ≡ FORS_BYTES }
-    ensures signature { out.new ≡ fors_signature P128S.a P128S.k (instance_of pk_seed.now tree pair) sk_seed.now md.now }
-    ensures leads_back { fors_key_from P128S.a P128S.k (instance_of pk_seed.now tree pair) md.now out.new
-        ≡ fors_key P128S.a P128S.k (instance_of pk_seed.now tree pair) sk_seed.now }
+    requires { length out.old ≡ fors_bytes }
+    ensures signature { out.new ≡ fors_signature sha2_128s.a sha2_128s.k (place_of pk_seed.now tree pair) sk_seed.now md.now }
+    ensures leads_back { fors_key_from sha2_128s.a sha2_128s.k (place_of pk_seed.now tree pair) md.now out.new
+        ≡ fors_key sha2_128s.a sha2_128s.k (place_of pk_seed.now tree pair) sk_seed.now }
 {
     let _key = fors_sign_with(&SeedHash::new(pk_seed), sk_seed, tree, pair, md, out);
 }

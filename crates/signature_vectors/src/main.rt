@@ -1,80 +1,55 @@
-//! Checks signatures that other implementations made.
+//! Layer 2, signatures: rows that show what the calls of the layer answer, beside values of other implementations.
 //!
-//! Each line of the input is a public key, a message and a signature in hexadecimal digits, with a space between them. For each line the
-//! program writes whether the signature verifies, and how many of eight copies with one bit turned do.
+//! Each line of the input is a row: the name of a call, then what it is given, with a space before each part. Bytes are hexadecimal
+//! digits, numbers are decimal, and an address is its six numbers: layer, tree, type and three words. For each row the program writes a
+//! line with what the call answered; a long answer stands there by T of its bytes, under a seed and an address of zero bytes.
 #![tactic(auto)]
 
-ghost use Rattle.std.specs.Prelude.{◌≡◌, ◌↔◌, IsTrue};
-ghost use Rattle.slh_dsa.specs.Verifying.{Verifies};
+mod check;
+mod hashes;
+mod reading;
+mod signing;
+mod trees;
 
-use fed_base::{Plain, Steps};
-use slh_dsa::verify;
+use reading::next;
 use std::alloc::Global;
 use std::io;
 
-/// A signature of a message.
-#[derive(Drop)]
-struct Row {
-    public: [u8; 32],
-    message: Vec<u8>,
-    signature: Vec<u8>,
-}
-
-/// The row that a line spells, or `None` where it spells none.
-fn read_row(alloc: Global, line: &str) -> Option<Row> {
-    let (public, rest) = line.split_once(' ')?;
-    let (message, signature) = rest.split_once(' ')?;
-    let mut key = [0u8; 32];
-    hex::decode_to_slice(public, &mut key).ok()?;
-    Some(Row {
-        public: key,
-        message: hex::decode(alloc, message).ok()?,
-        signature: hex::decode(alloc, signature).ok()?,
-    })
-}
-
-fn is_valid(row: &Row) -> bool
-    ensures { IsTrue result ↔ Verifies row.now.public row.now.message.items row.now.signature.items }
-{
-    let mut steps = Steps {
-        ledger: Plain::new(),
-    };
-    verify(
-        &row.public,
-        row.message.as_slice(),
-        row.signature.as_slice(),
-        &mut steps,
-    )
-}
-
-/// How many copies of the signature verify, of eight with one bit turned: at the ends, and at places between.
-fn turned_valid(row: &mut Row) -> u32 {
-    let mut valid = 0u32;
-    for eighth in 0..8usize {
-        let at = row.signature.len() / 8 * eighth;
-        if at >= row.signature.len() {
-            return valid;
-        }
-        row.signature[at] ^= 1 << eighth;
-        if is_valid(row) {
-            valid = valid.saturating_add(1);
-        }
-        if at < row.signature.len() {
-            row.signature[at] ^= 1 << eighth;
-        }
+/// What a row answers, or `None` where it is no row.
+fn answer(alloc: Global, call: &str, given: &str) -> Option<String> {
+    match call {
+        "compressed" => hashes::compressed(alloc, given),
+        "f" => hashes::f(alloc, given),
+        "h" => hashes::h(alloc, given),
+        "t" => hashes::t(alloc, given),
+        "prf" => hashes::prf_row(alloc, given),
+        "prf_msg" => hashes::prf_msg_row(alloc, given),
+        "h_msg" => hashes::h_msg_row(alloc, given),
+        "chain" => hashes::chain(alloc, given),
+        "each" => hashes::each(alloc, given),
+        "digit" => hashes::digit_row(alloc, given),
+        "wots" => trees::wots(alloc, given),
+        "path" => trees::path(alloc, given),
+        "hypertree" => trees::hypertree(alloc, given),
+        "fors" => trees::fors(alloc, given),
+        "digest" => signing::digest(alloc, given),
+        "keys" => signing::keys(alloc, given),
+        "sign" => signing::sign_row(alloc, given),
+        _ => None,
     }
-    valid
 }
 
 fn main(rt: HostRuntime) -> io::Result<()> {
     let alloc = rt.alloc();
     for line in rt.lines(alloc) {
-        match read_row(alloc, line?.as_str()) {
-            Some(mut row) => {
-                let valid = is_valid(&row);
-                let turned = turned_valid(&mut row);
-                println!(rt; "valid {valid}, with a bit turned {turned}")?;
-            }
+        let line = line?;
+        let (call, given) = next(line.as_str());
+        let told = match call {
+            "check" => check::check(&rt, given),
+            _ => answer(alloc, call, given),
+        };
+        match told {
+            Some(told) => println!(rt; "{}", told.as_str())?,
             None => println!(rt; "no row")?,
         }
     }

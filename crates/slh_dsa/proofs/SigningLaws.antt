@@ -3,7 +3,8 @@ use Rattle.std.proofs.Common.{◌≡◌, ◌↔◌, ◌^◌, ◌<◌, ◌++◌, 
 use Rattle.std.proofs.lemmas.List.{take_at, drop_at, take_all}
 use Rattle.slh_hash.specs.declared.params.TheConstants.{P128S}
 use Rattle.slh_hash.specs.Hash.{h_msg, prf_msg, pure_message}
-use Rattle.fors.specs.Fors.{instance_of, fors_signature, fors_key_from}
+use Rattle.slh_hash.specs.Places.{place_of}
+use Rattle.fors.specs.Fors.{fors_signature, fors_key_from}
 use Rattle.wots_xmss.specs.Xmss.{xmss_node}
 use Rattle.wots_xmss.specs.Hypertree.{tree_at, hyper_key, hyper_signature}
 use Rattle.slh_dsa.specs.Digests.{md_of, tree_of, leaf_of}
@@ -14,14 +15,14 @@ use Rattle.slh_dsa.specs.Verifying.{root_by, root_from, Verifies}
 -- the root that a signature leads to, from its parts
 pub root_by_parts : (seed root m sig r few tall d md key : List ℕ) (t l : ℕ) → r ≡ take 16 sig → few ≡ take 2912 (drop 16 sig) → tall ≡ drop 2912 (drop 16 sig)
     → d ≡ h_msg 30 r seed root (pure_message m) → t ≡ tree_of P128S d → l ≡ leaf_of P128S d → md ≡ md_of P128S d
-    → key ≡ fors_key_from 12 14 (instance_of seed t l) md few → hyper_key 9 seed t l key tall 7 ≡ root_from P128S seed root m sig
+    → key ≡ fors_key_from 12 14 (place_of seed t l) md few → hyper_key 9 (place_of seed t l) key tall 7 ≡ root_from P128S seed root m sig
 unfolding root_from root_by digest_of fors_key_of
 root_by_parts seed root m sig r few tall d md key t l hr hf ht hd htree hleaf hmd hkey = rw (← hr, ← hf, ← ht, ← hd, ← htree, ← hleaf, ← hmd, ← hkey)
 
 -- the signature, from its parts
 pub signature_by_parts : (seeds sk prf seed root m r few tall d md key : List ℕ) (t l : ℕ) → sk ≡ sk_seed_of seeds → prf ≡ sk_prf_of seeds → seed ≡ pk_seed_of seeds → root ≡ pk_root_of P128S seeds
     → r ≡ prf_msg prf seed (pure_message m) → d ≡ h_msg 30 r seed root (pure_message m) → t ≡ tree_of P128S d → l ≡ leaf_of P128S d → md ≡ md_of P128S d
-    → few ≡ fors_signature 12 14 (instance_of seed t l) sk md → key ≡ fors_key_from 12 14 (instance_of seed t l) md few → tall ≡ hyper_signature 9 7 seed sk t l key
+    → few ≡ fors_signature 12 14 (place_of seed t l) sk md → key ≡ fors_key_from 12 14 (place_of seed t l) md few → tall ≡ hyper_signature 9 7 (place_of seed t l) sk key
     → r ++ (few ++ tall) ≡ signature_of P128S seeds m
 unfolding signature_of randomizer digest_of fors_part fors_key_of hypertree_part
 signature_by_parts seeds sk prf seed root m r few tall d md key t l hsk hprf hseed hroot hr hd htree hleaf hmd hfew hkey htall =
@@ -36,8 +37,8 @@ top_tree t h = omega arith
 pub made_verifies : (seeds sk seed root m r few tall d md key : List ℕ) (t l : ℕ) → sk ≡ sk_seed_of seeds → seed ≡ pk_seed_of seeds → root ≡ pk_root_of P128S seeds
     → length seed ≡ 16 → length r ≡ 16 → length few ≡ 2912 → length tall ≡ 4928
     → d ≡ h_msg 30 r seed root (pure_message m) → t ≡ tree_of P128S d → l ≡ leaf_of P128S d → md ≡ md_of P128S d → t < 2 ^ 54
-    → key ≡ fors_key_from 12 14 (instance_of seed t l) md few
-    → hyper_key 9 seed t l key tall 7 ≡ xmss_node seed sk 6 (tree_at 9 t 6) 9 0
+    → key ≡ fors_key_from 12 14 (place_of seed t l) md few
+    → hyper_key 9 (place_of seed t l) key tall 7 ≡ xmss_node seed sk 6 (tree_at 9 t 6) 9 0
     → Verifies (public_key P128S seeds) m (r ++ (few ++ tall))
 unfolding public_key pk_root_of
 made_verifies seeds sk seed root m r few tall d md key t l hsk hseed hroot lseed lr lfew ltall hd htree hleaf hmd small hkey top =
@@ -48,7 +49,7 @@ made_verifies seeds sk seed root m r few tall d md key t l hsk hseed hroot lseed
     let sig_r : r ≡ take 16 sig = sym (take_at r (few ++ tall) 16 lr) in
     let sig_few : few ≡ take 2912 (drop 16 sig) = sym (ap (take 2912) rest ∙ take_at few tall 2912 lfew) in
     let sig_tall : tall ≡ drop 2912 (drop 16 sig) = sym (ap (drop 2912) rest ∙ drop_at few tall 2912 lfew) in
-    let leads : hyper_key 9 seed t l key tall 7 ≡ root_from P128S seed root m sig = root_by_parts seed root m sig r few tall d md key t l sig_r sig_few sig_tall hd htree hleaf hmd hkey in
+    let leads : hyper_key 9 (place_of seed t l) key tall 7 ≡ root_from P128S seed root m sig = root_by_parts seed root m sig r few tall d md key t l sig_r sig_few sig_tall hd htree hleaf hmd hkey in
     let node : xmss_node seed sk 6 (tree_at 9 t 6) 9 0 ≡ root = rw (top_tree t small, hsk, hseed) (sym hroot) in
     record {
       size = omega (arith, length-append r (few ++ tall), length-append few tall, lr, lfew, ltall);

@@ -4,8 +4,7 @@ use Rattle.slh_hash.specs.declared.params.Params.{Params}
 use Rattle.slh_hash.specs.declared.params.TheConstants.{P128S}
 use Rattle.fors.specs.Fors.{opening_bytes}
 use Rattle.wots_xmss.specs.Hypertree.{hyper_key, layer_bytes}
-use Rattle.slh_dsa.specs.Digests.{tree_of, leaf_of}
-use Rattle.slh_dsa.specs.Signing.{digest_of, fors_key_of}
+use Rattle.slh_dsa.specs.Signing.{named_place, digest_of, fors_key_of}
 
 -- how many bytes SIG_FORS has (section 8.3)
 abbrev pub fors_bytes : Params → ℕ
@@ -18,7 +17,7 @@ signature_bytes p = 16 + fors_bytes p + p.d * layer_bytes p.tree_height
 -- the root that the parts of a signature lead to, by a digest (Algorithm 20, lines 8 to 18)
 unfoldable pub root_by : Params → List ℕ → List ℕ → List ℕ → List ℕ → List ℕ
 root_by p pk_seed digest sig_fors sig_ht =
-    hyper_key p.tree_height pk_seed (tree_of p digest) (leaf_of p digest) (fors_key_of p pk_seed digest sig_fors) sig_ht p.d
+    hyper_key p.tree_height (named_place p pk_seed digest) (fors_key_of p pk_seed digest sig_fors) sig_ht p.d
 
 -- the root that a signature leads to (Algorithm 20, lines 4 to 18)
 unfoldable pub root_from : Params → List ℕ → List ℕ → List ℕ → List ℕ → List ℕ

@@ -1,7 +1,9 @@
 pub mod Lists
 pub mod Digits
 pub mod Trees
+pub mod Sets
 pub mod Addresses
+pub mod Places
 pub mod Hash
 pub mod Chains
 pub mod Lengths

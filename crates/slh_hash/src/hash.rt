@@ -1,10 +1,10 @@
 // The hash functions of FIPS 205 section 11.2.1 for keys and messages of one call.
 
 ghost use Rattle.std.specs.Prelude.{◌≡◌, ◌++◌, ◌≤◌, take};
+ghost use Rattle.slh_hash.specs.Sets.{sha2_128s};
 ghost use Rattle.slh_hash.specs.Hash.{th, h_msg, prf_msg, pure_message, key_block, xor_each};
 
 use crate::address::Address;
-use crate::params::P128S;
 use crate::seed_hash::SeedHash;
 use sha2::{Digest, Sha256};
 
@@ -77,7 +77,7 @@ pub fn prf_msg(sk_prf: &[u8; 16], opt: &[u8; 16], m: &[u8]) -> [u8; 16]
 /// H_msg: the digest of a message that is signed, of 30 bytes, from its randomizer and the public key.
 /// The message is `m` after two zero bytes, since its context is empty (FIPS 205 Algorithm 22).
 pub fn h_msg(r: &[u8; 16], pk_seed: &[u8; 16], pk_root: &[u8; 16], m: &[u8]) -> [u8; 30]
-    ensures { result ≡ h_msg P128S.m r.now pk_seed.now pk_root.now (pure_message m.now) }
+    ensures { result ≡ h_msg sha2_128s.m r.now pk_seed.now pk_root.now (pure_message m.now) }
 {
     let mut inner = Sha256::new();
     inner.update(r);

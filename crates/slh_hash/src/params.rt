@@ -1,5 +1,8 @@
 // The numbers of a parameter set.
 
+ghost use Rattle.std.specs.Prelude.{◌≡◌};
+ghost use Rattle.slh_hash.specs.Sets.{sha2_128s};
+
 /// The numbers of a parameter set that differ between the sets of one security category
 /// (FIPS 205 section 11, table 2). In all of them n is 16 bytes, w is 16 and a WOTS+ key has 35 chains.
 #[derive(Clone, Copy)]
@@ -24,3 +27,12 @@ pub const P128S: Params = Params {
     k: 14,
     m: 30,
 };
+
+impl Params {
+    /// [`P128S`], whose numbers the contract has from the standard.
+    pub fn sha2_128s() -> Params
+        ensures { result ≡ sha2_128s }
+    {
+        P128S
+    }
+}

@@ -4,8 +4,10 @@ use Rattle.std.proofs.Math.Nat.{div-eq_of_lt, mod-lt, div-div-eq-div-mul}
 use Rattle.std.proofs.lemmas.Nat.{pow_pos, pow-add}
 use Rattle.slh_hash.specs.Lists.{joined, piece}
 use Rattle.slh_hash.proofs.Joined.{piece-joined}
+use Rattle.slh_hash.specs.Places.{Place}
+use Rattle.wots_xmss.specs.Wots.{instance_of}
 use Rattle.wots_xmss.specs.Xmss.{xmss_node, xmss_key, xmss_signature}
-use Rattle.wots_xmss.specs.Hypertree.{tree_at, leaf_at, layer_bytes, message_at, layer_signature, hyper_signature, hyper_key}
+use Rattle.wots_xmss.specs.Hypertree.{tree_at, leaf_at, pair_at, layer_bytes, message_at, layer_signature, hyper_signature, hyper_key}
 use Rattle.wots_xmss.proofs.XmssLaws.{length-xmss_signature, root-from-made}
 
 -- the leaf of a layer is a leaf of its tree
@@ -15,34 +17,36 @@ leaf_at-below h t leaf zero below = below
 leaf_at-below h t leaf (suc j) below = mod-lt (tree_at h t j) (pow_pos h)
 
 -- the signature of a layer has the same length in each
-pub length-layer_signature : (h : ℕ) (seed sk : List ℕ) (t leaf : ℕ) (m : List ℕ) (j : ℕ) → length (layer_signature h seed sk t leaf m j) ≡ layer_bytes h
+pub length-layer_signature : (h : ℕ) (p : Place) (sk m : List ℕ) (j : ℕ) → length (layer_signature h p sk m j) ≡ layer_bytes h
 unfolding layer_signature
-length-layer_signature h seed sk t leaf m j = length-xmss_signature h seed sk j (tree_at h t j) (leaf_at h t leaf j) (message_at h seed sk t leaf m j)
+length-layer_signature h p sk m j = length-xmss_signature h (pair_at h p j) sk (message_at h p sk m j)
 
 -- what the layer above signs is the root of the tree below
-pub message_at-root : (h : ℕ) (seed sk : List ℕ) (t leaf : ℕ) (m : List ℕ) (j : ℕ) → leaf < 2 ^ h → message_at h seed sk t leaf m (suc j) ≡ xmss_node seed sk j (tree_at h t j) h 0
+pub message_at-root : (h : ℕ) (p : Place) (sk m : List ℕ) (j : ℕ) → p.pair < 2 ^ h → message_at h p sk m (suc j) ≡ xmss_node p.seed sk j (tree_at h p.tree j) h 0
 unfolding message_at
-message_at-root h seed sk t leaf m j below =
-    root-from-made h seed sk j (tree_at h t j) (leaf_at h t leaf j) (message_at h seed sk t leaf m j) (div-eq_of_lt (leaf_at-below h t leaf j below))
+message_at-root h p sk m j below =
+    root-from-made h (pair_at h p j) sk (message_at h p sk m j) (div-eq_of_lt (leaf_at-below h p.tree p.pair j below))
 
 -- the key from the layers of a signature that was made is what the next layer signs
-pub key-of-layers : (h d : ℕ) (seed sk : List ℕ) (t leaf : ℕ) (m : List ℕ) (j : ℕ) → j ≤ d → hyper_key h seed t leaf m (hyper_signature h d seed sk t leaf m) j ≡ message_at h seed sk t leaf m j
+pub key-of-layers : (h d : ℕ) (p : Place) (sk m : List ℕ) (j : ℕ) → j ≤ d → hyper_key h p m (hyper_signature h d p sk m) j ≡ message_at h p sk m j
 unfolding hyper_key message_at hyper_signature layer_signature
-key-of-layers h d seed sk t leaf m zero inside = refl
-key-of-layers h d seed sk t leaf m (suc j) inside =
-    let layers = layer_signature h seed sk t leaf m in
-    let here : piece (layer_bytes h) j (joined layers d) ≡ layers j = piece-joined layers (layer_bytes h) d j (length-layer_signature h seed sk t leaf m) (omega arith) in
-    rw (key-of-layers h d seed sk t leaf m j (omega arith), here)
+key-of-layers h d p sk m zero inside = refl
+key-of-layers h d p sk m (suc j) inside =
+    let layers = layer_signature h p sk m in
+    let here : piece (layer_bytes h) j (joined layers d) ≡ layers j = piece-joined layers (layer_bytes h) d j (length-layer_signature h p sk m) (omega arith) in
+    rw (key-of-layers h d p sk m j (omega arith), here)
 
 -- the key from a signature of d layers that was made is the root of the top layer
-pub root-of-layers : (h d : ℕ) (seed sk : List ℕ) (t leaf : ℕ) (m : List ℕ) → leaf < 2 ^ h → hyper_key h seed t leaf m (hyper_signature h (suc d) seed sk t leaf m) (suc d) ≡ xmss_node seed sk d (tree_at h t d) h 0
-root-of-layers h d seed sk t leaf m below = key-of-layers h (suc d) seed sk t leaf m (suc d) (omega arith) ∙ message_at-root h seed sk t leaf m d below
+pub root-of-layers : (h d : ℕ) (p : Place) (sk m : List ℕ) → p.pair < 2 ^ h → hyper_key h p m (hyper_signature h (suc d) p sk m) (suc d) ≡ xmss_node p.seed sk d (tree_at h p.tree d) h 0
+root-of-layers h d p sk m below = key-of-layers h (suc d) p sk m (suc d) (omega arith) ∙ message_at-root h p sk m d below
 
 -- what was signed in a layer is the layer's signature, and its key is what the next layer signs
-pub layer-signed : (h : ℕ) (seed sk : List ℕ) (t leaf : ℕ) (m : List ℕ) (j tree_now leaf_now : ℕ) (message out key : List ℕ) → tree_now ≡ tree_at h t j → leaf_now ≡ leaf_at h t leaf j → message ≡ message_at h seed sk t leaf m j → out ≡ xmss_signature h seed sk j tree_now leaf_now message → xmss_key h seed j tree_now leaf_now message out ≡ key → (out ≡ layer_signature h seed sk t leaf m j) × (key ≡ message_at h seed sk t leaf m (j + 1))
+pub layer-signed : (h : ℕ) (p : Place) (sk m : List ℕ) (j tree_now leaf_now : ℕ) (message out key : List ℕ) → tree_now ≡ tree_at h p.tree j → leaf_now ≡ leaf_at h p.tree p.pair j → message ≡ message_at h p sk m j
+    → out ≡ xmss_signature h (instance_of p.seed j tree_now leaf_now) sk message → xmss_key h (instance_of p.seed j tree_now leaf_now) message out ≡ key
+    → (out ≡ layer_signature h p sk m j) × (key ≡ message_at h p sk m (j + 1))
 unfolding layer_signature message_at
-layer-signed h seed sk t leaf m j tree_now leaf_now message out key tree place held signed gives =
-    let made : out ≡ xmss_signature h seed sk j (tree_at h t j) (leaf_at h t leaf j) (message_at h seed sk t leaf m j) = signed ∙ rw (tree, place, held) in
+layer-signed h p sk m j tree_now leaf_now message out key tree place held signed gives =
+    let made : out ≡ xmss_signature h (pair_at h p j) sk (message_at h p sk m j) = signed ∙ rw (tree, place, held) in
     (made, sym gives ∙ rw (add-one, tree, place, held, made))
 
 -- the tree of a layer, from that of layer 0

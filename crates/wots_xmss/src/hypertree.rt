@@ -1,12 +1,14 @@
 // The hypertree: layers of trees, each of which signs the root of a tree below (FIPS 205 section 7).
 
 ghost use Rattle.std.specs.Prelude.{◌≡◌, ℕ, List, ◌+◌, ◌-◌, ◌*◌, ◌/◌, ◌%◌, ◌^◌, ◌<◌, ◌≤◌, length};
+ghost use Rattle.slh_hash.specs.Places.{place_of};
+ghost use Rattle.slh_hash.specs.Sets.{sha2_128s};
 ghost use Rattle.wots_xmss.specs.Xmss.{xmss_node};
-ghost use Rattle.wots_xmss.specs.Hypertree.{tree_at, hyper_signature, hyper_key};
+ghost use Rattle.wots_xmss.specs.Hypertree.{tree_at, hypertree_bytes, hyper_signature, hyper_key};
 
-use crate::sizes::{HYPERTREE_BYTES, LAYERS, LEAVES, XMSS_BYTES};
+use crate::sizes::{LAYERS, LEAVES, XMSS_BYTES};
 use crate::xmss::{xmss_key_from_sig_with, xmss_sign_with};
-use slh_hash::{P128S, SeedHash};
+use slh_hash::SeedHash;
 
 /// As [`hyper_sign`], with the public seed's block hashed already.
 pub fn hyper_sign_with(
@@ -17,13 +19,13 @@ pub fn hyper_sign_with(
     m: &[u8; 16],
     out: &mut [u8],
 )
-    requires leaf { leaf < 2 ^ P128S.tree_height }
-    requires room { length out.old ≡ HYPERTREE_BYTES }
-    ensures signature { out.new ≡ hyper_signature P128S.tree_height P128S.d seed.now sk_seed.now tree leaf m.now }
+    requires leaf { leaf < 2 ^ sha2_128s.tree_height }
+    requires room { length out.old ≡ hypertree_bytes }
+    ensures signature { out.new ≡ hyper_signature sha2_128s.tree_height sha2_128s.d (place_of seed.now tree leaf) sk_seed.now m.now }
 
     // The key from the signature is the root of the tree in the top layer.
-    ensures verifies { hyper_key P128S.tree_height seed.now tree leaf m.now out.new P128S.d
-        ≡ xmss_node seed.now sk_seed.now (P128S.d - 1) (tree_at P128S.tree_height tree (P128S.d - 1)) P128S.tree_height 0 }
+    ensures verifies { hyper_key sha2_128s.tree_height (place_of seed.now tree leaf) m.now out.new sha2_128s.d
+        ≡ xmss_node seed.now sk_seed.now (sha2_128s.d - 1) (tree_at sha2_128s.tree_height tree (sha2_128s.d - 1)) sha2_128s.tree_height 0 }
 {
     let mut message = *m;
     let mut tree_at = tree;
@@ -45,13 +47,13 @@ pub fn hyper_key_from_sig_with(
     m: &[u8; 16],
     sig: &[u8],
 ) -> [u8; 16]
-    requires length { length sig.now ≡ HYPERTREE_BYTES }
-    ensures value { result ≡ hyper_key P128S.tree_height seed.now tree leaf m.now sig.now P128S.d }
+    requires length { length sig.now ≡ hypertree_bytes }
+    ensures value { result ≡ hyper_key sha2_128s.tree_height (place_of seed.now tree leaf) m.now sig.now sha2_128s.d }
 
     // From a signature that was made it is the root of the tree in the top layer.
-    ensures made { (sk : List ℕ) → leaf < 2 ^ P128S.tree_height
-        → sig.now ≡ hyper_signature P128S.tree_height P128S.d seed.now sk tree leaf m.now
-        → result ≡ xmss_node seed.now sk (P128S.d - 1) (tree_at P128S.tree_height tree (P128S.d - 1)) P128S.tree_height 0 }
+    ensures made { (sk : List ℕ) → leaf < 2 ^ sha2_128s.tree_height
+        → sig.now ≡ hyper_signature sha2_128s.tree_height sha2_128s.d (place_of seed.now tree leaf) sk m.now
+        → result ≡ xmss_node seed.now sk (sha2_128s.d - 1) (tree_at sha2_128s.tree_height tree (sha2_128s.d - 1)) sha2_128s.tree_height 0 }
 {
     let mut key = *m;
     let mut tree_at = tree;
@@ -76,13 +78,13 @@ pub fn hyper_sign(
     m: &[u8; 16],
     out: &mut [u8],
 )
-    requires leaf { leaf < 2 ^ P128S.tree_height }
-    requires room { length out.old ≡ HYPERTREE_BYTES }
-    ensures signature { out.new ≡ hyper_signature P128S.tree_height P128S.d pk_seed.now sk_seed.now tree leaf m.now }
+    requires leaf { leaf < 2 ^ sha2_128s.tree_height }
+    requires room { length out.old ≡ hypertree_bytes }
+    ensures signature { out.new ≡ hyper_signature sha2_128s.tree_height sha2_128s.d (place_of pk_seed.now tree leaf) sk_seed.now m.now }
 
     // The key from the signature is the root of the tree in the top layer.
-    ensures verifies { hyper_key P128S.tree_height pk_seed.now tree leaf m.now out.new P128S.d
-        ≡ xmss_node pk_seed.now sk_seed.now (P128S.d - 1) (tree_at P128S.tree_height tree (P128S.d - 1)) P128S.tree_height 0 }
+    ensures verifies { hyper_key sha2_128s.tree_height (place_of pk_seed.now tree leaf) m.now out.new sha2_128s.d
+        ≡ xmss_node pk_seed.now sk_seed.now (sha2_128s.d - 1) (tree_at sha2_128s.tree_height tree (sha2_128s.d - 1)) sha2_128s.tree_height 0 }
 {
     hyper_sign_with(&SeedHash::new(pk_seed), sk_seed, tree, leaf, m, out);
 }
@@ -96,13 +98,13 @@ pub fn hyper_key_from_sig(
     m: &[u8; 16],
     sig: &[u8],
 ) -> [u8; 16]
-    requires length { length sig.now ≡ HYPERTREE_BYTES }
-    ensures value { result ≡ hyper_key P128S.tree_height pk_seed.now tree leaf m.now sig.now P128S.d }
+    requires length { length sig.now ≡ hypertree_bytes }
+    ensures value { result ≡ hyper_key sha2_128s.tree_height (place_of pk_seed.now tree leaf) m.now sig.now sha2_128s.d }
 
     // From a signature that was made it is the root of the tree in the top layer.
-    ensures made { (sk : List ℕ) → leaf < 2 ^ P128S.tree_height
-        → sig.now ≡ hyper_signature P128S.tree_height P128S.d pk_seed.now sk tree leaf m.now
-        → result ≡ xmss_node pk_seed.now sk (P128S.d - 1) (tree_at P128S.tree_height tree (P128S.d - 1)) P128S.tree_height 0 }
+    ensures made { (sk : List ℕ) → leaf < 2 ^ sha2_128s.tree_height
+        → sig.now ≡ hyper_signature sha2_128s.tree_height sha2_128s.d (place_of pk_seed.now tree leaf) sk m.now
+        → result ≡ xmss_node pk_seed.now sk (sha2_128s.d - 1) (tree_at sha2_128s.tree_height tree (sha2_128s.d - 1)) sha2_128s.tree_height 0 }
 {
     hyper_key_from_sig_with(&SeedHash::new(pk_seed), tree, leaf, m, sig)
 }

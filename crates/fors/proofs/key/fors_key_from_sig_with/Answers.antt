@@ -1,7 +1,8 @@
 use Rattle.std.proofs.Common.{◌≡◌, ◌+◌, ◌-◌, ◌*◌, ℕ, drop, arith, rules}
 use Rattle.slh_hash.proofs.Joined.{put-more, fill-all}
 use Rattle.slh_hash.specs.Lists.{joined, piece}
-use Rattle.fors.specs.Fors.{instance_of, named_leaf, root_from, fors_key_from}
+use Rattle.slh_hash.specs.Places.{place_of}
+use Rattle.fors.specs.Fors.{named_leaf, root_from, fors_key_from}
 use Rattle.fors.proofs.key.fors_key_from_sig_with.Goals as goal
 
 pub trees-init : goal.trees-init
@@ -10,7 +11,7 @@ trees-init c = search rules
 
 pub trees-preserved : goal.trees-preserved
 trees-preserved c =
-    let w = instance_of c.args.seed.now c.args.tree c.args.pair in
+    let w = place_of c.args.seed.now c.args.tree c.args.pair in
     let q = c.trees.q in
     let width : 208 * (q + 1) - 208 * q ≡ 208 = omega arith in
     let root = λ (p : ℕ). root_from 12 w (named_leaf 12 14 c.args.md.now p) (piece 208 p c.args.sig.now) in
@@ -21,6 +22,6 @@ trees-preserved c =
 pub returns : goal.returns
 unfolding fors_key_from
 returns c =
-    let w = instance_of c.args.seed.now c.args.tree c.args.pair in
+    let w = place_of c.args.seed.now c.args.tree c.args.pair in
     let root = λ (p : ℕ). root_from 12 w (named_leaf 12 14 c.args.md.now p) (piece 208 p c.args.sig.now) in
     rw (c.key.ensures, c.new-forest.ensures, fill-all root 16 c.trees.q 14 c.trees.roots c.trees.invariant (omega arith) (omega arith))

@@ -1,4 +1,5 @@
 use Rattle.std.proofs.Common.{◌≡◌, ◌+◌, ◌-◌, ◌*◌, add-one, rules, arith}
+use Rattle.slh_hash.specs.Places.{place_of}
 use Rattle.wots_xmss.specs.Hypertree.{tree_at, leaf_at, hyper_key}
 use Rattle.wots_xmss.proofs.HypertreeLaws.{root-of-layers}
 use Rattle.wots_xmss.proofs.hypertree.hyper_key_from_sig_with.Goals as goal
@@ -20,4 +21,4 @@ layers-preserved c =
 pub returns-clause-made : goal.returns-clause-made
 returns-clause-made c sk below made =
     let all : c.layers.layer ≡ 7 = omega arith in
-    rw (c.layers.invariant.key, all, made) (root-of-layers 9 6 c.args.seed.now sk c.args.tree c.args.leaf c.args.m.now below)
+    rw (c.layers.invariant.key, all, made) (root-of-layers 9 6 (place_of c.args.seed.now c.args.tree c.args.leaf) sk c.args.m.now below)

@@ -1,4 +1,5 @@
 use Rattle.std.proofs.Common.{◌≡◌, ◌∙◌, ◌/◌, arith, sym, zero-add}
+use Rattle.wots_xmss.specs.Wots.{instance_of}
 use Rattle.wots_xmss.specs.Xmss.{xmss_leaf, xmss_node, xmss_path, xmss_signature}
 use Rattle.wots_xmss.proofs.XmssLaws.{root-from-made}
 use Rattle.wots_xmss.proofs.xmss.xmss_sign_with.Goals as goal
@@ -21,4 +22,4 @@ pub returns-clause-verifies : goal.returns-clause-verifies
 returns-clause-verifies c =
     let top : c.args.leaf / 512 ≡ 0 = omega arith in
     let signed = returns-clause-signature c in
-    rw signed (root-from-made 9 c.args.seed.now c.args.sk_seed.now c.args.layer c.args.tree c.args.leaf c.args.m.now top) ∙ sym (returns-clause-root c)
+    rw signed (root-from-made 9 (instance_of c.args.seed.now c.args.layer c.args.tree c.args.leaf) c.args.sk_seed.now c.args.m.now top) ∙ sym (returns-clause-root c)
