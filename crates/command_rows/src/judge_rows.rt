@@ -1,0 +1,137 @@
+// Rows of the judgement of a chain of one text whose signature was tested under one key.
+
+ghost use Rattle.std.specs.Prelude.{All, IfOk};
+ghost use Rattle.jws_form.specs.Compact.{IsCompact};
+ghost use Rattle.chain_check.specs.Judging.{IsOfItsText};
+
+use base64url::decode_32;
+use chain_check::{Judged, Reason, Tried, Verdict, judge};
+use entity_id::EntityId;
+use fed_base::{Duplicate, Memory, Plain, Seq, Steps, Text};
+use fed_json::{Json, is_whole, read_tree};
+use jwk_set::JwkSet;
+use jws_form::{Compact, FormFault, split};
+use sealed::{Tested, seal, test_key};
+use slh_dsa::KeyPair;
+use std::alloc::Global;
+use std::str;
+
+/// The 48 seeds from 96 to 143.
+const SEEDS: [u8; 48] = [
+    96, 97, 98, 99, 100, 101, 102, 103, 104, 105, 106, 107, 108, 109, 110, 111, 112, 113, 114, 115,
+    116, 117, 118, 119, 120, 121, 122, 123, 124, 125, 126, 127, 128, 129, 130, 131, 132, 133, 134,
+    135, 136, 137, 138, 139, 140, 141, 142, 143,
+];
+
+/// What is asked of a chain.
+#[derive(Drop)]
+struct Question<'a> {
+    public: [u8; 32],
+    moment: u64,
+    anchor: &'a str,
+    keys: &'a str,
+    claims: &'a str,
+}
+
+/// The text itself.
+pub fn copied(alloc: Global, text: &str) -> Result<String, Memory> {
+    Ok(format!(in alloc; "{text}")?)
+}
+
+/// What is found of the claims, sealed by the key of the seeds from 96 to 143 and tested under a key, at a moment and for an anchor and its keys.
+pub fn told(alloc: Global, given: &str) -> Result<String, Memory> {
+    let (public, given) = given.split_once('\t').unwrap_or((given, ""));
+    let (moment, given) = given.split_once('\t').unwrap_or((given, ""));
+    let (anchor, given) = given.split_once('\t').unwrap_or((given, ""));
+    let (keys, claims) = given.split_once('\t').unwrap_or((given, ""));
+    let question = Question {
+        public: decode_32(public.as_bytes()).unwrap_or([0; 32]),
+        moment: moment.parse::<u64>().unwrap_or(0),
+        anchor,
+        keys,
+        claims,
+    };
+    let Some(text) = sealed(alloc, &question)? else {
+        return copied(alloc, "no claims");
+    };
+    match taken_apart(alloc, text.as_slice()) {
+        Ok(compact) => judged(alloc, &compact, &question),
+        Err(_) => copied(alloc, "no sealed text"),
+    }
+}
+
+/// The claims, sealed.
+fn sealed(alloc: Global, question: &Question) -> Result<Option<Text>, Memory> {
+    let Ok(claims) = read_tree(alloc, question.claims.as_bytes()) else {
+        return Ok(None);
+    };
+    if !is_whole(&claims) || !matches!(claims, Json::Object(_)) {
+        return Ok(None);
+    }
+    let typ = Text::of(alloc, b"entity-statement+jwt")?;
+    Ok(Some(seal(alloc, &KeyPair::from_seeds(&SEEDS), &typ, &claims)?))
+}
+
+fn taken_apart(alloc: Global, text: &[u8]) -> Result<Compact, FormFault>
+    ensures { IfOk result (λ compact. IsCompact compact.whole compact) }
+{
+    split(alloc, text)
+}
+
+/// The chain of this text alone, with what its test under a key tells.
+fn tested_chain(alloc: Global, compact: &Compact, public: &[u8; 32]) -> Result<Seq<Tried>, Memory>
+    requires { IsCompact compact.now.whole compact.now }
+    ensures { IfOk result (All IsOfItsText) }
+{
+    let mut steps = Steps {
+        ledger: Plain::new(),
+    };
+    let mut tried = Tried {
+        text: compact.whole.copy(alloc)?,
+        seals: Seq::new(alloc),
+        misses: Seq::new(alloc),
+    };
+    match test_key(alloc, compact, public, &mut steps)? {
+        Tested::Yes(seal) => tried.seals.push(seal)?,
+        Tested::No(miss) => tried.misses.push(miss)?,
+    }
+    let mut chain = Seq::new(alloc);
+    chain.push(tried)?;
+    Ok(chain)
+}
+
+fn judged(alloc: Global, compact: &Compact, question: &Question) -> Result<String, Memory>
+    requires { IsCompact compact.now.whole compact.now }
+{
+    let chain = tested_chain(alloc, compact, &question.public)?;
+    let Some(anchor) = EntityId::of(alloc, question.anchor.as_bytes())? else {
+        return copied(alloc, "no anchor");
+    };
+    let Ok(tree) = read_tree(alloc, question.keys.as_bytes()) else {
+        return copied(alloc, "no keys");
+    };
+    let Ok(keys) = JwkSet::read(alloc, &tree) else {
+        return copied(alloc, "no keys");
+    };
+    answer(
+        alloc,
+        &judge(alloc, &chain, &anchor, &keys, question.moment)?,
+    )
+}
+
+fn answer(alloc: Global, judged: &Judged) -> Result<String, Memory> {
+    match judged {
+        Judged::Told(Verdict::Valid(resolved)) => Ok(format!(in alloc; "valid {}", resolved.exp)?),
+        Judged::Told(Verdict::Refused { place, reason }) => {
+            let times = matches!(reason, Reason::Times);
+            Ok(format!(in alloc; "refused {place}, by its times: {times}")?)
+        }
+        Judged::Untried { place, public } => {
+            let public = base64url::encode(alloc, public.as_slice())?;
+            Ok(format!(in alloc;
+                "untried {place} {:?}",
+                str::from_utf8(public.as_slice()).unwrap_or("")
+            )?)
+        }
+    }
+}

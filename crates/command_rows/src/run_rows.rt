@@ -1,0 +1,111 @@
+// Rows of the top call.
+
+use fed_base::{Memory, Seq, Text};
+use fed_commands::run;
+use fed_ports::{MemoryClock, MemorySink, MemorySource, MemoryStore, NamedFile};
+use std::alloc::Global;
+use std::str;
+
+/// The call that fails where none is to fail.
+const NEVER: u64 = 99;
+
+/// Which calls of the outside fail.
+#[derive(Clone, Copy)]
+struct Faults {
+    /// The source's call of this number.
+    source: u64,
+    /// The sink's call of this number.
+    sink: u64,
+    /// Each call of the sink behind this many bytes.
+    room: u64,
+    /// The store's call of this number.
+    store: u64,
+    /// Whether a keeping that fails leaves the new file.
+    leaves_new: bool,
+}
+
+/// The fault that a part spells: its place and its number.
+fn faults_of(part: &str) -> Faults {
+    let none = Faults {
+        source: NEVER,
+        sink: NEVER,
+        room: 9000,
+        store: NEVER,
+        leaves_new: false,
+    };
+    let (place, number) = part.split_once(' ').unwrap_or((part, ""));
+    let number = number.parse::<u64>().unwrap_or(NEVER);
+    match place {
+        "source" => Faults {
+            source: number,
+            ..none
+        },
+        "sink" => Faults {
+            sink: number,
+            ..none
+        },
+        "room" => Faults {
+            room: number,
+            ..none
+        },
+        "store" => Faults {
+            store: number,
+            ..none
+        },
+        "store-leaves-new" => Faults {
+            store: number,
+            leaves_new: true,
+            ..none
+        },
+        _ => none,
+    }
+}
+
+/// The words of a line.
+fn words_of(alloc: Global, line: &str) -> Result<Seq<Text>, Memory> {
+    let mut words = Seq::new(alloc);
+    for word in line.split(' ') {
+        words.push(Text::of(alloc, word.as_bytes())?)?;
+    }
+    Ok(words)
+}
+
+/// A store with this file under the name `r`, or with none where the part is empty.
+fn store_of(alloc: Global, file: &str, faults: Faults) -> Result<MemoryStore, Memory> {
+    let mut files = Seq::new(alloc);
+    if !file.is_empty() {
+        files.push(NamedFile {
+            name: Text::of(alloc, b"r")?,
+            bytes: Text::of(alloc, file.as_bytes())?,
+        })?;
+    }
+    MemoryStore::new(alloc, files, 9000, faults.leaves_new, &[faults.store], 9)
+}
+
+fn printed(bytes: &[u8]) -> &str {
+    str::from_utf8(bytes).unwrap_or("not UTF-8")
+}
+
+/// The status, what is written and the file `r` after a run with these words, this fault, this file and this input with a line end.
+pub fn told<R>(rt: &R, alloc: Global, given: &str) -> Result<String, Memory> {
+    let (words, given) = given.split_once('\t').unwrap_or((given, ""));
+    let (fault, given) = given.split_once('\t').unwrap_or((given, ""));
+    let (file, input) = given.split_once('\t').unwrap_or((given, ""));
+    let faults = faults_of(fault);
+    let mut bytes = Text::of(alloc, input.as_bytes())?;
+    bytes.push(b'\n')?;
+    let mut input = MemorySource::new(alloc, bytes.as_slice(), &[faults.source], 9)?;
+    let mut out = MemorySink::new(alloc, faults.room as usize, &[faults.sink], 99)?;
+    let mut store = store_of(alloc, file, faults)?;
+    let mut clock = MemoryClock::new(alloc, &[])?;
+    let words = words_of(alloc, words)?;
+    let status = run(
+        rt, alloc, &words, &mut input, &mut out, &mut store, &mut clock,
+    );
+    let written = printed(out.as_slice());
+    let kept = match store.file(b"r") {
+        Some(file) => printed(file),
+        None => "",
+    };
+    Ok(format!(in alloc; "{status} {written:?} {kept:?}")?)
+}
