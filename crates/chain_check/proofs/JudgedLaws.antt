@@ -16,7 +16,8 @@ use Rattle.chain_check.specs.Signatures.{AreCurrent, AreSigned, CurrentAt, Signe
 use Rattle.chain_check.specs.Validity.{Case, IsWithin, case_of}
 use Rattle.chain_check.specs.Verdicts.{IsResolved, IsVerdictOn}
 use Rattle.chain_check.specs.Judging.{IsJudgementOn, IsUntriedFirst, NeedsTest, texts_of}
-use Rattle.chain_check.specs.Stages.{AreRead, FailsToResolve, FailsUntried, NoTest, claims_in, texts_in}
+use Rattle.chain_check.specs.Resolving.{FailsToResolve}
+use Rattle.chain_check.specs.Stages.{AreRead, FailsUntried, NoTest, claims_in, texts_in}
 use Rattle.chain_check.proofs.Told.{resolve-told, resolved-told, signature-told, times-told}
 
 module _ (chain : List Tried) (anchor : List ℕ) (keys : List Jwk) (t : ℕ) where

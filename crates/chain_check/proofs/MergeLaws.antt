@@ -12,7 +12,7 @@ use Rattle.policy_merge.specs.declared.fault.PolicyFault.TheVariants as merge
 use Rattle.chain_check.specs.declared.reason.Reason.{Reason}
 use Rattle.chain_check.specs.declared.reason.Reason.TheVariants.{Form, Names, Times, Signature, PathLength, Name, Conflict, Policy}
 use Rattle.chain_check.specs.Policies.{ConflictAt, at_place, merged_with, merged_from}
-use Rattle.chain_check.specs.Stages.{IsConflict, IsConflictAt}
+use Rattle.chain_check.specs.Resolving.{IsConflict, IsConflictAt}
 
 -- the empty policy has no conflict
 pub conflict_in-empty : conflict_in [] ≡ None

@@ -1,6 +1,5 @@
 -- What the stages of a check tell of the texts that were read is the verdict on them.
-use Rattle.std.proofs.Common.{◌≡◌, ◌+◌, ℕ, List, length, Result, Ok, Err, sym, ap, ◌∙◌, subst, arith}
-use Rattle.std.proofs.lemmas.List.{length-map}
+use Rattle.std.proofs.Common.{◌≡◌, ◌+◌, ℕ, List, length, Result, Ok, Err, sym, ap, subst}
 use Rattle.std.specs.Prelude.{is_ok}
 use Rattle.jwk_set.specs.declared.jwk.Jwk.{Jwk}
 use Rattle.entity_statement.specs.declared.signed.SignedStatement.{SignedStatement}
@@ -8,17 +7,18 @@ use Rattle.chain_check.specs.declared.reason.Reason.{Reason}
 use Rattle.chain_check.specs.declared.reason.Reason.TheVariants.{Form, Names, Times, Signature, PathLength, Name, Conflict, Policy}
 use Rattle.chain_check.specs.declared.verdict.Resolved.{Resolved}
 use Rattle.chain_check.specs.declared.verdict.Verdict.TheVariants.{Valid}
+use Rattle.chain_check.specs.declared.verdict.Verdict.TheVariants as verdict
 use Rattle.fed_base.specs.Places.{FailsFirst}
 use Rattle.chain_check.specs.Chains.{Texts, statements_of}
 use Rattle.chain_check.specs.Names.{HasNames, LosesNames}
 use Rattle.chain_check.specs.Signatures.{AreCurrent, AreSigned, CurrentAt, NamesOneKey, SignedAt}
 use Rattle.chain_check.specs.Validity.{Case, IsWithin, ToLimits, ToSignatures, ToTimes, case_of}
 use Rattle.chain_check.specs.Verdicts.{IsFirstFailure, IsResolved, IsVerdictOn}
-use Rattle.chain_check.specs.Stages.{AreRead, FailsToResolve, Passes, claims_in, entry_text, texts_in, verdict_in}
-use Rattle.chain_check.specs.Counts.{Counts, CountsAll, CountsVerdict}
+use Rattle.chain_check.specs.Resolving.{FailsToResolve}
+use Rattle.chain_check.specs.Stages.{AreRead, Passes, claims_in, texts_in, verdict_in}
+use Rattle.chain_check.specs.Counts.{CountsAtMost, CountsChecks, CountsSigned, CountsVerdict}
 use Rattle.chain_check.specs.declared.stop.Stop.{Stop}
 use Rattle.chain_check.specs.declared.stop.Stop.TheVariants as stop
-use Rattle.chain_check.proofs.SignatureLaws.{Counts-within}
 
 -- ---- the names
 
@@ -29,19 +29,22 @@ names-told texts anchor keys t entries read place reason told =
 
 -- ---- how many signatures were checked
 
-module _ (texts : Texts) (keys : List Jwk) (entries : List SignedStatement) (read : AreRead texts entries) where
-  abbrev One : Type 0
-  One = NamesOneKey texts (statements_of texts) keys
+module _ (texts : Texts) (anchor : List ℕ) (keys : List Jwk) (t : ℕ) (entries : List SignedStatement) (read : AreRead texts entries) where
+  checks-read : (r : Result (Unit {0}) Stop) (before now : ℕ) → CountsChecks (texts_in entries) (claims_in entries) keys r before now → CountsChecks texts (statements_of texts) keys r before now
+  checks-read r before now count =
+      subst (λ chain. CountsChecks texts chain keys r before now) read.statements (subst (λ ts. CountsChecks ts (claims_in entries) keys r before now) read.same count)
 
-  length-read : length entries ≡ length texts
-  length-read = sym (length-map entries entry_text) ∙ ap length read.same
+  -- where a text isn't signed, or memory is wanting at its check
+  pub counted-unsigned : (stop : Stop) (P : Unit {0} → Type 0) (Q : ℕ → Type 0) (before now : ℕ) → Passes {X = Unit {0}} (Err stop) P (λ place reason. (reason ≡ Signature) × Q place)
+      → CountsChecks (texts_in entries) (claims_in entries) keys (Err stop) before now → CountsVerdict (case_of texts anchor keys t) (verdict_in (Err stop)) before now
+  counted-unsigned (stop.Refused place reason) P Q before now told count =
+      subst (λ r. CountsVerdict (case_of texts anchor keys t) (Ok (verdict.Refused place r)) before now) (sym told.0) (checks-read (Err (stop.Refused place reason)) before now count)
+  counted-unsigned stop.Memory P Q before now told count = checks-read (Err stop.Memory) before now count
 
-  names-read : (n before now : ℕ) → CountsAll n (NamesOneKey (texts_in entries) (claims_in entries) keys) before now → CountsAll n One before now
-  names-read n before now count =
-      subst (λ chain. CountsAll n (NamesOneKey texts chain keys) before now) read.statements (subst (λ ts. CountsAll n (NamesOneKey ts (claims_in entries) keys) before now) read.same count)
-
-  by_outcome : (r : Result Resolved Stop) (P : Resolved → Type 0) (before now : ℕ) → Passes r P (FailsToResolve (claims_in entries)) → CountsAll (length texts) One before now
-      → Counts (length texts) (length texts + 1) before now → CountsVerdict (length texts) One (verdict_in r) before now
+  -- where all are
+  by_outcome : (r : Result Resolved Stop) (P : Resolved → Type 0) (before now : ℕ) → Passes r P (FailsToResolve (claims_in entries))
+      → CountsSigned (length texts) (NamesOneKey texts (statements_of texts) keys) before now → CountsAtMost (length texts + 1) before now
+      → CountsVerdict (case_of texts anchor keys t) (verdict_in r) before now
   by_outcome (Ok resolved) P before now told all count = all
   by_outcome (Err (stop.Refused place PathLength)) P before now told all count = all
   by_outcome (Err (stop.Refused place Name)) P before now told all count = all
@@ -51,13 +54,11 @@ module _ (texts : Texts) (keys : List Jwk) (entries : List SignedStatement) (rea
   by_outcome (Err (stop.Refused place Names)) P before now told all count = absurd told
   by_outcome (Err (stop.Refused place Times)) P before now told all count = absurd told
   by_outcome (Err (stop.Refused place Signature)) P before now told all count = absurd told
-  by_outcome (Err stop.Memory) P before now told all count = Counts-within 0 (length texts + 1) (omega arith) (omega arith) count
+  by_outcome (Err stop.Memory) P before now told all count = count
 
   pub counted-told : (r : Result Resolved Stop) (P : Resolved → Type 0) (before now : ℕ) → Passes r P (FailsToResolve (claims_in entries))
-      → CountsAll (length entries) (NamesOneKey (texts_in entries) (claims_in entries) keys) before now × Counts (length entries) (length entries + 1) before now
-      → CountsVerdict (length texts) One (verdict_in r) before now
-  counted-told r P before now told both =
-      by_outcome r P before now told (subst (λ n. CountsAll n One before now) length-read (names-read (length entries) before now both.0)) (subst (λ n. Counts n (n + 1) before now) length-read both.1)
+      → CountsChecks (texts_in entries) (claims_in entries) keys (Ok tt) before now → CountsVerdict (case_of texts anchor keys t) (verdict_in r) before now
+  counted-told r P before now told count = let read : CountsChecks texts (statements_of texts) keys (Ok tt) before now = checks-read (Ok tt) before now count in by_outcome r P before now told read.0 read.1
 
 -- ---- the classes after the names
 
@@ -93,8 +94,8 @@ module _ (texts : Texts) (anchor : List ℕ) (keys : List Jwk) (t : ℕ) (entrie
       by_reason : (place : ℕ) (reason : Reason) → FailsToResolve (statements_of texts) place reason → IsFirstFailure case place reason
       by_reason place PathLength told = (to_limits, told)
       by_reason place Name told = (to_limits, told)
-      by_reason place (Conflict t p f s) told = ((to_limits, told.0), told.1)
-      by_reason place (Policy t p o) told = ((to_limits, told.0), told.1.2.0, (told.1.0, told.1.1, told.1.2.1))
+      by_reason place (Conflict t p f s) told = (to_limits, told)
+      by_reason place (Policy t p o) told = (to_limits, told)
       by_reason place Form told = absurd told
       by_reason place Names told = absurd told
       by_reason place Times told = absurd told

@@ -138,22 +138,22 @@ module _ (case : Case) where
   staged (Refused place Signature) (to, fails) = inl ((to.0.0, inl ((to.0.1, inl ((to.1, inr ((place, refl, fails))))))))
   staged (Refused place PathLength) (to, fails) = inl ((to.0.0.0, inl ((to.0.0.1, inl ((to.0.1, inl ((to.1, inr ((limit.PathLength place, fails, refl))))))))))
   staged (Refused place Name) (to, fails) = inl ((to.0.0.0, inl ((to.0.0.1, inl ((to.0.1, inl ((to.1, inr ((limit.Name place, fails, refl))))))))))
-  staged (Refused place (Conflict t p f s)) (to, fails) =
-      inl ((to.0.0.0.0, inl ((to.0.0.0.1, inl ((to.0.0.1, inl ((to.0.1, inl ((to.1, inr ((record { place = place; conflict = merge.Conflict t p f s }, fails, refl))))))))))))
-  staged (Refused place (Policy t p o)) (to, zeroth, fails) =
+  staged (Refused place (Conflict t p f s)) (to, (within, fails)) =
+      inl ((to.0.0.0, inl ((to.0.0.1, inl ((to.0.1, inl ((to.1, inl ((within, inr ((record { place = place; conflict = merge.Conflict t p f s }, fails, refl))))))))))))
+  staged (Refused place (Policy t p o)) (to, (within, (policy, merged, (zeroth, refused)))) =
       inl ((
-        to.0.0.0.0,
+        to.0.0.0,
         inl ((
-          to.0.0.0.1,
+          to.0.0.1,
           inl ((
-            to.0.0.1,
+            to.0.1,
             inl ((
-              to.0.1,
+              to.1,
               inl ((
-                to.1,
+                within,
                 inl ((
-                  merges-ok fails.0 fails.1,
-                  inr ((fails.0, apply.Refused t p o, fails.1, fails.2, ap (λ n. Some (Refused n (Policy t p o))) (sym zeroth))),
+                  merges-ok policy merged,
+                  inr ((policy, apply.Refused t p o, merged, refused, ap (λ n. Some (Refused n (Policy t p o))) (sym zeroth))),
                 )),
               )),
             )),

@@ -1,10 +1,11 @@
 pub mod Chains
-pub mod Names
-pub mod Signatures
-pub mod Policies
+pub mod Counts
+pub mod Judging
 pub mod Metadata
+pub mod Names
+pub mod Policies
+pub mod Resolving
+pub mod Signatures
+pub mod Stages
 pub mod Validity
 pub mod Verdicts
-pub mod Judging
-pub mod Counts
-pub mod Stages

@@ -1,19 +1,10 @@
 -- What the stages of a check say of the texts that were read, and what each answers.
-use Rattle.std.specs.Prelude.{◌≡◌, ℕ, List, length, map, Option, Some, None, All, Result, Ok, Err}
-use Rattle.fed_json.specs.declared.tree.Json.{Json}
+use Rattle.std.specs.Prelude.{◌≡◌, ℕ, List, length, map, Option, Some, None, All, Bool, true, false, Result, Ok, Err}
 use Rattle.entity_statement.specs.Claims.{Claims}
 use Rattle.entity_statement.specs.Signed.{IsSplit}
 use Rattle.entity_statement.specs.Told.{told}
-use Rattle.chain_limits.specs.declared.place.Place.{Place}
-use Rattle.chain_limits.specs.Limits.{IsVerdict}
-use Rattle.chain_limits.specs.declared.verdict.LimitVerdict.TheVariants as limit
-use Rattle.policy_merge.specs.Policies.{Types}
-use Rattle.policy_merge.specs.declared.fault.PolicyFault.{PolicyFault}
-use Rattle.policy_merge.specs.declared.fault.PolicyFault.TheVariants as merge
-use Rattle.policy_apply.specs.declared.fault.ApplyFault.{ApplyFault}
-use Rattle.policy_apply.specs.declared.fault.ApplyFault.TheVariants as apply
 use Rattle.chain_check.specs.declared.reason.Reason.{Reason}
-use Rattle.chain_check.specs.declared.reason.Reason.TheVariants.{Signature, PathLength, Name, Conflict, Policy}
+use Rattle.chain_check.specs.declared.reason.Reason.TheVariants.{Signature}
 use Rattle.fed_base.specs.declared.faults.Memory.{Memory as NoMemory}
 use Rattle.entity_statement.specs.declared.signed.SignedStatement.{SignedStatement}
 use Rattle.chain_check.specs.declared.verdict.Resolved.{Resolved}
@@ -22,7 +13,9 @@ use Rattle.chain_check.specs.declared.verdict.Verdict.TheVariants as verdict
 use Rattle.chain_check.specs.declared.stop.Stop.{Stop}
 use Rattle.chain_check.specs.declared.stop.Stop.TheVariants.{Refused, Memory}
 use Rattle.jwk_set.specs.declared.jwk.Jwk.{Jwk}
-use Rattle.sealed.specs.Seals.{IsSealedBy}
+use Rattle.sealed.specs.declared.fault.SealFault.{SealFault}
+use Rattle.sealed.specs.declared.fault.SealFault.TheVariants as seal
+use Rattle.sealed.specs.Seals.{IsSealedBy, Pair}
 use Rattle.chain_check.specs.declared.tried.Tried.{Tried}
 use Rattle.chain_check.specs.declared.known.Known.{Known}
 use Rattle.chain_check.specs.declared.known.Known.TheVariants as known
@@ -31,9 +24,6 @@ use Rattle.fed_base.specs.Places.{FailsFirst}
 use Rattle.chain_check.specs.Signatures.{AreSigned, SignedAt}
 use Rattle.chain_check.specs.Judging.{IsKnownSeal, IsUnknown, IsUntriedFirst, texts_of}
 use Rattle.chain_check.specs.Chains.{Texts, HasForm, statements_of}
-use Rattle.chain_check.specs.Policies.{ConflictAt, merged_policy}
-use Rattle.chain_check.specs.Metadata.{limited_places}
-use Rattle.chain_check.specs.Validity.{IsWithin, applied}
 
 -- the texts and the statements that were read
 abbrev pub entry_text : SignedStatement → List ℕ
@@ -61,30 +51,11 @@ Passes (Ok x) passed failed = passed x
 Passes (Err (Refused place reason)) passed failed = failed place reason
 Passes (Err Memory) passed failed = Unit {0}
 
--- the reason tells the limit, the conflict of a merge, or the refusal of a policy
-abbrev pub IsLimit : List Place → ℕ → Reason → Type 0
-IsLimit places place PathLength = IsVerdict places (limit.PathLength place)
-IsLimit places place Name = IsVerdict places (limit.Name place)
-IsLimit places place _ = ⊥
-
-abbrev pub IsConflict : Result Types PolicyFault → Reason → Type 0
-IsConflict outcome (Conflict t p f s) = outcome ≡ Err (merge.Conflict t p f s)
-IsConflict outcome _ = ⊥
-
-abbrev pub IsConflictAt : Result Types ConflictAt → ℕ → Reason → Type 0
-IsConflictAt outcome place (Conflict t p f s) = outcome ≡ Err (record { place = place; conflict = merge.Conflict t p f s })
-IsConflictAt outcome place _ = ⊥
-
-abbrev pub IsRefusal : Result Json ApplyFault → ℕ → Reason → Type 0
-IsRefusal outcome place (Policy t p o) = (place ≡ 0) × (outcome ≡ Err (apply.Refused t p o))
-IsRefusal outcome place _ = ⊥
-
--- why a chain doesn't resolve, whose texts are read, named, current and signed as they must be
-abbrev pub FailsToResolve : List Claims → ℕ → Reason → Type 0
-FailsToResolve chain place (Conflict t p f s) = IsWithin chain × IsConflictAt (merged_policy chain) place (Conflict t p f s)
-FailsToResolve chain place (Policy t p o) =
-    IsWithin chain × ((policy : Types) × (merged_policy chain ≡ Ok policy) × IsRefusal (applied chain policy) place (Policy t p o))
-FailsToResolve chain place reason = IsLimit (limited_places chain) place reason
+-- what a check of a seal tells: whether there is one, or that memory was wanting
+abbrev pub Tells : Result Pair SealFault → Result Bool NoMemory → Type 0
+Tells (Ok pair) sealed = sealed ≡ Ok true
+Tells (Err seal.Memory) sealed = sealed ≡ Err (record {})
+Tells (Err fault) sealed = sealed ≡ Ok false
 
 -- the verdict that a check comes to
 abbrev pub verdict_in : Result Resolved Stop → Result Verdict NoMemory

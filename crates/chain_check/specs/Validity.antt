@@ -72,6 +72,3 @@ ToSignatures case = ToTimes case × AreCurrent (chain_of case) case.moment
 
 abbrev pub ToLimits : Case → Type 0
 ToLimits case = ToSignatures case × AreSigned case.texts (chain_of case) case.keys
-
-abbrev pub ToMerge : Case → Type 0
-ToMerge case = ToLimits case × IsWithin (chain_of case)

@@ -1,15 +1,10 @@
 -- What is answered on a chain: what a valid one resolves to, and the first failure of any other.
-use Rattle.std.specs.Prelude.{◌≡◌, ℕ, List, [], ◌∷◌, length, fold, min, Ok, Err, Bool, true, false}
+use Rattle.std.specs.Prelude.{◌≡◌, ℕ, List, [], ◌∷◌, length, fold, min, Bool, true, false}
 use Rattle.fed_json.specs.Forms.{IsWhole}
-use Rattle.chain_limits.specs.Limits.{IsVerdict}
-use Rattle.chain_limits.specs.declared.verdict.LimitVerdict.TheVariants as limit
-use Rattle.policy_merge.specs.Policies.{Types}
-use Rattle.policy_merge.specs.declared.fault.PolicyFault.TheVariants as merge
-use Rattle.policy_apply.specs.declared.fault.ApplyFault.TheVariants as apply
 use Rattle.entity_statement.specs.Claims.{Claims}
 use Rattle.policy_merge.specs.Places.{AreUtf8}
 use Rattle.chain_check.specs.declared.reason.Reason.{Reason}
-use Rattle.chain_check.specs.declared.reason.Reason.TheVariants.{Form, Names, Times, Signature, PathLength, Name, Conflict, Policy}
+use Rattle.chain_check.specs.declared.reason.Reason.TheVariants.{Form, Names, Times, Signature, Conflict, Policy}
 use Rattle.chain_check.specs.declared.verdict.Resolved.{Resolved}
 use Rattle.chain_check.specs.declared.verdict.Verdict.{Verdict}
 use Rattle.chain_check.specs.declared.verdict.Verdict.TheVariants.{Valid, Refused}
@@ -17,9 +12,8 @@ use Rattle.fed_base.specs.Places.{FailsFirst}
 use Rattle.chain_check.specs.Chains.{LosesForm}
 use Rattle.chain_check.specs.Names.{LosesNames, subject_at}
 use Rattle.chain_check.specs.Signatures.{CurrentAt, SignedAt}
-use Rattle.chain_check.specs.Policies.{merged_policy}
-use Rattle.chain_check.specs.Metadata.{limited_places}
-use Rattle.chain_check.specs.Validity.{Case, chain_of, IsValid, ToNames, ToTimes, ToSignatures, ToLimits, ToMerge, ResolvesTo, applied}
+use Rattle.chain_check.specs.Validity.{Case, chain_of, IsValid, ToNames, ToTimes, ToSignatures, ToLimits, ResolvesTo}
+use Rattle.chain_check.specs.Resolving.{FailsToResolve}
 
 -- the first failure of a chain: of the first class that it doesn't pass, the least place. The classes are Form, Names,
 -- Times, Signature, limits (PathLength before Name at one place), Conflict and Policy
@@ -28,11 +22,7 @@ IsFirstFailure case place Form = LosesForm case.texts place
 IsFirstFailure case place Names = ToNames case × LosesNames (chain_of case) case.anchor place
 IsFirstFailure case place Times = ToTimes case × FailsFirst (CurrentAt (chain_of case) case.moment) (length (chain_of case)) place
 IsFirstFailure case place Signature = ToSignatures case × FailsFirst (SignedAt case.texts (chain_of case) case.keys) (length (chain_of case)) place
-IsFirstFailure case place PathLength = ToLimits case × IsVerdict (limited_places (chain_of case)) (limit.PathLength place)
-IsFirstFailure case place Name = ToLimits case × IsVerdict (limited_places (chain_of case)) (limit.Name place)
-IsFirstFailure case place (Conflict t p f s) = ToMerge case × (merged_policy (chain_of case) ≡ Err (record { place = place; conflict = merge.Conflict t p f s }))
-IsFirstFailure case place (Policy t p o) =
-    ToMerge case × (place ≡ 0) × ((policy : Types) × (merged_policy (chain_of case) ≡ Ok policy) × (applied (chain_of case) policy ≡ Err (apply.Refused t p o)))
+IsFirstFailure case place reason = ToLimits case × FailsToResolve (chain_of case) place reason
 
 -- the least moment at which a statement of the chain expires
 unfoldable pub least_exp : List Claims → ℕ

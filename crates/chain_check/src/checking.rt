@@ -1,6 +1,6 @@
 // The check of a chain, rule by rule.
 
-ghost use Rattle.std.specs.Prelude.{◌≡◌, ◌≤◌, ◌↔◌, ℕ, List, IfOk, IsTrue, length};
+ghost use Rattle.std.specs.Prelude.{◌≡◌, ◌≤◌, ◌↔◌, ℕ, List, IfOk, IsTrue};
 ghost use Rattle.jwk_set.specs.declared.jwk.Jwk.{Jwk};
 ghost use Rattle.chain_check.specs.declared.verdict.Resolved.{Resolved};
 ghost use Rattle.chain_check.specs.declared.verdict.Verdict.{Verdict as Answer};
@@ -9,7 +9,7 @@ ghost use Rattle.chain_check.specs.Validity.{Case, IsValid, IsWithin, Merges, ca
 ghost use Rattle.chain_check.specs.Verdicts.{CanBeWritten, IfValid, IsVerdictOn, is_valid};
 ghost use Rattle.chain_check.specs.Chains.{statements_of};
 ghost use Rattle.chain_check.specs.Counts.{CountsVerdict};
-ghost use Rattle.chain_check.specs.Signatures.{AreCurrent, AreSigned, Extends, HasExpired, NamesOneKey};
+ghost use Rattle.chain_check.specs.Signatures.{AreCurrent, AreSigned, Extends, HasExpired};
 ghost use Rattle.chain_check.specs.Stages.{Passes, verdict_in};
 
 use crate::names::check_names;
@@ -52,7 +52,8 @@ pub fn check_chain<L: Ledger>(
     ensures texts_alone { IfOk result (λ verdict. (other : Case) (same : Resolved) → other.texts ≡ chain.now
         → IsVerdictOn other (Valid same) → IfValid verdict (λ resolved. resolved ≡ same)) }
     ensures written { IfOk result CanBeWritten }
-    ensures counted { CountsVerdict (length chain.now) (NamesOneKey chain.now (statements_of chain.now) keys.now.keys)
+    // How many signatures were checked, as the ledger that was lent counts them.
+    ensures counted { CountsVerdict (case_of chain.now anchor.now keys.now.keys t)
         result (L.count steps.old.ledger) (L.count steps.new.ledger) }
 {
     match checked(alloc, chain.as_slice(), anchor, keys, t, steps) {
@@ -74,7 +75,7 @@ fn checked<L: Ledger>(
         (λ resolved. IsVerdictOn (case_of texts.now anchor.now keys.now.keys t) (Valid resolved))
         (λ place reason. IsVerdictOn (case_of texts.now anchor.now keys.now.keys t) (Refused place reason)) }
     ensures written { Passes result (λ resolved. CanBeWritten (Valid resolved)) (λ place reason. CanBeWritten (Refused place reason)) }
-    ensures counted { CountsVerdict (length texts.now) (NamesOneKey texts.now (statements_of texts.now) keys.now.keys)
+    ensures counted { CountsVerdict (case_of texts.now anchor.now keys.now.keys t)
         (verdict_in result) (L.count steps.old.ledger) (L.count steps.new.ledger) }
 {
     let entries = read_chain(alloc, texts)?;

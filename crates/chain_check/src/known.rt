@@ -67,7 +67,7 @@ pub(crate) fn first_untried(
     Ok(None)
 }
 
-/// The keys by one of which the seal of that number is made: the first is the leaf's own, the next one that of its superior.
+// The keys by one of which the seal of that number is made: the first is the leaf's own, the next one that of its superior.
 fn keys_for<'a>(entries: &'a [SignedStatement], keys: &'a JwkSet, i: usize) -> &'a JwkSet
     requires some { 0 < length entries.now }
     requires within { i ≤ length entries.now }

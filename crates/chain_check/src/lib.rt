@@ -1,5 +1,6 @@
-//! Trust chains of OpenID Federation 1.0 (section 10.2): a list of signed texts, from the leaf's configuration up to the
-//! trust anchor's, that is valid for an anchor, its keys and a moment, or is refused with its first failure.
+//! Layer 5, chains: trust chains of OpenID Federation 1.0 (section 10.2), each a list of signed texts from the leaf's
+//! configuration up to the trust anchor's, that is valid for an anchor, its keys and a moment, or is refused with its
+//! first failure.
 //!
 //! The crates above hand over texts as they were read or fetched. They take the leaf's metadata from the answer on a
 //! valid chain, and tell the place and the reason of the answer on any other.

@@ -10,8 +10,8 @@ ghost use Rattle.chain_check.specs.Stages.{claims_in};
 
 use chain_limits::{Place, allowed_types};
 use entity_statement::SignedStatement;
-use fed_json::{Json, Member, Sides, find, object_members};
 use fed_base::{Duplicate, Memory, Seq};
+use fed_json::{Json, Member, Sides, find, object_members};
 use std::alloc::Global;
 
 /// The leaf's metadata before policies: with its superior's put over it, and without the types that aren't allowed.
@@ -41,7 +41,7 @@ fn own_metadata(alloc: Global, entries: &[SignedStatement]) -> Result<Json, Memo
     }
 }
 
-/// Metadata with the superior's put over it, for the types that it has.
+// Metadata with the superior's put over it, for the types that it has.
 fn put_over(alloc: Global, upper: &Json, metadata: &Json) -> Result<Json, Memory>
     requires upper { IsMetadata upper.now }
     requires own { IsMetadata metadata.now }
@@ -56,7 +56,7 @@ fn put_over(alloc: Global, upper: &Json, metadata: &Json) -> Result<Json, Memory
     Ok(Json::Object(types))
 }
 
-/// An entity type with what the superior says of it.
+// An entity type with what the superior says of it.
 fn type_over(alloc: Global, upper: &[Member], own: &Member) -> Result<Member, Memory>
     requires upper { IsTrue (rising (map member_name (option_map_or members_of (find_in own.now.name upper.now) []))) }
     requires own { IsTrue (rising (map member_name (members_of own.now.value))) }
@@ -73,7 +73,7 @@ fn type_over(alloc: Global, upper: &[Member], own: &Member) -> Result<Member, Me
     })
 }
 
-/// The parameters of both, in byte order of their names; of two with one name the superior's.
+// The parameters of both, in byte order of their names; of two with one name the superior's.
 fn parameters_over(alloc: Global, upper: &[Member], own: &[Member]) -> Result<Seq<Member>, Memory>
     requires upper { IsTrue (rising (map member_name upper.now)) }
     requires own { IsTrue (rising (map member_name own.now)) }

@@ -11,7 +11,8 @@ ghost use Rattle.chain_check.specs.Metadata.{place_of};
 ghost use Rattle.chain_check.specs.Policies.{merged_from};
 ghost use Rattle.chain_check.specs.Validity.{IsWithin};
 ghost use Rattle.chain_check.specs.Verdicts.{HasUtf8Names, IsResolved};
-ghost use Rattle.chain_check.specs.Stages.{FailsToResolve, IsConflict, IsConflictAt, IsLimit, IsRefusal, Passes, claims_in};
+ghost use Rattle.chain_check.specs.Resolving.{FailsToResolve, IsConflict, IsConflictAt, IsLimit, IsRefusal};
+ghost use Rattle.chain_check.specs.Stages.{Passes, claims_in};
 
 use crate::metadata::allowed_metadata;
 use crate::reason::Reason;
@@ -19,8 +20,8 @@ use crate::stop::Stop;
 use crate::verdict::Resolved;
 use chain_limits::{LimitVerdict, Place, limits_met};
 use entity_statement::SignedStatement;
-use fed_json::Json;
 use fed_base::{Duplicate, Memory, Seq, Text};
+use fed_json::Json;
 use policy_apply::{ApplyFault, apply};
 use policy_merge::{Policy, PolicyFault};
 use std::alloc::Global;
@@ -54,7 +55,7 @@ fn least_exp(first: u64, entries: &[SignedStatement]) -> u64
         .fold(first, |exp, entry| exp.min(entry.statement.exp))
 }
 
-/// What limits speak of, of each statement below the trust anchor's configuration.
+// What limits speak of, of each statement below the trust anchor's configuration.
 fn limited_places(alloc: Global, below: &[SignedStatement]) -> Result<Seq<Place>, Memory>
     ensures { IfOk result (λ places. places ≡ map place_of (claims_in below.now)) }
 {
@@ -85,8 +86,8 @@ fn check_limits(places: &Seq<Place>) -> Result<(), Stop>
     }
 }
 
-/// The policies of the subordinate statements, merged from the trust anchor's down. The first of the statements is the
-/// leaf's configuration, which has none.
+// The policies of the subordinate statements, merged from the trust anchor's down. The first of the statements is the
+// leaf's configuration, which has none.
 fn merge_policies(alloc: Global, below: &[SignedStatement]) -> Result<Policy, Stop>
     ensures merged { Passes result
         (λ policy. merged_from 1 (map (λ s. s.policy) (drop 1 (claims_in below.now))) ≡ Ok policy)

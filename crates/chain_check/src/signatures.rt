@@ -1,14 +1,14 @@
 // Moments and signatures along a chain.
 
-ghost use Rattle.std.specs.Prelude.{◌≡◌, ◌<◌, ◌≤◌, ◌+◌, ◌↔◌, All, IfOk, IsTrue, Some, length};
+ghost use Rattle.std.specs.Prelude.{◌≡◌, ◌<◌, ◌≤◌, ◌+◌, ◌↔◌, [], All, IfOk, IsSome, IsTrue, Some, length, slice_index_or};
 ghost use Rattle.jws_form.specs.Compact.{IsCompact};
 ghost use Rattle.sealed.specs.Seals.{IsSealedBy, named_key};
 ghost use Rattle.chain_check.specs.declared.reason.Reason.TheVariants.{Times, Signature};
 ghost use Rattle.fed_base.specs.Places.{FailsFirst};
-ghost use Rattle.chain_check.specs.Counts.{CountsBoth, CountsChecks, CountsPlace, CountsTest};
-ghost use Rattle.chain_check.specs.Signatures.{AreCurrent, AreSigned, CurrentAt, NamesOneKey, SignedAt, key_in, superior_keys as keys_above};
+ghost use Rattle.chain_check.specs.Counts.{CountsBoth, CountsChecks, CountsTest};
+ghost use Rattle.chain_check.specs.Signatures.{AreCurrent, AreSigned, CurrentAt, SignedAt, keys_at, superior_keys as keys_above};
 ghost use Rattle.entity_statement.specs.Signed.{IsSplit};
-ghost use Rattle.chain_check.specs.Stages.{Passes, claims_in, texts_in};
+ghost use Rattle.chain_check.specs.Stages.{Passes, Tells, claims_in, texts_in};
 
 use crate::reason::Reason;
 use crate::stop::Stop;
@@ -16,7 +16,7 @@ use entity_statement::SignedStatement;
 use fed_base::{Ledger, Memory, Steps};
 use jwk_set::JwkSet;
 use jws_form::Compact;
-use sealed::{SealFault, check_sealed};
+use sealed::{SealFault, Sealed, check_sealed};
 use std::alloc::Global;
 
 /// Looks whether each statement is current at the moment.
@@ -49,8 +49,7 @@ pub(crate) fn check_signatures<L: Ledger>(
         (λ place reason. (reason ≡ Signature)
         × FailsFirst (SignedAt (texts_in entries.now) (claims_in entries.now) keys.now.keys)
         (length (claims_in entries.now)) place) }
-    ensures counted { CountsChecks (length entries.now)
-        (NamesOneKey (texts_in entries.now) (claims_in entries.now) keys.now.keys)
+    ensures counted { CountsChecks (texts_in entries.now) (claims_in entries.now) keys.now.keys
         result (L.count steps.old.ledger) (L.count steps.new.ledger) }
 {
     for j in 0..entries.len() {
@@ -75,7 +74,11 @@ fn is_signed<L: Ledger>(
     requires split { All IsSplit entries.now }
     ensures signed { IfOk result (λ signed. IsTrue signed
         ↔ SignedAt (texts_in entries.now) (claims_in entries.now) keys.now.keys j) }
-    ensures counted { CountsPlace j (NamesOneKey (texts_in entries.now) (claims_in entries.now) keys.now.keys)
+    ensures leaf { j ≡ 0
+        → CountsBoth (slice_index_or (texts_in entries.now) 0 []) (keys_at (claims_in entries.now) 0 []) (keys_above (claims_in entries.now) keys.now.keys 0)
+        result (L.count steps.old.ledger) (L.count steps.new.ledger) }
+    ensures others { 0 < j
+        → CountsTest (keys_above (claims_in entries.now) keys.now.keys j) (slice_index_or (texts_in entries.now) j [])
         result (L.count steps.old.ledger) (L.count steps.new.ledger) }
 {
     let entry = &entries[j];
@@ -116,16 +119,24 @@ fn is_sealed<L: Ledger>(
 ) -> Result<bool, Memory>
     requires { IsCompact compact.now.whole compact.now }
     ensures sealed { IfOk result (λ sealed. IsTrue sealed ↔ IsSealedBy compact.now.whole set.now.keys) }
-    ensures counted { CountsTest result (L.count steps.old.ledger) (L.count steps.new.ledger) }
+    ensures counted { CountsTest set.now.keys compact.now.whole result (L.count steps.old.ledger) (L.count steps.new.ledger) }
 {
-    match check_sealed(alloc, compact, set, steps) {
+    was_sealed(check_sealed(alloc, compact, set, steps))
+}
+
+// Whether a check found a seal, unless memory was wanting.
+fn was_sealed(checked: Result<Sealed, SealFault>) -> Result<bool, Memory>
+    ensures { Tells checked result }
+{
+    match checked {
         Ok(_) => Ok(true),
         Err(SealFault::Memory) => Err(Memory),
         Err(_) => Ok(false),
     }
 }
 
-/// Whether the text is sealed by a key of each of two sets. One check does where its header names one key in both.
+// Whether the text is sealed by a key of each of two sets. No check is made where its header names none in one of them,
+// and one does where it names the same in both.
 fn is_sealed_by_both<L: Ledger>(
     alloc: Global,
     compact: &Compact,
@@ -136,9 +147,12 @@ fn is_sealed_by_both<L: Ledger>(
     requires { IsCompact compact.now.whole compact.now }
     ensures sealed { IfOk result (λ sealed. IsTrue sealed
         ↔ (IsSealedBy compact.now.whole own.now.keys × IsSealedBy compact.now.whole superior.now.keys)) }
-    ensures counted { CountsBoth (key_in own.now.keys compact.now.whole ≡ key_in superior.now.keys compact.now.whole)
+    ensures counted { CountsBoth compact.now.whole own.now.keys superior.now.keys
         result (L.count steps.old.ledger) (L.count steps.new.ledger) }
 {
+    if !names_both(compact, own, superior) {
+        return Ok(false);
+    }
     if !is_sealed(alloc, compact, own, steps)? {
         return Ok(false);
     }
@@ -148,7 +162,18 @@ fn is_sealed_by_both<L: Ledger>(
     is_sealed(alloc, compact, superior, steps)
 }
 
-/// Whether the text's header names the same key in both sets, or none in either.
+// Whether the text's header names a key in each of two sets.
+fn names_both(compact: &Compact, own: &JwkSet, superior: &JwkSet) -> bool
+    ensures { IsTrue result
+        ↔ (IsSome (named_key compact.now own.now.keys) × IsSome (named_key compact.now superior.now.keys)) }
+{
+    match &compact.kid {
+        Some(kid) => own.key_of(kid).is_some() && superior.key_of(kid).is_some(),
+        None => false,
+    }
+}
+
+// Whether the text's header names the same key in both sets, or none in either.
 fn name_one_key(compact: &Compact, own: &JwkSet, superior: &JwkSet) -> bool
     ensures { IsTrue result ↔ (named_key compact.now own.now.keys ≡ named_key compact.now superior.now.keys) }
 {

@@ -2,8 +2,8 @@
 
 use crate::reason::Reason;
 use entity_id::EntityId;
-use fed_json::Json;
 use fed_base::{Duplicate, Memory};
+use fed_json::Json;
 use std::alloc::Global;
 
 /// What a valid chain says of its leaf.

@@ -1,11 +1,9 @@
-use Rattle.chain_check.proofs.SignatureLaws.{tests-any, tests-sealed}
+use Rattle.chain_check.proofs.SignatureLaws.{tells-counted, tells-sealed}
 use Rattle.chain_check.proofs.signatures.is_sealed.Goals as goal
-use Rattle.chain_check.proofs.signatures.is_sealed.Goals.{in-Ok, in-Err-Memory, in-Err}
+
+pub returns-clause-sealed : goal.returns-clause-sealed
+returns-clause-sealed g c = tells-sealed c.check_sealed.result c.was_sealed.result _ c.was_sealed.ensures c.check_sealed.ensures.decides
 
 pub returns-clause-counted : goal.returns-clause-counted
 returns-clause-counted g c =
-    elim c.match-check_sealed.branch [
-      | in-Ok w ↦ rw w.result-is (tests-sealed c.check_sealed.result _ _ _ w.in-Ok.is c.check_sealed.ensures.counted)
-      | in-Err-Memory w ↦ rw w.result-is (tests-any c.check_sealed.result _ _ c.check_sealed.ensures.counted)
-      | in-Err w ↦ rw w.result-is (tests-any c.check_sealed.result _ _ c.check_sealed.ensures.counted)
-    ]
+    tells-counted c.args.set.now.keys c.args.compact.now c.check_sealed.result c.was_sealed.result _ _ c.requires c.was_sealed.ensures c.check_sealed.ensures.checked c.check_sealed.ensures.counted
