@@ -38,7 +38,8 @@ pub fn copied(alloc: Global, text: &str) -> Result<String, Memory> {
     Ok(format!(in alloc; "{text}")?)
 }
 
-/// What is found of the claims, sealed by the key of the seeds from 96 to 143 and tested under a key, at a moment and for an anchor and its keys.
+/// What is found of the claims, sealed by the key of the seeds from 96 to 143 and tested under a key, at a moment and for an anchor and its
+/// keys.
 pub fn told(alloc: Global, given: &str) -> Result<String, Memory> {
     let (public, given) = given.split_once('\t').unwrap_or((given, ""));
     let (moment, given) = given.split_once('\t').unwrap_or((given, ""));

@@ -1,4 +1,4 @@
-//! Layer 7, the program: rows that show what the top call answers over an outside of memory, and how a chain is judged by what is known.
+//! Layer 8, rows: rows that show what the top call answers over an outside of memory, and how a chain is judged by what is known.
 //!
 //! Each line of the input is a row: its kind, then what it is given, with a tab before each part. For each the program writes a line with
 //! what was answered. A line that begins with `#` tells what the rows behind it are about, and is written as it stands.

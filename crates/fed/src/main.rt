@@ -1,7 +1,7 @@
 //! Layer 7, the program: `fed`, an authority and trust chain resolver of OpenID Federation 1.0.
 //!
-//! `main` makes the real outside, calls [`fed_commands::run`], which does all that the program does and carries what is proved of it, and ends
-//! with its status.
+//! `main` makes the real outside, calls [`fed_commands::run`], which does all that the program does and carries what is proved of it,
+//! and ends with its status.
 #![tactic(auto)]
 
 use fed_commands::run;

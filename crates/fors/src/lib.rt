@@ -1,4 +1,4 @@
-//! Layer 2, signatures: FORS, the few-time signature of a message digest (FIPS 205 section 8), at SLH-DSA-SHA2-128s.
+//! Layer 3, signatures: FORS, the few-time signature of a message digest (FIPS 205 section 8), at SLH-DSA-SHA2-128s.
 //!
 //! A key is the hash of the roots of fourteen trees of height twelve. A signature reveals one leaf's
 //! secret value of each tree, named by twelve bits of the digest, with the leaf's path. The crate above

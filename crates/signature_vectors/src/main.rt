@@ -1,4 +1,4 @@
-//! Layer 2, signatures: rows that show what the calls of the layer answer, beside values of other implementations.
+//! Layer 8, rows: rows that show what the calls of the layer answer, beside values of other implementations.
 //!
 //! Each line of the input is a row: the name of a call, then what it is given, with a space before each part. Bytes are hexadecimal
 //! digits, numbers are decimal, and an address is its six numbers: layer, tree, type and three words. For each row the program writes a

@@ -1,4 +1,4 @@
-//! Layer 2, signatures: SLH-DSA-SHA2-128s (FIPS 205): keys, deterministic signatures and their checks.
+//! Layer 3, signatures: SLH-DSA-SHA2-128s (FIPS 205): keys, deterministic signatures and their checks.
 //!
 //! Signatures are pure, with an empty context (FIPS 205 sections 10.2.1 and 10.3). The crates above make key pairs from seeds, sign
 //! texts, and test pairs of a text and a key. That each signature that is made verifies is a clause of [`sign`]. Nothing here takes

@@ -1,4 +1,4 @@
-//! Layer 2, signatures: the hash functions of SLH-DSA-SHA2-128s, and what its trees are built of.
+//! Layer 3, signatures: the hash functions of SLH-DSA-SHA2-128s, and what its trees are built of.
 //!
 //! FIPS 205: addresses (section 4.2), the functions F, H, T, PRF, PRF_msg and H_msg over SHA-256
 //! (section 11.2.1), chains (Algorithm 5), digits (Algorithm 4) and Merkle trees (Algorithms 9 and 11).

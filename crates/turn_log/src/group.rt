@@ -87,8 +87,8 @@ impl<T: Opening, B: Sequential> KeptGroup<T, B> {
         self.book.act(rt, alloc, &mut pass.book, call)
     }
 
-    /// A pass that has seen what this one has seen, and made no call. After `Memory` this one has seen the same and made the same calls, but
-    /// need not be alone any more.
+    /// A pass that has seen what this one has seen, and made no call. After `Memory` this one has seen the same and made the same calls,
+    /// but need not be alone any more.
     pub fn split<R>(
         &self,
         rt: &R,

@@ -84,8 +84,8 @@ impl<T: Sequential> Kept<T> {
         unreachable!()
     }
 
-    /// Waits for the turn, and makes a call as a thread that is alone makes it. It is worn where the object has counted 2^62 calls, and then
-    /// nothing happened but that the call was dropped. The pass is one of this object, as are those below.
+    /// Waits for the turn, and makes a call as a thread that is alone makes it. It is worn where the object has counted 2^62 calls, and
+    /// then nothing happened but that the call was dropped. The pass is one of this object, as are those below.
     pub fn act<R: Wait>(
         &self,
         rt: &R,

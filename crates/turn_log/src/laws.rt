@@ -7,8 +7,8 @@ use crate::kept::Kept;
 use crate::pass::Pass;
 use crate::sequential::{Opening, Sequential};
 
-/// Between any two steps of any threads each line of `Between` holds: there is one legal list, as long as word 0, of which each pass has seen a
-/// prefix, word 1 is 1 exactly where one seat holds the turn, and so on.
+/// Between any two steps of any threads each line of `Between` holds: there is one legal list, as long as word 0, of which each pass has
+/// seen a prefix, word 1 is 1 exactly where one seat holds the turn, and so on.
 pub fn between_steps<T: Sequential>()
     ensures { KeepsBetween T.steps }
 {}

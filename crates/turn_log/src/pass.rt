@@ -6,8 +6,8 @@ use crate::sequential::Sequential;
 use crate::view::{Stored, View};
 use atomic_table::Seat;
 
-/// A seat at the table of an object, whose ghost part is a caller's pass. It holds neither the turn nor the value, and its own places rise and
-/// lie in what it has seen.
+/// A seat at the table of an object, whose ghost part is a caller's pass. It holds neither the turn nor the value, and its own places rise
+/// and lie in what it has seen.
 ///
 /// It is generic in what is stored, since a struct whose field puts its parameters into `Stored` isn't shown to be `Send`.
 #[derive(Drop)]

@@ -2,8 +2,8 @@
 use std::collections::LinkedList;
 use std::snapshot::Snapshot;
 
-/// What lies in the slot: the value, or nothing while a caller has it, and the call that was made last with its reply. These two are snapshots:
-/// the proof alone reads them.
+/// What lies in the slot: the value, or nothing while a caller has it, and the call that was made last with its reply. These two are
+/// snapshots: the proof alone reads them.
 #[derive(Drop)]
 pub struct Stored<X: Drop, C, R> {
     pub value: Option<X>,

@@ -1,4 +1,4 @@
-//! Layer 2, signatures: one-time keys, trees of them and the hypertree of SLH-DSA-SHA2-128s.
+//! Layer 3, signatures: one-time keys, trees of them and the hypertree of SLH-DSA-SHA2-128s.
 //!
 //! FIPS 205: WOTS+ (section 5, Algorithms 6 to 8), XMSS (section 6, Algorithms 9 to 11) and the hypertree
 //! (section 7, Algorithms 12 and 13). `slh_dsa` signs a FORS key by the hypertree, and takes the key from
