@@ -9,7 +9,7 @@ use fed_base::{Seq, Text};
 use fed_json::{Json, Member, copied_texts, count_below, find};
 use std::alloc::Global;
 
-/// What a number of entities is below (section 6.2.1).
+// What a number of entities is below (section 6.2.1).
 const COUNTS: u64 = 1 << 32;
 
 /// The members of an object.

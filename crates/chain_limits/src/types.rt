@@ -11,7 +11,7 @@ use fed_base::{Duplicate, Memory, Seq, Text};
 use fed_json::Json;
 use std::alloc::Global;
 
-/// The type that every entity of a federation may have.
+// The type that every entity of a federation may have.
 const FEDERATION_ENTITY: &[u8] = b"federation_entity";
 
 /// The metadata without the types that some place's list of allowed types doesn't name (OpenID Federation 1.0 section

@@ -16,14 +16,14 @@ use slh_dsa::KeyPair;
 use std::alloc::Global;
 use std::str;
 
-/// The 48 seeds from 96 to 143.
+// The 48 seeds from 96 to 143.
 const SEEDS: [u8; 48] = [
     96, 97, 98, 99, 100, 101, 102, 103, 104, 105, 106, 107, 108, 109, 110, 111, 112, 113, 114, 115,
     116, 117, 118, 119, 120, 121, 122, 123, 124, 125, 126, 127, 128, 129, 130, 131, 132, 133, 134,
     135, 136, 137, 138, 139, 140, 141, 142, 143,
 ];
 
-/// What is asked of a chain.
+// What is asked of a chain.
 #[derive(Drop)]
 struct Question<'a> {
     public: [u8; 32],
@@ -61,7 +61,7 @@ pub fn told(alloc: Global, given: &str) -> Result<String, Memory> {
     }
 }
 
-/// The claims, sealed.
+// The claims, sealed.
 fn sealed(alloc: Global, question: &Question) -> Result<Option<Text>, Memory> {
     let Ok(claims) = read_tree(alloc, question.claims.as_bytes()) else {
         return Ok(None);
@@ -79,7 +79,7 @@ fn taken_apart(alloc: Global, text: &[u8]) -> Result<Compact, FormFault>
     split(alloc, text)
 }
 
-/// The chain of this text alone, with what its test under a key tells.
+// The chain of this text alone, with what its test under a key tells.
 fn tested_chain(alloc: Global, compact: &Compact, public: &[u8; 32]) -> Result<Seq<Tried>, Memory>
     requires { IsCompact compact.now.whole compact.now }
     ensures { IfOk result (All IsOfItsText) }

@@ -6,10 +6,10 @@ use fed_ports::{MemoryClock, MemorySink, MemorySource, MemoryStore, NamedFile};
 use std::alloc::Global;
 use std::str;
 
-/// The call that fails where none is to fail.
+// The call that fails where none is to fail.
 const NEVER: u64 = 99;
 
-/// Which calls of the outside fail.
+// Which calls of the outside fail.
 #[derive(Clone, Copy)]
 struct Faults {
     /// The source's call of this number.
@@ -24,7 +24,7 @@ struct Faults {
     leaves_new: bool,
 }
 
-/// The fault that a part spells: its place and its number.
+// The fault that a part spells: its place and its number.
 fn faults_of(part: &str) -> Faults {
     let none = Faults {
         source: NEVER,
@@ -61,7 +61,7 @@ fn faults_of(part: &str) -> Faults {
     }
 }
 
-/// The words of a line.
+// The words of a line.
 fn words_of(alloc: Global, line: &str) -> Result<Seq<Text>, Memory> {
     let mut words = Seq::new(alloc);
     for word in line.split(' ') {
@@ -70,7 +70,7 @@ fn words_of(alloc: Global, line: &str) -> Result<Seq<Text>, Memory> {
     Ok(words)
 }
 
-/// A store with this file under the name `r`, or with none where the part is empty.
+// A store with this file under the name `r`, or with none where the part is empty.
 fn store_of(alloc: Global, file: &str, faults: Faults) -> Result<MemoryStore, Memory> {
     let mut files = Seq::new(alloc);
     if !file.is_empty() {

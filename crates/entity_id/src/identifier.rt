@@ -13,10 +13,10 @@ use std::alloc::Global;
 use std::marker::Model;
 use url::{ParseError, Url};
 
-/// How many bytes an identifier has at most.
+// How many bytes an identifier has at most.
 const MAX_LEN: usize = 2048;
 
-/// What stands behind an identifier in the URL of its configuration.
+// What stands behind an identifier in the URL of its configuration.
 const WELL_KNOWN: &[u8] = b"/.well-known/openid-federation";
 
 /// The identifier of an entity: at most 2,048 bytes of visible ASCII.

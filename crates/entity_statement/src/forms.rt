@@ -10,7 +10,7 @@ use fed_base::{MOMENT_LIMIT, Memory, Seq};
 use fed_json::{Json, count_below};
 use std::alloc::Global;
 
-/// How many hints an entity has at most.
+// How many hints an entity has at most.
 const MAX_HINTS: usize = 32;
 
 /// The identifier that the text is.

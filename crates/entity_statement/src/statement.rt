@@ -23,7 +23,7 @@ use jws_form::Compact;
 use policy_merge::Policy;
 use std::alloc::Global;
 
-/// How many seconds a statement may be issued after the moment at which it is looked at.
+// How many seconds a statement may be issued after the moment at which it is looked at.
 const LEEWAY: u64 = 60;
 
 /// An entity statement (OpenID Federation 1.0 section 3.1). It is a configuration where `iss` and `sub` are equal, and

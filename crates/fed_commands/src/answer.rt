@@ -35,7 +35,7 @@ impl From<Memory> for Stop {
     }
 }
 
-/// The name of the file that the command looks at or keeps.
+// The name of the file that the command looks at or keeps.
 fn named(command: &Command) -> Option<&Text>
     ensures { option_copied result ≡ named command.now }
 {
@@ -46,7 +46,7 @@ fn named(command: &Command) -> Option<&Text>
     }
 }
 
-/// The file that the command names.
+// The file that the command names.
 fn load<D: Store>(alloc: Global, command: &Command, store: &mut D) -> Result<File, Stop>
     ensures files { D.files store.new ≡ D.files store.old }
     ensures steady { OnOk result (D.store_faults store.new ≡ D.store_faults store.old) }
@@ -66,7 +66,7 @@ fn load<D: Store>(alloc: Global, command: &Command, store: &mut D) -> Result<Fil
     }
 }
 
-/// The text of the input, or `None` where it is too long.
+// The text of the input, or `None` where it is too long.
 fn read_text<S: Source>(alloc: Global, input: &mut S) -> Result<Option<Text>, Stop>
     ensures read { IfOk result (IsTextRead (S.left input.old) (S.left input.new) (S.read_faults input.old) (S.read_faults input.new)) }
     ensures stops { IfErr result (λ stop. (store : ℕ) → StopsAs stop (S.read_faults input.old) (S.read_faults input.new) store store) }

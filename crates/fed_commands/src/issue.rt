@@ -15,7 +15,7 @@ use sealed::seal_payload;
 use slh_dsa::KeyPair;
 use std::alloc::Global;
 
-/// The most bytes that claims may have as compact JSON.
+// The most bytes that claims may have as compact JSON.
 const MOST_CLAIMS: usize = 180_000;
 
 /// The text that the signer seals the claims in the input as, on its own line. A text of at most 262,144 bytes is sealed by
@@ -37,7 +37,7 @@ pub fn issue(alloc: Global, signer: &KeyPair, input: Text) -> Result<Reply, Memo
     }
 }
 
-/// The tree of the input, whose memory is free after it.
+// The tree of the input, whose memory is free after it.
 fn read_input(alloc: Global, input: Text) -> Result<Json, TreeFault>
     ensures tree { Reads result (tree_in input) }
     ensures well_formed { IfOk result IsWellFormed }
@@ -51,7 +51,7 @@ fn is_object(tree: &Json) -> bool
     matches!(tree, Json::Object(_))
 }
 
-/// The same of claims that are an object.
+// The same of claims that are an object.
 #[tactic(auto, unfolding(crate::specs::Issues::of_object, crate::specs::Issues::sealed_reply))]
 fn seal_claims(alloc: Global, signer: &KeyPair, tree: Json) -> Result<Reply, Memory>
     requires object { IsSome (as_object tree) }
@@ -79,7 +79,7 @@ fn seal_claims(alloc: Global, signer: &KeyPair, tree: Json) -> Result<Reply, Mem
     })
 }
 
-/// Whether the claims are those of an entity statement (OpenID Federation 1.0 section 3.1.1).
+// Whether the claims are those of an entity statement (OpenID Federation 1.0 section 3.1.1).
 fn is_statement(alloc: Global, claims: Json) -> Result<bool, Memory>
     requires { IsWellFormed claims }
     ensures { IfOk result (λ read. read ≡ claims_read claims) }

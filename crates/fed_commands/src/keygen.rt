@@ -36,7 +36,7 @@ pub fn keygen(alloc: Global, at: u64, exp: u64, input: &[u8]) -> Result<Reply, M
     })
 }
 
-/// The public key of these seeds as a JWK in compact JSON, on its own line.
+// The public key of these seeds as a JWK in compact JSON, on its own line.
 fn public_line(alloc: Global, seeds: &[u8; 48]) -> Result<Text, Memory>
     ensures { IfOk result (λ line. line ≡ public_line seeds.now) }
 {

@@ -94,7 +94,7 @@ fn answered(alloc: Global, status: u8, text: &[u8]) -> Result<Prepared, Memory>
     Ok(Prepared::Answered(plain(alloc, status, text)?))
 }
 
-/// A key is made only where no file has the ring's name.
+// A key is made only where no file has the ring's name.
 fn prepare_keygen(alloc: Global, at: u64, exp: u64, file: &File) -> Result<Prepared, Memory>
     ensures { (bytes : Option (List ℕ)) → IsFileOf file.now bytes → IfOk result (IsKeygenPrepared at exp bytes) }
 {
@@ -104,7 +104,7 @@ fn prepare_keygen(alloc: Global, at: u64, exp: u64, file: &File) -> Result<Prepa
     }
 }
 
-/// Claims are sealed by the key of a ring file.
+// Claims are sealed by the key of a ring file.
 fn prepare_issue(alloc: Global, file: &File) -> Result<Prepared, Memory>
     ensures { (bytes : Option (List ℕ)) → IsFileOf file.now bytes → IfOk result (IsIssuePrepared bytes) }
 {
@@ -117,7 +117,7 @@ fn prepare_issue(alloc: Global, file: &File) -> Result<Prepared, Memory>
     }
 }
 
-/// A chain is checked under the keys of a file.
+// A chain is checked under the keys of a file.
 fn prepare_check(alloc: Global, anchor: &EntityId, at: u64, file: &File) -> Result<Prepared, Memory>
     ensures { (bytes : Option (List ℕ)) → IsFileOf file.now bytes → IfOk result (IsCheckPrepared anchor.now at bytes) }
 {

@@ -34,7 +34,7 @@ pub fn moment_in(words: &[Text], name: &[u8]) -> Option<u64>
     }
 }
 
-/// The number of these decimal digits, without sign and without a leading zero, below 2^62.
+// The number of these decimal digits, without sign and without a leading zero, below 2^62.
 fn number_of(word: &[u8]) -> Option<u64>
     ensures { result ≡ number_of word.now }
 {
@@ -45,7 +45,7 @@ fn number_of(word: &[u8]) -> Option<u64>
     }
 }
 
-/// The number that the digits make behind those of `number`.
+// The number that the digits make behind those of `number`.
 #[tactic(auto, unfolding(crate::specs::Options::number_after))]
 fn number_after(number: u64, digits: &[u8]) -> Option<u64>
     requires { number < moment_limit }

@@ -45,7 +45,7 @@ pub fn read_ring(alloc: Global, bytes: &[u8]) -> Result<Option<LiveKey>, Memory>
     }
 }
 
-/// Whether the key's moments are in their order and below 2^62.
+// Whether the key's moments are in their order and below 2^62.
 fn is_timely(key: LiveKey) -> bool
     ensures timely { IsTrue result ↔ ((key.iat < key.exp) × (key.exp < moment_limit)) }
     ensures seeds { (length key.seeds ≡ 48) × IsBytes key.seeds }
@@ -53,7 +53,7 @@ fn is_timely(key: LiveKey) -> bool
     key.iat < key.exp && key.exp < MOMENT_LIMIT
 }
 
-/// The seeds and moments of the one key, whatever else stands in the tree.
+// The seeds and moments of the one key, whatever else stands in the tree.
 #[tactic(auto, unfolding(crate::specs::Rings::fields_in))]
 fn fields_in(tree: &Json) -> Option<LiveKey>
     ensures { result ≡ fields_in tree.now }

@@ -59,7 +59,7 @@ pub fn run<R, S: Source, K: Sink, D: Store, C: Clock>(
     }
 }
 
-/// The status that says why there is no reply.
+// The status that says why there is no reply.
 fn stop_status(stop: Stop) -> u8
     ensures { result ≡ stop_status stop }
 {
@@ -70,7 +70,7 @@ fn stop_status(stop: Stop) -> u8
     }
 }
 
-/// Keeps what the reply has to keep, and then writes its text.
+// Keeps what the reply has to keep, and then writes its text.
 fn conclude<K: Sink, D: Store>(command: &Command, reply: &Reply, store: &mut D, out: &mut K) -> u8
     ensures ended { IsEnded command.now reply.now
         (record { held = K.held out.old; write_faults = K.write_faults out.old; files = D.files store.old; store_faults = D.store_faults store.old })
@@ -86,7 +86,7 @@ fn conclude<K: Sink, D: Store>(command: &Command, reply: &Reply, store: &mut D, 
     }
 }
 
-/// The clock's moment for a check that has none of its own. No other command reads the clock.
+// The clock's moment for a check that has none of its own. No other command reads the clock.
 fn moment_for<C: Clock>(command: &Command, clock: &mut C) -> u64
     ensures moment { IsMomentFor command.now (record { count = C.readings clock.old; last = C.last clock.old; told = C.told clock.old })
         (record { count = C.readings clock.new; last = C.last clock.new; told = C.told clock.new }) result }

@@ -44,7 +44,7 @@ pub fn examine(alloc: Global, key: &[u8; 32], text: &[u8]) -> Result<Finding, Me
     }
 }
 
-/// Whether the statement is its issuer's about itself.
+// Whether the statement is its issuer's about itself.
 fn is_own(statement: &Statement) -> bool
     ensures { IsTrue result ↔ (statement.now.iss ≡ statement.now.sub) }
 {

@@ -7,7 +7,7 @@ use crate::source::Source;
 use fed_base::Failed;
 use std::io::{Read, Write};
 
-/// How many bytes a reading takes at most.
+// How many bytes a reading takes at most.
 const PIECE: usize = 8192;
 
 /// A source over a reader of the standard library, as standard input.

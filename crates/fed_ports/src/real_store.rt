@@ -52,7 +52,7 @@ fn load_file<R: Files>(rt: &R, alloc: Global, name: &Text) -> Result<Option<Text
     }
 }
 
-/// How many names for the new file are tried, where files of these names are there already.
+// How many names for the new file are tried, where files of these names are there already.
 const NAMES: u8 = 16;
 
 // Writes the bytes into a new file beside that name, readable by its owner alone, and names it so once they are on the disk. A file that

@@ -14,7 +14,7 @@ use fed_base::{Seq, Text};
 use fed_json::{Json, find, text_at};
 use std::alloc::Global;
 
-/// How many keys a set has at most.
+// How many keys a set has at most.
 const MAX_KEYS: usize = 64;
 
 /// The members of a set: the list `keys` of its object.

@@ -1,6 +1,6 @@
 pub mod Alphabet
 pub mod Bytes
-pub mod Stops
+pub mod Faults
 pub mod Headers
 pub mod Laws
-pub mod Faults
+pub mod Stops

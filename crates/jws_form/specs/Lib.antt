@@ -1,4 +1,4 @@
-pub mod Header
 pub mod Compact
-pub mod Splitting
 pub mod Faults
+pub mod Header
+pub mod Splitting

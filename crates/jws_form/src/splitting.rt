@@ -12,7 +12,7 @@ use crate::{Compact, FormFault};
 use fed_base::Text;
 use std::alloc::Global;
 
-/// How many bytes a text has at most.
+// How many bytes a text has at most.
 const MAX_BYTES: usize = 262_144;
 
 /// Takes a compact text apart (RFC 7515 section 5.2). It answers the parts exactly where the text is one, and otherwise

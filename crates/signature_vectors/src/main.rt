@@ -15,7 +15,7 @@ use reading::next;
 use std::alloc::Global;
 use std::io;
 
-/// What a row answers, or `None` where it is no row.
+// What a row answers, or `None` where it is no row.
 fn answer(alloc: Global, call: &str, given: &str) -> Option<String> {
     match call {
         "compressed" => hashes::compressed(alloc, given),

@@ -13,7 +13,7 @@ use sealed::{SealFault, Sealed, Tested, check_sealed, test_key};
 use slh_dsa::KeyPair;
 use std::alloc::Global;
 
-/// The 48 seeds from 96 to 143.
+// The 48 seeds from 96 to 143.
 const SEEDS: [u8; 48] = [
     96, 97, 98, 99, 100, 101, 102, 103, 104, 105, 106, 107, 108, 109, 110, 111, 112, 113, 114, 115,
     116, 117, 118, 119, 120, 121, 122, 123, 124, 125, 126, 127, 128, 129, 130, 131, 132, 133, 134,
