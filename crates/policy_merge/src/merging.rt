@@ -142,15 +142,60 @@ fn agree(upper: &Option<Json>, lower: &Option<Json>) -> bool
 fn all_operators(alloc: Global, upper: &Operators, lower: &Operators) -> Result<Operators, Memory>
     ensures { IfOk result (λ merged. merged ≡ merged_operators upper.now lower.now) }
 {
+    let (value, default) = values(alloc, upper, lower)?;
+    let (add, superset_of) = joined(alloc, upper, lower)?;
+    let (one_of, subset_of) = common(alloc, upper, lower)?;
     Ok(Operators {
-        value: upper_first(alloc, &upper.value, &lower.value)?,
-        add: of_either(alloc, &upper.add, &lower.add)?,
-        default: upper_first(alloc, &upper.default, &lower.default)?,
-        one_of: of_both(alloc, &upper.one_of, &lower.one_of)?,
-        subset_of: of_both(alloc, &upper.subset_of, &lower.subset_of)?,
-        superset_of: of_either(alloc, &upper.superset_of, &lower.superset_of)?,
+        value,
+        add,
+        default,
+        one_of,
+        subset_of,
+        superset_of,
         essential: required(upper.essential, lower.essential),
     })
+}
+
+// `value` and `default` of both.
+fn values(
+    alloc: Global,
+    upper: &Operators,
+    lower: &Operators,
+) -> Result<(Option<Json>, Option<Json>), Memory>
+    ensures value { IfOk result (λ values. values.0 ≡ met (λ u l. u) upper.now.value lower.now.value) }
+    ensures default { IfOk result (λ values. values.1 ≡ met (λ u l. u) upper.now.default lower.now.default) }
+{
+    let value = upper_first(alloc, &upper.value, &lower.value)?;
+    let default = upper_first(alloc, &upper.default, &lower.default)?;
+    Ok((value, default))
+}
+
+// `add` and `superset_of` of both, whose lists are joined.
+fn joined(
+    alloc: Global,
+    upper: &Operators,
+    lower: &Operators,
+) -> Result<(Option<Seq<Json>>, Option<Seq<Json>>), Memory>
+    ensures add { IfOk result (λ lists. lists.0 ≡ met union_of upper.now.add lower.now.add) }
+    ensures superset_of { IfOk result (λ lists. lists.1 ≡ met union_of upper.now.superset_of lower.now.superset_of) }
+{
+    let add = of_either(alloc, &upper.add, &lower.add)?;
+    let superset_of = of_either(alloc, &upper.superset_of, &lower.superset_of)?;
+    Ok((add, superset_of))
+}
+
+// `one_of` and `subset_of` of both, of whose lists the common values stay.
+fn common(
+    alloc: Global,
+    upper: &Operators,
+    lower: &Operators,
+) -> Result<(Option<Seq<Json>>, Option<Seq<Json>>), Memory>
+    ensures one_of { IfOk result (λ lists. lists.0 ≡ met intersection_of upper.now.one_of lower.now.one_of) }
+    ensures subset_of { IfOk result (λ lists. lists.1 ≡ met intersection_of upper.now.subset_of lower.now.subset_of) }
+{
+    let one_of = of_both(alloc, &upper.one_of, &lower.one_of)?;
+    let subset_of = of_both(alloc, &upper.subset_of, &lower.subset_of)?;
+    Ok((one_of, subset_of))
 }
 
 fn upper_first(

@@ -1,6 +1,6 @@
 // The operators of one parameter.
 
-ghost use Rattle.std.specs.Prelude.{◌≡◌};
+ghost use Rattle.std.specs.Prelude.{◌≡◌, IfOk};
 ghost use Rattle.policy_merge.specs.Policies.{no_operators};
 
 use fed_base::{Duplicate, Memory, Seq};
@@ -45,14 +45,27 @@ impl Operators {
 
 impl Duplicate for Operators {
     fn copy(&self, alloc: Global) -> Result<Self, Memory> {
+        let (value, default) = copies(alloc, &self.value, &self.default)?;
+        let (add, superset_of) = copies(alloc, &self.add, &self.superset_of)?;
+        let (one_of, subset_of) = copies(alloc, &self.one_of, &self.subset_of)?;
         Ok(Operators {
-            value: self.value.copy(alloc)?,
-            add: self.add.copy(alloc)?,
-            default: self.default.copy(alloc)?,
-            one_of: self.one_of.copy(alloc)?,
-            subset_of: self.subset_of.copy(alloc)?,
-            superset_of: self.superset_of.copy(alloc)?,
+            value,
+            add,
+            default,
+            one_of,
+            subset_of,
+            superset_of,
             essential: self.essential,
         })
     }
+}
+
+// Copies of two, so that few values live where a copy fails.
+fn copies<T: Duplicate + Drop>(alloc: Global, a: &T, b: &T) -> Result<(T, T), Memory>
+    ensures first { IfOk result (λ copies. copies.0 ≡ a.now) }
+    ensures second { IfOk result (λ copies. copies.1 ≡ b.now) }
+{
+    let a = a.copy(alloc)?;
+    let b = b.copy(alloc)?;
+    Ok((a, b))
 }
