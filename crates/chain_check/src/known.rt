@@ -22,7 +22,7 @@ pub(crate) struct Test {
     pub public: [u8; 32],
 }
 
-/// What is known of a text and the key of a set that its header names.
+// What is known of a text and the key of a set that its header names.
 enum Known {
     /// It is sealed by the key.
     Sealed,

@@ -12,7 +12,7 @@ use entity_statement::SignedStatement;
 use fed_base::Seq;
 use std::alloc::Global;
 
-/// How many statements a chain has at most.
+// How many statements a chain has at most.
 const MAX_STATEMENTS: usize = 10;
 
 /// The statements of the texts, or the first place at which there is none.

@@ -1,12 +1,12 @@
-pub mod Lengths
+mod ChMaj
+pub mod ChainLanes
 pub mod ChainLaws
+pub mod DigitLaws
 pub mod Flattened
 pub mod Joined
-pub mod TreeLaws
-pub mod Rows
-pub mod DigitLaws
 pub mod Lanewise
-mod ChMaj
-pub mod WordParts
+pub mod Lengths
+pub mod Rows
+pub mod TreeLaws
 pub mod TwoBlocks
-pub mod ChainLanes
+pub mod WordParts

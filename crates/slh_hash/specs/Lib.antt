@@ -1,10 +1,10 @@
-pub mod Lists
-pub mod Digits
-pub mod Trees
-pub mod Sets
 pub mod Addresses
-pub mod Places
-pub mod Hash
 pub mod Chains
-pub mod Lengths
+pub mod Digits
+pub mod Hash
 pub mod Lanes
+pub mod Lengths
+pub mod Lists
+pub mod Places
+pub mod Sets
+pub mod Trees
