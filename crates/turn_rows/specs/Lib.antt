@@ -1,0 +1,3 @@
+pub mod Tallies
+pub mod Teams
+pub mod Counts
