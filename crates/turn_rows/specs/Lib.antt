@@ -1,3 +1,3 @@
+pub mod Counts
 pub mod Tallies
 pub mod Teams
-pub mod Counts

@@ -1,9 +1,9 @@
-//! Threads that make calls on one object, and whether each was answered at its place of one order.
+//! Layer 8, rows: threads that make calls on one object, and whether each was answered at its place of one order.
 //!
-//! Each line of the input is a word, how many threads, and how many calls each makes. By `add` a thread adds its number to one sum; by `keep` it
-//! puts it at the end of one list; by `want` it does so too, but the first thread asks for more memory than there is. Each thread has a pass
-//! that is split from the first one, which joins them all and then reads the object. What is written doesn't depend on the schedule.
-//! A line `nine` with an amount calls each object of a group instead, in one thread.
+//! Each line of the input is a word, how many threads, and how many calls each makes. By `add` a thread adds its number to one sum; by
+//! `keep` it puts it at the end of one list; by `want` it does so too, but the first thread asks for more memory than there is. Each thread
+//! has a pass that is split from the first one, which joins them all and then reads the object. What is written doesn't depend on the
+//! schedule. A line `nine` with an amount calls each object of a group instead, in one thread.
 #![tactic(auto)]
 
 mod counter;
@@ -27,7 +27,7 @@ use std::sync::Wait;
 use std::thread::Threads;
 use turn_log::{Kept, Pass};
 
-/// How many callers there are at once.
+// How many callers there are at once.
 #[derive(Clone, Copy, Drop)]
 enum Size {
     One,
@@ -36,7 +36,7 @@ enum Size {
     Eight,
 }
 
-/// What a line asks.
+// What a line asks.
 #[derive(Clone, Copy, Drop)]
 struct Row {
     job: Job,
@@ -66,7 +66,7 @@ fn read_row(line: &str) -> Option<Row> {
     })
 }
 
-/// The sum after these calls, where each was told the sum that those before it leave.
+// The sum after these calls, where each was told the sum that those before it leave.
 fn sum_in_order(sums: &[(u64, u64)]) -> Option<u64> {
     let mut sum = 0u64;
     for told in sums {
@@ -78,7 +78,7 @@ fn sum_in_order(sums: &[(u64, u64)]) -> Option<u64> {
     Some(sum)
 }
 
-/// Runs the callers of a row, each with a pass that is split from this one and joined to it in the end.
+// Runs the callers of a row, each with a pass that is split from this one and joined to it in the end.
 fn run<R: Threads + Wait + Sync>(
     rt: &R,
     alloc: Global,
@@ -114,7 +114,7 @@ fn run<R: Threads + Wait + Sync>(
     }
 }
 
-/// What the object holds when all callers are done and their passes joined, and what they were told.
+// What the object holds when all callers are done and their passes joined, and what they were told.
 fn counted<R: Threads + Wait + Sync>(
     rt: &R,
     alloc: Global,
@@ -131,7 +131,7 @@ fn counted<R: Threads + Wait + Sync>(
     Ok((reply, told))
 }
 
-/// Whether the calls that added stand in one order, which leads to what the object holds, and whether it holds each value that was kept.
+// Whether the calls that added stand in one order, which leads to what the object holds, and whether it holds each value that was kept.
 fn is_in_order(reply: Reply, told: &mut Told) -> Result<bool, Stop> {
     told.sums.sort()?;
     let sum = sum_in_order(told.sums.as_slice());
@@ -141,7 +141,7 @@ fn is_in_order(reply: Reply, told: &mut Told) -> Result<bool, Stop> {
     })
 }
 
-/// The amount of a line that asks for the group.
+// The amount of a line that asks for the group.
 fn read_amount(line: &str) -> Option<u64> {
     let (word, amount) = line.split_once(' ')?;
     if word != "nine" {
