@@ -1,0 +1,14 @@
+pub mod ClimbLaws
+pub mod Elements
+pub mod EndLaws
+pub mod FacingLaws
+pub mod FewLaws
+pub mod GiveLaws
+pub mod LevelLaws
+pub mod NextLaws
+pub mod PathLaws
+pub mod PrefixLaws
+pub mod SessionLaws
+pub mod StepLaws
+pub mod WalkLaws
+pub mod WantLaws

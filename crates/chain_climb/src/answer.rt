@@ -1,0 +1,59 @@
+// What a search is answered, and what it keeps of that.
+
+use crate::path::Path;
+use entity_id::EntityId;
+use entity_statement::Statement;
+use fed_base::Text;
+
+/// Where a page came from.
+#[derive(Clone, Copy, Drop)]
+pub enum Origin {
+    /// The cache.
+    Shelf,
+    /// The network.
+    Link,
+}
+
+/// The answer to a want. The first four answer `Config` and `Superior`, the last three `Judge`.
+#[derive(Drop)]
+pub enum Answer {
+    /// The page is good, and says this.
+    Good(Statement, Origin),
+    /// There is a page, and it isn't good.
+    Useless(Origin),
+    /// The link failed.
+    Fault,
+    /// The page had to be asked of the link, and as many were asked as the bounds allow.
+    Spent,
+    /// The chain is valid.
+    Valid,
+    /// The chain would be valid without its policies.
+    PolicyFails,
+    /// The chain is refused for another reason.
+    Invalid,
+}
+
+/// What was answered of a page.
+#[derive(Drop)]
+pub enum Report {
+    Good(Statement, Origin),
+    Useless(Origin),
+    Fault,
+    Spent,
+}
+
+/// A page that was wanted, with the answer. A configuration has one entity as issuer and subject.
+#[derive(Drop)]
+pub struct PageAnswer {
+    pub issuer: EntityId,
+    pub subject: EntityId,
+    pub url: Text,
+    pub answer: Report,
+}
+
+/// A path that was to be judged, with the URLs of its chain, and the answer.
+#[derive(Drop)]
+pub struct Verdict {
+    pub path: Path,
+    pub answer: Answer,
+}
