@@ -1,0 +1,41 @@
+-- A change that met no fault leaves a ring.
+use Rattle.std.proofs.Common.{◌≡◌, ◌<◌, ◌≤◌, ℕ, List, [], ◌∷◌, map, length, Bool, true, false, not, Option, Some, None, Result, Ok, Err, refl, sym, ap, ◌∙◌, subst}
+use Rattle.fed_base.specs.Moments.{moment_limit}
+use Rattle.key_ring.specs.declared.key.KeyState.{KeyState}
+use Rattle.key_ring.specs.declared.fault.OrderFault.TheVariants.{Exp, NotLive, LastLive, Full}
+use Rattle.key_ring.specs.declared.fault.RingFault.{RingFault}
+use Rattle.key_ring.specs.declared.fault.RingFault.TheVariants.{Known, Unknown, Order}
+use Rattle.key_ring.specs.declared.key.RingKey.{RingKey}
+use Rattle.key_ring.specs.Changes.{Add, Put, fault_of, fault_where, fresh_key, kid_added, may_follow, with_state}
+use Rattle.key_ring.specs.Rings.{IsRing, IsRingKey, IsTimelyState, Ring, has_key, has_live, key_at, kid_of, most_keys}
+use Rattle.key_ring.proofs.KeepingLaws.{adding-last, putting-last}
+use Rattle.key_ring.proofs.RingLaws.{step-ring}
+
+-- ---- a key in another state
+
+put-none : (ring : Ring) (kid : List ℕ) (state : KeyState) (key : RingKey) (changed : Ring) → key_at kid ring ≡ Some key → may_follow state key.state ≡ true
+    → changed ≡ map (with_state kid state) ring → has_live changed ≡ true → fault_of ring (Put kid state) ≡ None
+put-none ring kid state key changed found so is lives = putting-last ring kid state key true found so (ap has_live (sym is) ∙ lives)
+
+pub put-ring : (ring : Ring) (kid : List ℕ) (state : KeyState) (key : RingKey) (changed : Ring) → IsRing ring → IsTimelyState state → key_at kid ring ≡ Some key → may_follow state key.state ≡ true
+    → changed ≡ map (with_state kid state) ring → has_live changed ≡ true → IsRing changed
+put-ring ring kid state key changed is_ring timely found so is lives =
+    subst IsRing (sym is) (step-ring ring (Put kid state) is_ring timely (put-none ring kid state key changed found so is lives))
+
+-- ---- a new key
+
+-- the name of the new key, as it was computed of the key that was made
+named : (seeds : List ℕ) (iat exp : ℕ) (key made : RingKey) (kid : List ℕ) → key ≡ fresh_key seeds iat exp → made ≡ key → kid ≡ kid_of made → kid ≡ kid_added seeds
+named seeds iat exp key made kid fresh same name = name ∙ ap kid_of (same ∙ fresh)
+
+add-none : (ring : Ring) (seeds : List ℕ) (iat exp : ℕ) (key made : RingKey) (kid : List ℕ) → iat < exp → length ring < most_keys → key ≡ fresh_key seeds iat exp → made ≡ key
+    → kid ≡ kid_of made → has_key kid ring ≡ false → fault_of ring (Add seeds iat exp) ≡ None
+add-none ring seeds iat exp key made kid order room fresh same title unknown =
+    adding-last ring seeds iat exp false order room (ap (λ k. has_key k ring) (sym (named seeds iat exp key made kid fresh same title)) ∙ unknown)
+
+pub add-ring : (ring : Ring) (seeds : List ℕ) (iat exp : ℕ) (key made : RingKey) (kid : List ℕ) (changed : Ring) → IsRing ring → iat < exp → exp < moment_limit → length ring < most_keys
+    → key ≡ fresh_key seeds iat exp → IsRingKey key → made ≡ key → kid ≡ kid_of made → has_key kid ring ≡ false → changed ≡ made ∷ ring → IsRing changed
+add-ring ring seeds iat exp key made kid changed is_ring order small room fresh formed same title unknown more =
+    let new : IsRingKey (fresh_key seeds iat exp) = subst IsRingKey fresh formed in
+    subst IsRing (sym (more ∙ ap (λ k. k ∷ ring) (same ∙ fresh)))
+    (step-ring ring (Add seeds iat exp) is_ring (new.size, new.octets, small) (add-none ring seeds iat exp key made kid order room fresh same title unknown))

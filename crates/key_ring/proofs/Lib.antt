@@ -1,0 +1,9 @@
+mod ChangeLaws
+mod FileLaws
+mod FoundAgain
+mod Gathering
+mod KeepingLaws
+mod OpenLaws
+mod RingForms
+mod RingLaws
+mod SetLaws
