@@ -10,7 +10,8 @@ use crate::writing::ring_text;
 use fed_base::{Seq, Text};
 use std::alloc::Global;
 
-/// The text of a ring of one live key, compact JSON without a line end. `Order(Exp)` exactly where the key would end no later than it begins.
+/// The text of a ring of one live key, compact JSON without a line end. `Order(Exp)` exactly where the key would end no later than it
+/// begins.
 pub fn first_file(alloc: Global, seeds: &[u8; 48], at: u64, exp: u64) -> Result<Text, RingFault>
     requires { exp < moment_limit }
     ensures { IsFirstFile seeds.now at exp result }

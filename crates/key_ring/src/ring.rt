@@ -36,8 +36,8 @@ impl Model for KeyRing {
 }
 
 impl KeyRing {
-    /// The ring of a file, a JSON text. `Shape` where the file isn't that of a ring, and `Known` where a key has the name of an earlier one.
-    /// It computes the root of each key, which takes a tenth of a second a key, and none where the file is refused as `Shape`.
+    /// The ring of a file, a JSON text. `Shape` where the file isn't that of a ring, and `Known` where a key has the name of an earlier
+    /// one. It computes the root of each key, which takes a tenth of a second a key, and none where the file is refused as `Shape`.
     pub fn open(alloc: Global, file: &[u8]) -> Result<KeyRing, RingFault>
         ensures { Opens file.now result }
     {
@@ -74,8 +74,8 @@ impl KeyRing {
         Ok(JwkSet { keys })
     }
 
-    /// The retired and the revoked keys, in ring order, as the list `keys` of a historical set (OpenID Federation 1.0 section 8.7.2): objects
-    /// with `alg`, `exp`, `kid`, `kty` and `pub`, and `revoked` where the key was revoked.
+    /// The retired and the revoked keys, in ring order, as the list `keys` of a historical set (OpenID Federation 1.0 section 8.7.2):
+    /// objects with `alg`, `exp`, `kid`, `kty` and `pub`, and `revoked` where the key was revoked.
     pub fn historical(&self, alloc: Global) -> Result<Json, Memory>
         ensures tree { IfOk result (λ tree. tree ≡ ListOf (historical_keys self.now)) }
         ensures whole { IfOk result IsWhole }
