@@ -15,6 +15,7 @@ use Rattle.fed_json.proofs.Booleans.{left_true, right_true, both_true}
 use Rattle.fed_json.proofs.Layers.{well_formed-List, well_formed-Text, whole-Object}
 use Rattle.fed_json.specs.Metadata.{is_metadata, is_object_of}
 use Rattle.fed_json.specs.Trees.{is_null}
+use Rattle.fed_json.specs.Tables.{Name}
 use Rattle.chain_limits.specs.declared.constraints.Constraints.{Constraints}
 use Rattle.chain_limits.specs.Reading.{HoldsUtf8, Texts, no_constraints, constraints_of}
 use Rattle.chain_limits.proofs.Utf8.{HoldsUtf8-reading, and_then-some, map-some, members_formed}
@@ -24,7 +25,7 @@ use Rattle.entity_statement.specs.declared.marks.Issuers.{Issuers}
 use Rattle.entity_statement.specs.declared.marks.Owner.{Owner}
 use Rattle.entity_statement.specs.Claims.{Identifier, OwnerClaims, issuers_utf8, mark_utf8, no_metadata, told_owner}
 use Rattle.entity_statement.specs.Forms.{all_differ, hints_of, identifier, issuers_in, issuers_of, mark_in, mark_of, marks_of, metadata_of, moment, once, owner_in, owner_with, owners_of, unless_many}
-use Rattle.entity_statement.specs.Table.{Name, constraints_in, formed, hints_in, in_place, mark_issuers_in, mark_owners_in, marks_in, metadata_in, optional, placed, read_where, required}
+use Rattle.entity_statement.specs.Table.{constraints_in, formed, hints_in, in_place, mark_issuers_in, mark_owners_in, marks_in, metadata_in, optional, placed, read_where, required}
 use Rattle.entity_statement.proofs.Answers.{ok_or-ok, said-fact, then-ok}
 use Rattle.entity_statement.proofs.Hints.{once_after-differ}
 

@@ -19,6 +19,7 @@ use Rattle.jwk_set.proofs.Sets.{found as set_found, only as set_only}
 use Rattle.fed_json.specs.Metadata.{IsMetadata}
 use Rattle.policy_merge.specs.Shapes.{policy_shape}
 use Rattle.fed_json.proofs.Order.{bytes_eq-itself, equal-bytes_eq}
+use Rattle.fed_json.specs.Tables.{Name}
 use Rattle.chain_limits.specs.Reading.{Texts, no_constraints, constraints_of}
 use Rattle.entity_statement.specs.declared.fault.StatementFault.{StatementFault}
 use Rattle.entity_statement.specs.declared.fault.StatementFault.TheVariants.{Missing, Shape, Tree, Typ}
@@ -26,7 +27,7 @@ use Rattle.entity_statement.specs.declared.statement.Statement.{Statement}
 use Rattle.entity_statement.specs.Claims.{Claims, Identifier, no_metadata}
 use Rattle.entity_statement.specs.Told.{told}
 use Rattle.entity_statement.specs.Forms.{hints_of, identifier, issuers_of, marks_of, metadata_of, moment, owners_of}
-use Rattle.entity_statement.specs.Table.{GivesBy, Name, all_understood, claims_in, claims_of, claims_of_tree, constraints_in, critical, critical_operators, formed, hints_in, in_place, is_operator, is_statement_type, key_set, keyed, mark_issuers_in, mark_owners_in, marks_in, metadata_in, optional, placed, policy_crit_in, policy_in, read_where, required, said, statement_type, unless_empty, unless_strange}
+use Rattle.entity_statement.specs.Table.{GivesBy, all_understood, claims_in, claims_of, claims_of_tree, constraints_in, critical, critical_operators, formed, hints_in, in_place, is_operator, is_statement_type, key_set, keyed, mark_issuers_in, mark_owners_in, marks_in, metadata_in, optional, placed, policy_crit_in, policy_in, read_where, required, said, statement_type, unless_empty, unless_strange}
 use Rattle.entity_statement.specs.Grammar.{AreOperators, HoldsKeys, IsStatement, MaySay, NamesEntity, NamesMoment, SaysClaims}
 use Rattle.entity_statement.proofs.Answers.{ok_or-ok, then-ok}
 use Rattle.entity_statement.proofs.Facts.{metadata_of-is, required-small}

@@ -1,8 +1,8 @@
 -- The table of claims, row by row.
-use Rattle.std.proofs.Common.{◌≡◌, List, codes, bytes_eq, Bool, Ok, ◌∙◌, subst}
+use Rattle.std.proofs.Common.{◌≡◌, List, codes, bytes_eq, Bool, Ok, ◌∙◌, ap, subst}
 use Rattle.fed_base.specs.Answers.{◌>>=◌}
 use Rattle.fed_json.specs.declared.tree.Member.{Member}
-use Rattle.entity_statement.specs.Claims.{Claims, CommonClaims, MarkClaims, RuleClaims}
+use Rattle.entity_statement.specs.Claims.{Claims, CommonClaims, FurtherClaims, MarkClaims, RuleClaims, all_claims}
 use Rattle.entity_statement.specs.Forms.{identifier, moment}
 use Rattle.entity_statement.specs.Table.{claims_in, common_in, constraints_in, critical, formed, further_in, hints_in, key_set, mark_claims_in, mark_issuers_in, mark_owners_in, marks_in, metadata_in, optional, policy_crit_in, policy_in, required, rules_in}
 use Rattle.entity_statement.proofs.Answers.{then-ok}
@@ -84,28 +84,18 @@ unfolding claims_in further_in
 rows members s e =
     let common = then-ok (common_in members) _ s e in
     let own = bytes_eq common.0.iss common.0.sub in
-    let hints = then-ok (hints_in own members) _ s common.2 in
-    let metadata = then-ok (metadata_in members) _ s hints.2 in
-    let rules = then-ok (rules_in own members) _ s metadata.2 in
-    let said = then-ok (mark_claims_in own members) _ s rules.2 in
+    let further = then-ok (further_in own members) _ s common.2 in
+    let hints = then-ok (hints_in own members) _ further.0 further.1 in
+    let metadata = then-ok (metadata_in members) _ further.0 hints.2 in
+    let rules = then-ok (rules_in own members) _ further.0 metadata.2 in
+    let marks = then-ok (mark_claims_in own members) _ further.0 rules.2 in
     let c = common_rows members common.0 common.1 in
     let r = rule_rows own members rules.0 rules.1 in
-    let m = mark_rows own members said.0 said.1 in
-    let made : Claims = record {
-      iss = common.0.iss;
-      sub = common.0.sub;
-      iat = common.0.iat;
-      exp = common.0.exp;
-      keys = common.0.keys;
-      hints = hints.0;
-      metadata = metadata.0;
-      policy = rules.0.policy;
-      constraints = rules.0.constraints;
-      marks = said.0.marks;
-      issuers = said.0.issuers;
-      owners = said.0.owners;
-    } in
-    let same : made ≡ s = cc (said.2) in
+    let m = mark_rows own members marks.0 marks.1 in
+    let parts : FurtherClaims = record { hints = hints.0; metadata = metadata.0; rules = rules.0; marks = marks.0 } in
+    let these : parts ≡ further.0 = cc (marks.2) in
+    let those : all_claims common.0 further.0 ≡ s = cc (further.2) in
+    let same : all_claims common.0 parts ≡ s = ap (all_claims common.0) these ∙ those in
     subst (Rows members) same (record {
       crit = c.crit_is;
       iss = c.iss_is;
@@ -133,6 +123,9 @@ rules_of s = record { policy = s.policy; constraints = s.constraints }
 abbrev said_of : Claims → MarkClaims
 said_of s = record { marks = s.marks; issuers = s.issuers; owners = s.owners }
 
+abbrev further_of : Claims → FurtherClaims
+further_of s = record { hints = s.hints; metadata = s.metadata; rules = rules_of s; marks = said_of s }
+
 abbrev own_of : Claims → Bool
 own_of s = bytes_eq s.iss s.sub
 
@@ -152,25 +145,15 @@ unfolding mark_claims_in
 made_said members s r = λ i.
     r.marks i >>= λ marks. r.issuers i >>= λ issuers. r.owners i >>= λ owners. Ok (record { marks = marks; issuers = issuers; owners = owners })
 
-made_further : (members : List Member) (s : Claims) → Rows members s → further_in (common_of s) members ≡ Ok s
+made_further : (members : List Member) (s : Claims) → Rows members s → further_in (own_of s) members ≡ Ok (further_of s)
 unfolding further_in
 made_further members s r = λ i.
-    r.hints i >>= λ hints. r.metadata i >>= λ metadata. made_rules members s r i >>= λ rules. made_said members s r i >>= λ said. Ok (record {
-      iss = s.iss;
-      sub = s.sub;
-      iat = s.iat;
-      exp = s.exp;
-      keys = s.keys;
-      hints = hints;
-      metadata = metadata;
-      policy = rules.policy;
-      constraints = rules.constraints;
-      marks = said.marks;
-      issuers = said.issuers;
-      owners = said.owners;
-    })
+    r.hints i >>= λ hints. r.metadata i >>= λ metadata. made_rules members s r i >>= λ rules. made_said members s r i >>= λ marks.
+    Ok (record { hints = hints; metadata = metadata; rules = rules; marks = marks })
 
 -- the claims are given where each row gives its own
 pub made : (members : List Member) (s : Claims) → Rows members s → claims_in members ≡ Ok s
 unfolding claims_in
-made members s r = (λ i. made_common members s r i >>= λ c. further_in c members) ∙ made_further members s r
+made members s r =
+    (λ i. made_common members s r i >>= λ c. further_in (bytes_eq c.iss c.sub) members >>= λ f. Ok (all_claims c f))
+    ∙ (λ i. made_further members s r i >>= λ f. Ok (all_claims (common_of s) f))

@@ -39,6 +39,13 @@ pub record MarkClaims : Type 0 where
   pub issuers : List Issuers
   pub owners : List OwnerClaims
 
+-- the claims beside those that every statement has (sections 3.1.1 to 3.1.3)
+pub record FurtherClaims : Type 0 where
+  pub hints : List Identifier
+  pub metadata : Json
+  pub rules : RuleClaims
+  pub marks : MarkClaims
+
 -- the claims that are read, where those that are absent say nothing (sections 3.1.1 to 3.1.3)
 pub record Claims : Type 0 where
   pub iss : Identifier
@@ -53,6 +60,23 @@ pub record Claims : Type 0 where
   pub marks : List MarkEntry
   pub issuers : List Issuers
   pub owners : List OwnerClaims
+
+-- the claims of a statement by its parts (sections 3.1.1 to 3.1.3)
+abbrev pub all_claims : CommonClaims → FurtherClaims → Claims
+all_claims common further = record {
+  iss = common.iss;
+  sub = common.sub;
+  iat = common.iat;
+  exp = common.exp;
+  keys = common.keys;
+  hints = further.hints;
+  metadata = further.metadata;
+  policy = further.rules.policy;
+  constraints = further.rules.constraints;
+  marks = further.marks.marks;
+  issuers = further.marks.issuers;
+  owners = further.marks.owners;
+}
 
 -- what an owner says, its key set by the keys (section 3.1.2)
 abbrev pub told_owner : Owner → OwnerClaims

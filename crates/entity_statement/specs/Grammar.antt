@@ -11,11 +11,12 @@ use Rattle.jws_form.specs.declared.compact.Compact.{Compact}
 use Rattle.jwk_set.specs.declared.jwk.Jwk.{Jwk}
 use Rattle.jwk_set.specs.KeySets.{IsKeySet}
 use Rattle.fed_json.specs.Metadata.{IsMetadata}
+use Rattle.fed_json.specs.Tables.{Name}
 use Rattle.policy_merge.specs.Shapes.{policy_shape}
 use Rattle.chain_limits.specs.Reading.{no_constraints, constraints_of}
 use Rattle.entity_statement.specs.Claims.{Claims, Identifier, no_metadata}
 use Rattle.entity_statement.specs.Forms.{hints_of, marks_of, issuers_of, owners_of}
-use Rattle.entity_statement.specs.Table.{Name, is_operator, statement_type}
+use Rattle.entity_statement.specs.Table.{is_operator, statement_type}
 
 -- the claim is this identifier (section 1.2)
 abbrev pub NamesEntity : Name → List Member → Identifier → Type 0

@@ -7,22 +7,21 @@ use Rattle.fed_json.specs.declared.tree.Json.{Json}
 use Rattle.fed_json.specs.declared.tree.Member.{Member}
 use Rattle.fed_json.specs.Trees.{as_object, find, texts_of}
 use Rattle.fed_json.specs.Reading.{tree_in}
+use Rattle.fed_json.specs.Tables.{Name}
 use Rattle.jws_form.specs.declared.compact.Compact.{Compact}
 use Rattle.jwk_set.specs.declared.jwk.Jwk.{Jwk}
 use Rattle.jwk_set.specs.declared.fault.SetFault.{SetFault}
 use Rattle.jwk_set.specs.KeySets.{key_set_in}
 use Rattle.policy_merge.specs.Policies.{Types}
-use Rattle.policy_merge.specs.Names.{operator_name}
+use Rattle.policy_merge.specs.Names.{operator_name, operators}
 use Rattle.policy_merge.specs.Shapes.{policy_shape}
-use Rattle.policy_merge.specs.declared.operator.Operator.{Operator}
-use Rattle.policy_merge.specs.declared.operator.Operator.TheVariants.{Value, Add, Default, OneOf, SubsetOf, SupersetOf, Essential}
 use Rattle.chain_limits.specs.Reading.{Texts, no_constraints, constraints_of}
 use Rattle.chain_limits.specs.declared.constraints.Constraints.{Constraints}
 use Rattle.entity_statement.specs.declared.fault.StatementFault.{StatementFault}
 use Rattle.entity_statement.specs.declared.fault.StatementFault.TheVariants.{Typ, Tree, Missing, Shape, Keys, Misplaced, Critical, Memory}
 use Rattle.entity_statement.specs.declared.marks.MarkEntry.{MarkEntry}
 use Rattle.entity_statement.specs.declared.marks.Issuers.{Issuers}
-use Rattle.entity_statement.specs.Claims.{Claims, CommonClaims, Identifier, MarkClaims, OwnerClaims, RuleClaims, no_metadata}
+use Rattle.entity_statement.specs.Claims.{Claims, CommonClaims, FurtherClaims, Identifier, MarkClaims, OwnerClaims, RuleClaims, all_claims, no_metadata}
 use Rattle.entity_statement.specs.Forms.{identifier, moment, hints_of, metadata_of, marks_of, issuers_of, owners_of}
 
 -- ---- answers
@@ -38,10 +37,6 @@ abbrev pub Gives : {X : Type 0} → Result X StatementFault → Result X Stateme
 Gives = GivesBy (λ x. x)
 
 -- ---- the columns of the table
-
--- the name of a claim (RFC 7519 section 4)
-abbrev pub Name : Type 0
-Name = List ℕ
 
 -- what a claim's value says under the claim's name, or its fault (section 3.1)
 abbrev pub Column : Type 0 → Type 0
@@ -95,10 +90,6 @@ unless_empty (text ∷ texts) = Some (text ∷ texts)
 -- claims that must be understood (section 3.1.1, `crit`); none is
 unfoldable pub critical : Column (Unit {0})
 critical name tree = ok_or (option_and_then unless_empty (texts_of tree)) (Shape name) >>= all_understood (λ claim. false)
-
--- the seven operators of policies (section 6.1.3.1)
-abbrev pub operators : List Operator
-operators = Value ∷ Add ∷ Default ∷ OneOf ∷ SubsetOf ∷ SupersetOf ∷ Essential ∷ []
 
 -- the name is an operator's (section 6.1.3.1)
 abbrev pub is_operator : Name → Bool
@@ -179,30 +170,20 @@ mark_claims_in own members = do
   Ok (record { marks = marks; issuers = issuers; owners = owners })
 
 -- the claims beside the common ones, of a configuration or of a subordinate statement (sections 3.1.1 to 3.1.3)
-unfoldable pub further_in : CommonClaims → List Member → Result Claims StatementFault
-further_in common members = do
-  hints ← hints_in (bytes_eq common.iss common.sub) members
+unfoldable pub further_in : Bool → List Member → Result FurtherClaims StatementFault
+further_in own members = do
+  hints ← hints_in own members
   metadata ← metadata_in members
-  rules ← rules_in (bytes_eq common.iss common.sub) members
-  said ← mark_claims_in (bytes_eq common.iss common.sub) members
-  Ok (record {
-    iss = common.iss;
-    sub = common.sub;
-    iat = common.iat;
-    exp = common.exp;
-    keys = common.keys;
-    hints = hints;
-    metadata = metadata;
-    policy = rules.policy;
-    constraints = rules.constraints;
-    marks = said.marks;
-    issuers = said.issuers;
-    owners = said.owners;
-  })
+  rules ← rules_in own members
+  marks ← mark_claims_in own members
+  Ok (record { hints = hints; metadata = metadata; rules = rules; marks = marks })
 
 -- the claims of an object: what they say, or the first fault in the table's order (section 3.1)
 unfoldable pub claims_in : List Member → Result Claims StatementFault
-claims_in members = common_in members >>= λ common. further_in common members
+claims_in members = do
+  common ← common_in members
+  further ← further_in (bytes_eq common.iss common.sub) members
+  Ok (all_claims common further)
 
 -- the header's type of an entity statement (section 3.1)
 abbrev pub statement_type : List ℕ

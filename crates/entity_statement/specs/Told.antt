@@ -1,10 +1,13 @@
 -- What the values of the code say.
-use Rattle.std.specs.Prelude.{map}
+use Rattle.std.specs.Prelude.{List, codes, map, unwrap_or}
+use Rattle.fed_json.specs.declared.tree.Member.{Member}
+use Rattle.fed_json.specs.Trees.{find}
 use Rattle.entity_statement.specs.declared.parts.Common.{Common}
 use Rattle.entity_statement.specs.declared.parts.Rules.{Rules}
 use Rattle.entity_statement.specs.declared.parts.Marks.{Marks}
+use Rattle.entity_statement.specs.declared.parts.Further.{Further}
 use Rattle.entity_statement.specs.declared.statement.Statement.{Statement}
-use Rattle.entity_statement.specs.Claims.{Claims, CommonClaims, MarkClaims, RuleClaims, told_owner}
+use Rattle.entity_statement.specs.Claims.{Claims, CommonClaims, FurtherClaims, MarkClaims, RuleClaims, no_metadata, told_owner}
 
 -- the claims that every statement has, the key set by its keys (section 3.1.1)
 abbrev pub told_common : Common → CommonClaims
@@ -17,6 +20,15 @@ told_rules r = record { policy = r.policy; constraints = r.constraints }
 -- what a configuration says of trust marks, the owners' key sets by their keys (section 3.1.2)
 abbrev pub told_marks : Marks → MarkClaims
 told_marks m = record { marks = m.marks; issuers = m.issuers; owners = map told_owner m.owners }
+
+-- the claims beside the common ones; the metadata stays in its place among the members (sections 3.1.1 to 3.1.3)
+abbrev pub told_further : List Member → Further → FurtherClaims
+told_further members f = record {
+  hints = f.hints;
+  metadata = unwrap_or (find (codes "metadata") members) no_metadata;
+  rules = told_rules f.rules;
+  marks = told_marks f.marks;
+}
 
 -- the claims of a statement, its key sets by their keys (sections 3.1.1 to 3.1.3)
 abbrev pub told : Statement → Claims

@@ -16,18 +16,8 @@ use entity_id::EntityId;
 use fed_base::{Duplicate, Memory, Seq, Text};
 use fed_json::{Member, copied_texts, find, is_metadata};
 use jwk_set::{JwkSet, SetFault};
-use policy_merge::{Operator, Policy, PolicyShape};
+use policy_merge::{OPERATORS, Policy, PolicyShape};
 use std::alloc::Global;
-
-const OPERATORS: [Operator; 7] = [
-    Operator::Value,
-    Operator::Add,
-    Operator::Default,
-    Operator::OneOf,
-    Operator::SubsetOf,
-    Operator::SupersetOf,
-    Operator::Essential,
-];
 
 /// The claim `crit` (section 3.1.1). None of the claims that it can name is understood.
 #[tactic(auto, unfolding(crate::specs::Table::critical))]

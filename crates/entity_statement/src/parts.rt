@@ -1,18 +1,22 @@
-// The claims of a statement by kind: those that each has, those of a superior's, and what a configuration says of trust marks.
+// The claims of a statement by kind: those that each has, those of a superior's, what a configuration says of trust marks, and all
+// beside the first.
 
-ghost use Rattle.std.specs.Prelude.{◌≡◌, ◌<◌, IfOk, IsTrue};
+ghost use Rattle.std.specs.Prelude.{◌≡◌, ◌<◌, codes, unwrap_or, IfOk, IsTrue};
 ghost use Rattle.std.specs.List.{list_all};
 ghost use Rattle.std.specs.Str.{is_utf8};
 ghost use Rattle.fed_base.specs.Moments.{moment_limit};
 ghost use Rattle.fed_json.specs.Forms.{members_well_formed};
+ghost use Rattle.fed_json.specs.Metadata.{IsMetadata};
+ghost use Rattle.fed_json.specs.Trees.{find as value_at};
 ghost use Rattle.chain_limits.specs.Reading.{HoldsUtf8};
-ghost use Rattle.entity_statement.specs.Claims.{mark_utf8 as is_mark_utf8, issuers_utf8 as are_issuers_utf8};
-ghost use Rattle.entity_statement.specs.Told.{told_common, told_marks, told_rules};
-ghost use Rattle.entity_statement.specs.Table.{GivesBy, common_in, mark_claims_in, rules_in};
+ghost use Rattle.entity_statement.specs.Claims.{no_metadata, mark_utf8 as is_mark_utf8, issuers_utf8 as are_issuers_utf8};
+ghost use Rattle.entity_statement.specs.Forms.{all_differ};
+ghost use Rattle.entity_statement.specs.Told.{told_common, told_further, told_marks, told_rules};
+ghost use Rattle.entity_statement.specs.Table.{GivesBy, common_in, further_in, mark_claims_in, rules_in};
 
 use crate::claims::{
-    check_critical, check_policy_crit, constraints_in, identifier_at, keys_in, mark_issuers_in,
-    mark_owners_in, marks_in, moment_at, policy_in,
+    check_critical, check_metadata, check_policy_crit, constraints_in, hints_in, identifier_at,
+    keys_in, mark_issuers_in, mark_owners_in, marks_in, moment_at, policy_in,
 };
 use crate::fault::StatementFault;
 use crate::marks::{Issuers, MarkEntry, Owner};
@@ -48,6 +52,14 @@ pub(crate) struct Marks {
     pub(crate) marks: Seq<MarkEntry>,
     pub(crate) issuers: Seq<Issuers>,
     pub(crate) owners: Seq<Owner>,
+}
+
+/// The claims beside those that every statement has; its metadata stays in its place among the members.
+#[derive(Drop)]
+pub(crate) struct Further {
+    pub(crate) hints: Seq<EntityId>,
+    pub(crate) rules: Rules,
+    pub(crate) marks: Marks,
 }
 
 #[tactic(auto, unfolding(crate::specs::Table::common_in))]
@@ -110,6 +122,32 @@ pub(crate) fn read_marks(
         marks,
         issuers,
         owners,
+    })
+}
+
+#[tactic(auto, unfolding(crate::specs::Table::further_in))]
+pub(crate) fn read_further(
+    alloc: Global,
+    claims: &[Member],
+    own: bool,
+) -> Result<Further, StatementFault>
+    requires { IsTrue (members_well_formed claims.now) }
+    ensures claims { GivesBy (told_further claims.now) result (further_in own claims.now) }
+    ensures once { IfOk result (λ further. IsTrue (all_differ further.hints)) }
+    ensures parameters { IfOk result (λ _. IsMetadata (unwrap_or (value_at (codes "metadata") claims.now) no_metadata)) }
+    ensures names { IfOk result (λ further. HoldsUtf8 further.rules.constraints) }
+    ensures marks_utf8 { IfOk result (λ further. IsTrue (list_all is_mark_utf8 further.marks.marks)) }
+    ensures issuers_utf8 { IfOk result (λ further. IsTrue (list_all are_issuers_utf8 further.marks.issuers)) }
+    ensures owners_utf8 { IfOk result (λ further. IsTrue (list_all (λ o. is_utf8 o.mark_type) further.marks.owners)) }
+{
+    let hints = hints_in(alloc, claims, own)?;
+    check_metadata(alloc, claims)?;
+    let rules = read_rules(alloc, claims, own)?;
+    let marks = read_marks(alloc, claims, own)?;
+    Ok(Further {
+        hints,
+        rules,
+        marks,
     })
 }
 

@@ -1,17 +1,15 @@
 // The table of claims, row by row.
 
-ghost use Rattle.std.specs.Prelude.{◌≡◌, ◌<◌, codes, unwrap_or, IsTrue};
+ghost use Rattle.std.specs.Prelude.{◌≡◌, codes, unwrap_or, IsTrue};
 ghost use Rattle.std.specs.Option.{option_copied};
-ghost use Rattle.fed_base.specs.Moments.{moment_limit};
 ghost use Rattle.fed_json.specs.Forms.{members_well_formed};
 ghost use Rattle.fed_json.specs.Trees.{find as value_at};
 ghost use Rattle.entity_statement.specs.Claims.{no_metadata};
-ghost use Rattle.entity_statement.specs.Told.{told, told_common};
-ghost use Rattle.entity_statement.specs.Table.{GivesBy, claims_in, further_in, is_statement_type};
+ghost use Rattle.entity_statement.specs.Told.{told};
+ghost use Rattle.entity_statement.specs.Table.{GivesBy, claims_in, is_statement_type};
 
-use crate::claims::{check_metadata, hints_in};
 use crate::fault::StatementFault;
-use crate::parts::{Common, read_common, read_marks, read_rules};
+use crate::parts::{read_common, read_further};
 use crate::statement::Statement;
 use fed_base::{Seq, Text};
 use fed_json::{Json, Member};
@@ -34,39 +32,21 @@ pub(crate) fn read_claims(alloc: Global, members: Seq<Member>) -> Result<Stateme
     ensures { GivesBy told result (claims_in members) }
 {
     let common = read_common(alloc, members.as_slice())?;
-    read_further(alloc, common, members)
-}
-
-#[tactic(auto, unfolding(crate::specs::Table::further_in))]
-fn read_further(
-    alloc: Global,
-    common: Common,
-    members: Seq<Member>,
-) -> Result<Statement, StatementFault>
-    requires issued { common.iat < moment_limit }
-    requires ends { common.exp < moment_limit }
-    requires formed { IsTrue (members_well_formed members) }
-    ensures { GivesBy told result (further_in (told_common common) members) }
-{
-    let claims = members.as_slice();
     let own = common.iss == common.sub;
-    let hints = hints_in(alloc, claims, own)?;
-    check_metadata(alloc, claims)?;
-    let rules = read_rules(alloc, claims, own)?;
-    let marks = read_marks(alloc, claims, own)?;
+    let further = read_further(alloc, members.as_slice(), own)?;
     Ok(Statement {
         iss: common.iss,
         sub: common.sub,
         iat: common.iat,
         exp: common.exp,
         jwks: common.jwks,
-        hints,
+        hints: further.hints,
         metadata: take_metadata(alloc, members),
-        policy: rules.policy,
-        constraints: rules.constraints,
-        marks: marks.marks,
-        issuers: marks.issuers,
-        owners: marks.owners,
+        policy: further.rules.policy,
+        constraints: further.rules.constraints,
+        marks: further.marks.marks,
+        issuers: further.marks.issuers,
+        owners: further.marks.owners,
     })
 }
 
