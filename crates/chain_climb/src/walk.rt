@@ -329,12 +329,12 @@ pub fn go_on(
     }
 }
 
-// Keeps the first paths.
-pub fn shrink(queue: &mut Seq<Path>, count: usize)
-    requires { count ≤ length queue.old }
-    ensures { queue.new ≡ take count queue.old }
+// Keeps the first items.
+pub fn shrink<T: Drop>(items: &mut Seq<T>, count: usize)
+    requires { count ≤ length items.old }
+    ensures { items.new ≡ take count items.old }
 {
-    while queue.len() > count {
-        let _ = queue.pop();
+    while items.len() > count {
+        let _ = items.pop();
     }
 }
