@@ -68,15 +68,15 @@ begun leaf anchor l a bounds pages verdicts queue leaf_is anchor_is no_pages no_
 
 -- ---- the first paths
 
-pub shrink-step : (popped : Option Path) (old new first : List Path) (count : ℕ) → MatchOption popped ((old ≡ []) × (new ≡ [])) (λ path. old ≡ new ++ path ∷ []) → count < length old → Grows old first
+pub shrink-step : {X : Type 0} (popped : Option X) (old new first : List X) (count : ℕ) → MatchOption popped ((old ≡ []) × (new ≡ [])) (λ item. old ≡ new ++ item ∷ []) → count < length old → Grows old first
     → Grows new first × (count ≤ length new)
 shrink-step None old new first count pops less grows = absurd (let e = ap length pops.0 in omega (arith, e, less))
-shrink-step (Some path) old new first count pops less grows = (
-  (path ∷ grows.0, grows.1 ∙ ap (λ l. l ++ grows.0) pops ∙ append_assoc new (path ∷ []) grows.0),
-  let e = ap length pops in let g = length-append new (path ∷ []) in omega (arith, e, g, less),
+shrink-step (Some item) old new first count pops less grows = (
+  (item ∷ grows.0, grows.1 ∙ ap (λ l. l ++ grows.0) pops ∙ append_assoc new (item ∷ []) grows.0),
+  let e = ap length pops in let g = length-append new (item ∷ []) in omega (arith, e, g, less),
 )
 
-pub shrink-end : (now first : List Path) (count : ℕ) → Grows now first → count ≤ length now → length now ≤ count → now ≡ take count first
+pub shrink-end : {X : Type 0} (now first : List X) (count : ℕ) → Grows now first → count ≤ length now → length now ≤ count → now ≡ take count first
 shrink-end now first count grows more less =
     sym (ap (take count) grows.1 ∙ take_at now grows.0 count (omega (arith, more, less)))
 
@@ -304,13 +304,7 @@ module _ (s : State) (st : IsStanding s) (page : PageAnswer) (waits : WaitsForPa
   }
 
 -- what was appended is taken away again
-pub taken-back : {X : Type 0} (popped : Option X) (old new first : List X) (x : X) → MatchOption popped ((old ≡ []) × (new ≡ [])) (λ item. old ≡ new ++ item ∷ []) → old ≡ first ++ x ∷ [] → new ≡ first
-taken-back None old new first x pops is = absurd (let e = ap length (sym is ∙ pops.0) in let g = length-append first (x ∷ []) in omega (arith, e, g))
-taken-back (Some item) old new first x pops is =
-    let e : length new ≡ length first = (let a = ap length (sym pops ∙ is) in let g = length-append new (item ∷ []) in let h = length-append first (x ∷ []) in omega (arith, a, g, h)) in
-    sym (take_at new (item ∷ []) (length first) e) ∙ ap (take (length first)) (sym pops ∙ is) ∙ take_at first (x ∷ []) (length first) refl
-
-pub shrunk : (first grown now : List Path) (count : ℕ) → Grows first grown → count ≡ length first → now ≡ take count grown → now ≡ first
+pub shrunk : {X : Type 0} (first grown now : List X) (count : ℕ) → Grows first grown → count ≡ length first → now ≡ take count grown → now ≡ first
 shrunk first grown now count grows is taken = taken ∙ ap (take count) grows.1 ∙ take_at first grows.0 count (sym is)
 
 -- ---- the code's part of it

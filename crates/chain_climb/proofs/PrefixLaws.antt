@@ -51,6 +51,9 @@ cut (x ∷ xs) us (y ∷ taken) left one =
     let tail : xs ++ us ≡ taken ++ left = cc one in
     cut-longer x y xs us taken left head (cut xs us taken left tail)
 
+need-joined : (page : Need) (s : Step) (ys taken rest : List Step) → need page ≡ s → ys ≡ taken ++ rest → need page ∷ ys ≡ s ∷ (taken ++ rest)
+need-joined page s ys taken rest one is = ap (λ l. need page ∷ l) is ∙ ap (λ x. x ∷ (taken ++ rest)) one
+
 module _ (f g : Findings) where
   -- the two agree on each page that the steps need
   abbrev pub Agree : List Step → Type 0
@@ -77,7 +80,7 @@ module _ (f g : Findings) where
       let tail : xs ≡ taken ++ left = cc split in
       let whole : Agree (need page ∷ taken) = subst (λ x. Agree (x ∷ taken)) (sym one) agree in
       let rest = later (whole page (inl refl)) taken left tail (λ p among. whole p (inr among)) in
-      (rest.0, ap (λ l. need page ∷ l) rest.1 ∙ ap (λ x. x ∷ (taken ++ rest.0)) one, rest.2)
+      (rest.0, need-joined page s ys taken rest.0 one rest.1, rest.2)
 
   -- the first lists are one where they agree on the whole of it
   pub like-whole : (xs ys : List Step) → Like xs ys → Agree xs → ys ≡ xs

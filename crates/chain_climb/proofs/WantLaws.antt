@@ -1,19 +1,21 @@
 -- What a want says of the place at which a session stands.
-use Rattle.std.proofs.Common.{◌≡◌, ◌∙◌, ap, sym, refl, List, ℕ, [], Bool, true, false, cond, Option, Some, None, bytes_eq, get_or}
+use Rattle.std.proofs.Common.{◌≡◌, ◌∙◌, ap, subst, sym, refl, List, ℕ, [], Bool, true, false, cond, Option, Some, None, bytes_eq, get_or}
 use Rattle.entity_statement.specs.Claims.{Identifier}
 use Rattle.chain_climb.specs.declared.path.Path.{Path}
 use Rattle.chain_climb.specs.declared.facing.Facing.{Facing}
 use Rattle.chain_climb.specs.declared.facing.Facing.TheVariants.{Passed, Wants as FacingWants, Spent as AllSpent, Adds}
+use Rattle.chain_climb.specs.declared.answer.Answer.{Answer}
 use Rattle.chain_climb.specs.declared.answer.Report.{Report}
+use Rattle.chain_climb.specs.declared.answer.Verdict.{Verdict}
 use Rattle.chain_climb.specs.declared.want.Want.{Want}
 use Rattle.chain_climb.specs.declared.want.Want.TheVariants.{Config, Superior, Judge as JudgePath}
 use Rattle.chain_climb.specs.declared.place.Stage.{Stage}
 use Rattle.chain_climb.specs.declared.place.Stage.TheVariants.{Leaf, Hint, Judge, Found, Ended}
 use Rattle.chain_climb.specs.declared.state.State.{State}
-use Rattle.chain_climb.specs.Climbs.{Findings, Need, Step, through_hint, with_chain}
+use Rattle.chain_climb.specs.Climbs.{Findings, Need, Step, page_named, through_hint, with_chain}
 use Rattle.chain_climb.specs.Facings.{face_of}
-use Rattle.chain_climb.specs.Sessions.{answer_to}
-use Rattle.chain_climb.specs.Walks.{IsStanding, StopsAt, StopsAtHint, WaitsForPage, facing_want, leaf_want, path_at, wanted, wanted_at}
+use Rattle.chain_climb.specs.Sessions.{Takes, TakesPage, answer_to, report_in}
+use Rattle.chain_climb.specs.Walks.{HasTakenPage, HasTakenVerdict, IsGiven, IsStanding, StopsAt, StopsAtHint, WaitsForPage, facing_want, leaf_want, path_at, search_of, wanted, wanted_at}
 use Rattle.chain_climb.proofs.FacingLaws.{Faces, hint-faces}
 use Rattle.chain_climb.proofs.NextLaws.{hint-at}
 
@@ -71,3 +73,33 @@ module _ (s : State) where
 
   pub judge-at : IsStanding s → (want : Want) (path : Path) → want ≡ wanted s → want ≡ JudgePath path → (s.place.stage ≡ Judge) × (path ≡ with_chain (path_at s.queue s.place))
   judge-at st want path same is = judges_at s.place.stage path st.place.stops (sym wanted-stage ∙ sym same ∙ is)
+
+-- ---- what was taken is what was given
+
+module _ (s now : State) (answer : Answer) where
+  taken_page : (page : Need) (report : Report) → report_in answer ≡ Some report → HasTakenPage s now (record { issuer = page.issuer; subject = page.subject; url = page.url; answer = report })
+      → TakesPage (search_of s) (search_of now) page (report_in answer)
+  taken_page page report says taken = subst (TakesPage (search_of s) (search_of now) page) (sym says) (taken.pages, taken.verdicts)
+
+  pub config-given : (want : Want) (entity : Identifier) (url : List ℕ) (report : Report) → want ≡ wanted s → want ≡ Config entity url → report_in answer ≡ Some report
+      → HasTakenPage s now (record { issuer = entity; subject = entity; url = url; answer = report }) → IsGiven s now answer
+  config-given want entity url report same is says taken = record {
+    standing = taken.standing;
+    takes = subst (λ w. Takes (search_of s) (search_of now) w answer) (sym is ∙ same) (taken_page (page_named entity entity url) report says taken);
+    same = taken.same;
+  }
+
+  pub superior-given : (want : Want) (superior subject : Identifier) (url : List ℕ) (report : Report) → want ≡ wanted s → want ≡ Superior superior subject url → report_in answer ≡ Some report
+      → HasTakenPage s now (record { issuer = superior; subject = subject; url = url; answer = report }) → IsGiven s now answer
+  superior-given want superior subject url report same is says taken = record {
+    standing = taken.standing;
+    takes = subst (λ w. Takes (search_of s) (search_of now) w answer) (sym is ∙ same) (taken_page (page_named superior subject url) report says taken);
+    same = taken.same;
+  }
+
+  pub verdict-given : (want : Want) (path : Path) → want ≡ wanted s → want ≡ JudgePath path → HasTakenVerdict s now (record { path = path; answer = answer }) → IsGiven s now answer
+  verdict-given want path same is taken = record {
+    standing = taken.standing;
+    takes = subst (λ w. Takes (search_of s) (search_of now) w answer) (sym is ∙ same) (taken.pages, taken.verdicts);
+    same = taken.same;
+  }

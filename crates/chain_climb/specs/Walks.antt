@@ -51,8 +51,8 @@ pub record Walked (pages : List PageAnswer) (most : ℕ) (judges : List Path) (s
   pub known : AllKnown pages before → AllKnown pages after
 
 -- the second list has more behind the first
-abbrev pub Grows : List Path → List Path → Type 0
-Grows before after = (more : List Path) × (after ≡ before ++ more)
+abbrev pub Grows : {X : Type 0} → List X → List X → Type 0
+Grows {X = X} before after = (more : List X) × (after ≡ before ++ more)
 
 -- the levels that follow
 abbrev pub below : Findings → Identifier → ℕ → ℕ → List Path → List Step

@@ -4,7 +4,7 @@ ghost use Rattle.std.specs.Prelude.{◌≡◌, ◌+◌, ◌<◌, true, Some, Non
 ghost use Rattle.chain_climb.specs.declared.want.End.TheVariants.{Budget};
 ghost use Rattle.chain_climb.specs.declared.want.Want.TheVariants.{Done};
 ghost use Rattle.chain_climb.specs.declared.place.Stage.TheVariants.{Leaf, Hint, Judge, Ended};
-ghost use Rattle.chain_climb.specs.Climbs.{with_chain};
+ghost use Rattle.chain_climb.specs.Climbs.{page_named, with_chain};
 ghost use Rattle.chain_climb.specs.Sessions.{Fits, FitsPage, IsNext, IsVerdict, answer_to, calls_in, faults_in, page_of, report_in, was_asked};
 ghost use Rattle.chain_climb.specs.Walks.{HasPath, HasTakenPage, HasTakenVerdict, IsBegun, IsGiven, IsStanding, WaitsForPage, path_at, search_of, wanted, wanted_at};
 
@@ -16,7 +16,7 @@ use crate::place::{Place, Stage};
 use crate::walk::{go_on, go_on_behind, hints_of, shrink};
 use crate::want::{Bounds, End, Want};
 use entity_id::EntityId;
-use fed_base::{Duplicate, Memory, Seq};
+use fed_base::{Duplicate, Memory, Seq, Text};
 use std::alloc::Global;
 
 // A search: whose chain is searched, the answers so far, the paths that were made, and where it stands.
@@ -86,19 +86,23 @@ impl State {
         ensures ok { OnOk result (IsGiven self.old self.new answer) }
         ensures err { OnErr result (self.new ≡ self.old) }
     {
-        match self.next(alloc)? {
+        let want = self.next(alloc)?;
+        self.take(alloc, want, answer)
+    }
+
+    // Takes the answer to this want.
+    fn take(&mut self, alloc: Global, want: Want, answer: Answer) -> Result<(), Memory>
+        requires standing { IsStanding self.old }
+        requires want { want ≡ wanted self.old }
+        requires next { IsNext (search_of self.old) want }
+        requires fits { Fits (search_of self.old) (wanted self.old) answer }
+        ensures ok { OnOk result (IsGiven self.old self.new answer) }
+        ensures err { OnErr result (self.new ≡ self.old) }
+    {
+        match want {
             Want::Config { entity, url } => {
-                let subject = entity.copy(alloc)?;
                 let answer = report(answer);
-                self.take_page(
-                    alloc,
-                    PageAnswer {
-                        issuer: entity,
-                        subject,
-                        url,
-                        answer,
-                    },
-                )
+                self.take_configuration(alloc, entity, url, answer)
             }
             Want::Superior {
                 superior,
@@ -204,6 +208,33 @@ impl State {
         }
     }
 
+    // Takes the answer to the want of a configuration, and goes on.
+    fn take_configuration(
+        &mut self,
+        alloc: Global,
+        entity: EntityId,
+        url: Text,
+        answer: Report,
+    ) -> Result<(), Memory>
+        requires standing { IsStanding self.old }
+        requires waits { WaitsForPage self.old.place.stage }
+        requires new { answer_to self.old.pages (page_named entity entity url) ≡ None }
+        requires fits { FitsPage (was_asked self.old.pages url) (calls_in self.old.pages) self.old.bounds.calls (Some answer) }
+        ensures ok { OnOk result (HasTakenPage self.old self.new (record { issuer = entity; subject = entity; url = url; answer = answer })) }
+        ensures err { OnErr result (self.new ≡ self.old) }
+    {
+        let subject = entity.copy(alloc)?;
+        self.take_page(
+            alloc,
+            PageAnswer {
+                issuer: entity,
+                subject,
+                url,
+                answer,
+            },
+        )
+    }
+
     // Takes the answer to the want of a page, and goes on.
     fn take_page(&mut self, alloc: Global, page: PageAnswer) -> Result<(), Memory>
         requires standing { IsStanding self.old }
@@ -216,6 +247,7 @@ impl State {
         let known = asked(self.pages.as_slice(), page.url.as_slice());
         let call = is_new(known, called(&page.answer));
         let fault = is_new(known, failed(&page.answer));
+        let answered = self.pages.len();
         let count = self.queue.len();
         self.pages.push(page)?;
         match go_on(
@@ -235,7 +267,7 @@ impl State {
             }
             Err(Memory) => {
                 shrink(&mut self.queue, count);
-                let _ = self.pages.pop();
+                shrink(&mut self.pages, answered);
                 Err(Memory)
             }
         }
@@ -251,6 +283,7 @@ impl State {
         ensures err { OnErr result (self.new ≡ self.old) }
     {
         let valid = is_valid(&verdict.answer);
+        let judged = self.verdicts.len();
         let count = self.queue.len();
         self.verdicts.push(verdict)?;
         if valid {
@@ -271,7 +304,7 @@ impl State {
             }
             Err(Memory) => {
                 shrink(&mut self.queue, count);
-                let _ = self.verdicts.pop();
+                shrink(&mut self.verdicts, judged);
                 Err(Memory)
             }
         }

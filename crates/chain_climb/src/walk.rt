@@ -139,24 +139,21 @@ fn look_level(
 {
     for at in from..level_end {
         let path = queue.as_slice()[at].copy(alloc)?;
+        let here = Place {
+            stage: Stage::Judge,
+            at,
+            hint: 0,
+            level_end,
+            left,
+        };
         match look_at_path(alloc, pages, anchor, bounds, &path, queue)? {
             Look::Passed => {}
-            Look::Judge => {
-                return Ok(Some(Place {
-                    stage: Stage::Judge,
-                    at,
-                    hint: 0,
-                    level_end,
-                    left,
-                }));
-            }
+            Look::Judge => return Ok(Some(here)),
             Look::Hint(hint) => {
                 return Ok(Some(Place {
                     stage: Stage::Hint,
-                    at,
                     hint,
-                    level_end,
-                    left,
+                    ..here
                 }));
             }
         }
@@ -290,10 +287,7 @@ pub fn go_on_from_leaf(
     };
     let ended = Place {
         stage: Stage::Ended,
-        at: 0,
-        hint: 0,
-        level_end: 0,
-        left: 0,
+        ..here
     };
     let url = leaf.well_known(alloc)?;
     match find_answer(pages, leaf, leaf, url.as_slice()) {
@@ -335,12 +329,12 @@ pub fn go_on(
     }
 }
 
-// Keeps the first paths.
-pub fn shrink(queue: &mut Seq<Path>, count: usize)
-    requires { count ≤ length queue.old }
-    ensures { queue.new ≡ take count queue.old }
+// Keeps the first items.
+pub fn shrink<T: Drop>(items: &mut Seq<T>, count: usize)
+    requires { count ≤ length items.old }
+    ensures { items.new ≡ take count items.old }
 {
-    while queue.len() > count {
-        let _ = queue.pop();
+    while items.len() > count {
+        let _ = items.pop();
     }
 }

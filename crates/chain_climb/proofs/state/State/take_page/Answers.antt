@@ -1,6 +1,6 @@
-use Rattle.std.proofs.Common.{◌∙◌, refl, sym}
+use Rattle.std.proofs.Common.{[], refl, sym, ◌∙◌, ◌∷◌}
 use Rattle.chain_climb.specs.Sessions.{is_call, is_fault}
-use Rattle.chain_climb.proofs.GiveLaws.{call-left, counted-if, fault-left, new-flag, page-taken, page_arm-known, page_arm-ready, same-session, shrunk, taken-back}
+use Rattle.chain_climb.proofs.GiveLaws.{call-left, counted-if, fault-left, new-flag, page-taken, page_arm-known, page_arm-ready, same-session, shrunk}
 use Rattle.chain_climb.proofs.state.State.take_page.Goals as goal
 
 pub go_on-requires-clause-known : goal.go_on-requires-clause-known
@@ -30,5 +30,6 @@ returns-in-Ok-clause-ok c =
 
 pub returns-in-Err-clause-err : goal.returns-in-Err-clause-err
 returns-in-Err-clause-err c =
-    same-session c.args.self.now c.pop.new.self c.args.self.now.verdicts c.shrink.new.queue (taken-back c.pop.result c.push.new.self c.pop.new.self c.args.self.now.pages c.args.page c.pop.ensures c.in_ok-push.ensures.ok) refl
-    (shrunk c.args.self.now.queue c.go_on.new.queue c.shrink.new.queue c.len-count.result c.in-Err.ensures.grows c.len-count.ensures c.shrink.ensures)
+    same-session c.args.self.now c.shrink-in-Err.new.items c.args.self.now.verdicts c.shrink.new.items
+    (shrunk c.args.self.now.pages c.push.new.self c.shrink-in-Err.new.items c.len-answered.result (c.args.page ∷ [], c.in_ok-push.ensures.ok) c.len-answered.ensures c.shrink-in-Err.ensures) refl
+    (shrunk c.args.self.now.queue c.go_on.new.queue c.shrink.new.items c.len-count.result c.in-Err.ensures.grows c.len-count.ensures c.shrink.ensures)

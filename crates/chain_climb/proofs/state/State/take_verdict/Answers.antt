@@ -1,5 +1,5 @@
-use Rattle.std.proofs.Common.{refl}
-use Rattle.chain_climb.proofs.GiveLaws.{same-session, shrunk, taken-back, verdict-found, verdict-has, verdict-known, verdict-passed}
+use Rattle.std.proofs.Common.{[], refl, ◌∷◌}
+use Rattle.chain_climb.proofs.GiveLaws.{same-session, shrunk, verdict-found, verdict-has, verdict-known, verdict-passed}
 use Rattle.chain_climb.proofs.state.State.take_verdict.Goals as goal
 
 pub go_on_behind-requires-clause-known : goal.go_on_behind-requires-clause-known
@@ -19,5 +19,6 @@ returns-in-Ok-clause-ok c =
 
 pub returns-in-Err-clause-err : goal.returns-in-Err-clause-err
 returns-in-Err-clause-err c =
-    same-session c.args.self.now c.args.self.now.pages c.pop.new.self c.shrink.new.queue refl (taken-back c.pop.result c.push.new.self c.pop.new.self c.args.self.now.verdicts c.args.verdict c.pop.ensures c.in_ok-push.ensures.ok)
-    (shrunk c.args.self.now.queue c.go_on_behind.new.queue c.shrink.new.queue c.len-count.result c.in-Err.ensures.grows c.len-count.ensures c.shrink.ensures)
+    same-session c.args.self.now c.args.self.now.pages c.shrink-in-Err.new.items c.shrink.new.items refl
+    (shrunk c.args.self.now.verdicts c.push.new.self c.shrink-in-Err.new.items c.len-judged.result (c.args.verdict ∷ [], c.in_ok-push.ensures.ok) c.len-judged.ensures c.shrink-in-Err.ensures)
+    (shrunk c.args.self.now.queue c.go_on_behind.new.queue c.shrink.new.items c.len-count.result c.in-Err.ensures.grows c.len-count.ensures c.shrink.ensures)
