@@ -9,15 +9,6 @@ use jwk_set::JwkSet;
 use std::alloc::Global;
 use trust_mark::{MarkReason, MarkVerdict, verify_mark};
 
-// What a mark is verified by.
-#[derive(Drop)]
-struct Question {
-    entry: MarkEntry,
-    leaf: EntityId,
-    anchor: Statement,
-    keys: JwkSet,
-}
-
 // The configuration of https://ta.example that says this of trust marks.
 fn anchor(alloc: Global, marks: &str) -> Result<Option<Statement>, Memory> {
     let mut claims = Text::of(
@@ -42,27 +33,6 @@ fn keys(alloc: Global, set: &str) -> Option<JwkSet> {
     match JwkSet::read(alloc, &tree) {
         Ok(keys) => Some(keys),
         Err(_) => None,
-    }
-}
-
-fn asked_by(alloc: Global, given: &str, kept: &Text) -> Result<Option<Question>, Memory> {
-    let (mark_type, given) = cut(given);
-    let (leaf, given) = cut(given);
-    let (marks, set) = cut(given);
-    let entry = MarkEntry {
-        mark_type: Text::of(alloc, mark_type.as_bytes())?,
-        text: kept.copy(alloc)?,
-    };
-    let leaf = EntityId::of(alloc, leaf.as_bytes())?;
-    let anchor = anchor(alloc, marks)?;
-    match (leaf, anchor, keys(alloc, set)) {
-        (Some(leaf), Some(anchor), Some(keys)) => Ok(Some(Question {
-            entry,
-            leaf,
-            anchor,
-            keys,
-        })),
-        _ => Ok(None),
     }
 }
 
@@ -91,26 +61,59 @@ fn verdict_told(alloc: Global, verdict: MarkVerdict) -> Result<Text, Memory> {
     }
 }
 
+// What is answered on the entry by these, with the number of signatures that were tested.
+fn told(
+    alloc: Global,
+    moment: &str,
+    entry: &MarkEntry,
+    leaf: &EntityId,
+    anchor: &Statement,
+    keys: &JwkSet,
+) -> Result<Text, Memory> {
+    let t = moment.parse::<u64>().unwrap_or(0);
+    let mut steps = Steps {
+        ledger: Plain::new(),
+    };
+    let verdict = verify_mark(alloc, entry, leaf, anchor, keys, t, &mut steps)?;
+    let mut out = verdict_told(alloc, verdict)?;
+    add_number(alloc, &mut out, steps.ledger.steps())?;
+    Ok(out)
+}
+
+// The same by a configuration and a key set that are yet to be read.
+fn by_anchor(
+    alloc: Global,
+    moment: &str,
+    entry: &MarkEntry,
+    leaf: &EntityId,
+    given: &str,
+) -> Result<Text, Memory> {
+    let (marks, set) = cut(given);
+    match anchor(alloc, marks)? {
+        Some(anchor) => match keys(alloc, set) {
+            Some(keys) => told(alloc, moment, entry, leaf, &anchor, &keys),
+            None => Text::of(alloc, b"no keys"),
+        },
+        None => Text::of(alloc, b"no anchor"),
+    }
+}
+
+// The same for an entity that is yet to be read.
+fn by_leaf(alloc: Global, moment: &str, entry: &MarkEntry, given: &str) -> Result<Text, Memory> {
+    let (leaf, given) = cut(given);
+    match EntityId::of(alloc, leaf.as_bytes())? {
+        Some(leaf) => by_anchor(alloc, moment, entry, &leaf, given),
+        None => Text::of(alloc, b"no leaf"),
+    }
+}
+
 /// `verify MOMENT TYPE LEAF ANCHOR KEYS`: until when the kept mark is good, as an entry of this type, or the first reason
 /// for which it isn't, and how many signatures were tested. `ANCHOR` is what the trust anchor's configuration says of marks.
 pub(crate) fn verify(alloc: Global, given: &str, kept: &Text) -> Result<Text, Memory> {
     let (moment, given) = cut(given);
-    let Some(asked) = asked_by(alloc, given, kept)? else {
-        return Text::of(alloc, b"no question");
-    };
-    let mut steps = Steps {
-        ledger: Plain::new(),
-    };
-    let verdict = verify_mark(
-        alloc,
-        &asked.entry,
-        &asked.leaf,
-        &asked.anchor,
-        &asked.keys,
-        moment.parse::<u64>().unwrap_or(0),
-        &mut steps,
-    )?;
-    let mut out = verdict_told(alloc, verdict)?;
-    add_number(alloc, &mut out, steps.ledger.steps())?;
-    Ok(out)
+    let (mark_type, given) = cut(given);
+    let mark_type = Text::of(alloc, mark_type.as_bytes())?;
+    let text = kept.copy(alloc)?;
+    let entry = MarkEntry { mark_type, text };
+    by_leaf(alloc, moment, &entry, given)
 }
