@@ -19,6 +19,7 @@ use Rattle.fed_commands.specs.declared.command.Command.{Command}
 use Rattle.fed_commands.specs.declared.command.Command.TheVariants.{Verify, Keygen, Issue, Check, Help, Version, Faulty}
 use Rattle.fed_commands.specs.declared.help.TheConstants.{HELP, VERSION}
 use Rattle.fed_commands.specs.declared.reply.Reply.{Reply}
+use Rattle.fed_commands.specs.declared.text_type.TextType.{TextType}
 use Rattle.fed_commands.specs.declared.ring.LiveKey.{LiveKey}
 use Rattle.fed_commands.specs.declared.operation.File.{File}
 use Rattle.fed_commands.specs.declared.operation.File.TheVariants.{Whole}
@@ -71,12 +72,12 @@ check_awaits file found anchor copied at keys is same keyed bytes of_file =
 ring_once : (bytes : List ℕ) (a b : LiveKey) → IsRing bytes a → IsRing bytes b → a ≡ b
 ring_once bytes a b p q = let same = sym (is_found bytes _ a p.reads p).1 ∙ (is_found bytes _ b p.reads q).1 in cc same
 
-issue_once : (file : Option (List ℕ)) (a b : Prepared) → IsIssuePrepared file a → IsIssuePrepared file b → a ≡ b
-issue_once None a b p q = p ∙ sym q
-issue_once (Some bytes) a b (inl (k, few, r, e)) (inl (l, few', s, d)) = e ∙ (ap (λ z. WantsInput (operation.Issue z.seeds)) (ring_once bytes k l r s) ∙ sym d)
-issue_once (Some bytes) a b (inl (k, few, r, e)) (inr (none, d)) = absurd (none k few r)
-issue_once (Some bytes) a b (inr (none, e)) (inl (k, few, r, d)) = absurd (none k few r)
-issue_once (Some bytes) a b (inr (none, e)) (inr (none', d)) = e ∙ sym d
+issue_once : (typ : TextType) (file : Option (List ℕ)) (a b : Prepared) → IsIssuePrepared typ file a → IsIssuePrepared typ file b → a ≡ b
+issue_once typ None a b p q = p ∙ sym q
+issue_once typ (Some bytes) a b (inl (k, few, r, e)) (inl (l, few', s, d)) = e ∙ (ap (λ z. WantsInput (operation.Issue z.seeds typ)) (ring_once bytes k l r s) ∙ sym d)
+issue_once typ (Some bytes) a b (inl (k, few, r, e)) (inr (none, d)) = absurd (none k few r)
+issue_once typ (Some bytes) a b (inr (none, e)) (inl (k, few, r, d)) = absurd (none k few r)
+issue_once typ (Some bytes) a b (inr (none, e)) (inr (none', d)) = e ∙ sym d
 
 keygen_once : (at exp : ℕ) (file : Option (List ℕ)) (a b : Prepared) → IsKeygenPrepared at exp file a → IsKeygenPrepared at exp file b → a ≡ b
 keygen_once at exp None a b p q = p ∙ sym q
@@ -107,7 +108,7 @@ done_once : (work : Operation) (text : Option (List ℕ)) (r s : Reply) → IsPe
 done_once work None r s p q = p ∙ sym q
 done_once (operation.Verify key) (Some text) r s (f, p, e) (g, q, d) = e ∙ (ap (λ z. plain (status_of z) (line_of z)) (finding_once key text f g p q) ∙ sym d)
 done_once (operation.Keygen at exp) (Some text) r s p q = p ∙ sym q
-done_once (operation.Issue keys) (Some text) r s p q = p ∙ sym q
+done_once (operation.Issue keys typ) (Some text) r s p q = p ∙ sym q
 done_once (operation.Check anchor keys at) (Some text) r s p q = checks_once anchor at keys keys (Some text) r s refl p q
 
 outcome_once : (prepared : Prepared) (text : Option (List ℕ)) (r s : Reply) → IsOutcome prepared text r → IsOutcome prepared text s → r ≡ s
@@ -136,7 +137,7 @@ reply_once : (c : Command) (moment : ℕ) (x y : Option (List ℕ)) (a b : Prepa
     → IsOutcome a text r → IsOutcome b text s → r ≡ s
 reply_once (Verify key) moment x y a b text r s same p q out other = by_prepared a b text r s (p ∙ sym q) out other
 reply_once (Keygen ring at exp) moment x y a b text r s same p q out other = by_prepared a b text r s (keygen_once at exp y a b (subst (λ z. IsKeygenPrepared at exp z a) same p) q) out other
-reply_once (Issue ring) moment x y a b text r s same p q out other = by_prepared a b text r s (issue_once y a b (subst (λ z. IsIssuePrepared z a) same p) q) out other
+reply_once (Issue ring typ) moment x y a b text r s same p q out other = by_prepared a b text r s (issue_once typ y a b (subst (λ z. IsIssuePrepared typ z a) same p) q) out other
 reply_once (Check anchor keys at) moment x y a b text r s same p q out other =
     check_once anchor (unwrap_or at moment) y a b text r s (subst (λ z. IsCheckPrepared anchor (unwrap_or at moment) z a) same p) q out other
 reply_once Help moment x y a b text r s same p q out other = by_prepared a b text r s (p ∙ sym q) out other
@@ -186,9 +187,9 @@ keygen_small at exp text = of_digits (result_ok (decode_sized text 48))
     of_digits None = lit≤ tt
     of_digits (Some seeds) = of_order (nat_lt at exp) (record { seeds = seeds; iat = at; exp = exp })
 
-issue_small : (keys text : List ℕ) → (issue_reply keys text).status ≤ 2
+issue_small : (keys : List ℕ) (typ : TextType) (text : List ℕ) → (issue_reply keys typ text).status ≤ 2
 unfolding issue_reply of_tree of_object sealed_reply
-issue_small keys text = of_reading (tree_in text)
+issue_small keys typ text = of_reading (tree_in text)
   where
     of_tests : (a b c : Bool) (sealed : List ℕ) → (cond a (refused (codes "Form")) (cond b (refused (codes "TooLong")) (cond c (refused (codes "Form")) (plain 0 sealed)))).status ≤ 2
     of_tests true b c sealed = lit≤ tt
@@ -200,15 +201,15 @@ issue_small keys text = of_reading (tree_in text)
     of_objects true r small = small
     of_objects false r small = lit≤ tt
 
-    of_reading : (tree : Option Json) → (of_tree keys tree).status ≤ 2
+    of_reading : (tree : Option Json) → (of_tree keys typ tree).status ≤ 2
     of_reading None = lit≤ tt
-    of_reading (Some tree) = of_objects _ (of_object keys tree) (of_tests (not (whole tree)) _ _ _)
+    of_reading (Some tree) = of_objects _ (of_object keys typ tree) (of_tests (not (whole tree)) _ _ _)
 
 done_small : (work : Operation) (text : Option (List ℕ)) (r : Reply) → IsPerformed work text r → r.status ≤ 2
 done_small work None r p = subst (λ z. z.status ≤ 2) (sym p) (lit≤ tt)
 done_small (operation.Verify key) (Some text) r (f, p, e) = let few = status_small f in subst (λ z. z.status ≤ 2) (sym e) (omega (arith, few))
 done_small (operation.Keygen at exp) (Some text) r p = subst (λ z. z.status ≤ 2) (sym p) (keygen_small at exp text)
-done_small (operation.Issue keys) (Some text) r p = subst (λ z. z.status ≤ 2) (sym p) (issue_small keys text)
+done_small (operation.Issue keys typ) (Some text) r p = subst (λ z. z.status ≤ 2) (sym p) (issue_small keys typ text)
 done_small (operation.Check anchor keys at) (Some text) r (p, kept) = checked_small anchor at (Some keys.keys) (chain_in text) r.status r.text p
 
 done_at : (prepared : Prepared) (reply : Reply) (text : Option (List ℕ)) (r : Reply) → prepared ≡ Answered reply → IsOutcome prepared text r → r ≡ reply
@@ -217,10 +218,10 @@ done_at prepared reply text r e out = subst (λ s. IsOutcome s text r) e out
 small_at : (prepared : Prepared) (reply : Reply) (text : Option (List ℕ)) (r : Reply) → reply.status ≤ 2 → prepared ≡ Answered reply → IsOutcome prepared text r → r.status ≤ 2
 small_at prepared reply text r small e out = subst (λ z. z.status ≤ 2) (sym (done_at prepared reply text r e out)) small
 
-issue_prepared_small : (file : Option (List ℕ)) (prepared : Prepared) (text : Option (List ℕ)) (r : Reply) → IsIssuePrepared file prepared → IsOutcome prepared text r → r.status ≤ 2
-issue_prepared_small None prepared text r p out = small_at prepared bad_input text r (lit≤ tt) p out
-issue_prepared_small (Some bytes) prepared text r (inl (k, few, ring, e)) out = done_small (operation.Issue k.seeds) text r (awaits prepared (operation.Issue k.seeds) text r e out)
-issue_prepared_small (Some bytes) prepared text r (inr (none, e)) out = small_at prepared bad_input text r (lit≤ tt) e out
+issue_prepared_small : (typ : TextType) (file : Option (List ℕ)) (prepared : Prepared) (text : Option (List ℕ)) (r : Reply) → IsIssuePrepared typ file prepared → IsOutcome prepared text r → r.status ≤ 2
+issue_prepared_small typ None prepared text r p out = small_at prepared bad_input text r (lit≤ tt) p out
+issue_prepared_small typ (Some bytes) prepared text r (inl (k, few, ring, e)) out = done_small (operation.Issue k.seeds typ) text r (awaits prepared (operation.Issue k.seeds typ) text r e out)
+issue_prepared_small typ (Some bytes) prepared text r (inr (none, e)) out = small_at prepared bad_input text r (lit≤ tt) e out
 
 keygen_prepared_small : (at exp : ℕ) (file : Option (List ℕ)) (prepared : Prepared) (text : Option (List ℕ)) (r : Reply) → IsKeygenPrepared at exp file prepared → IsOutcome prepared text r → r.status ≤ 2
 keygen_prepared_small at exp None prepared text r p out = done_small (operation.Keygen at exp) text r (awaits prepared (operation.Keygen at exp) text r p out)
@@ -236,7 +237,7 @@ check_prepared_small anchor at (Some bytes) prepared text r (inr (none, e)) out 
 pub reply_small : (c : Command) (moment : ℕ) (file : Option (List ℕ)) (prepared : Prepared) (text : Option (List ℕ)) (r : Reply) → IsPrepared c moment file prepared → IsOutcome prepared text r → r.status ≤ 2
 reply_small (Verify key) moment file prepared text r p out = done_small (operation.Verify key) text r (awaits prepared (operation.Verify key) text r p out)
 reply_small (Keygen ring at exp) moment file prepared text r p out = keygen_prepared_small at exp file prepared text r p out
-reply_small (Issue ring) moment file prepared text r p out = issue_prepared_small file prepared text r p out
+reply_small (Issue ring typ) moment file prepared text r p out = issue_prepared_small typ file prepared text r p out
 reply_small (Check anchor keys at) moment file prepared text r p out = check_prepared_small anchor (unwrap_or at moment) file prepared text r p out
 reply_small Help moment file prepared text r p out = small_at prepared (plain 0 HELP.now) text r (lit≤ tt) p out
 reply_small Version moment file prepared text r p out = small_at prepared (plain 0 VERSION.now) text r (lit≤ tt) p out

@@ -19,7 +19,7 @@ use Rattle.fed_commands.specs.Streams.{without_line_end}
 -- the file that a command names: each looks at it, and `keygen` keeps it
 abbrev pub named : Command → Option (List ℕ)
 named (Keygen ring at exp) = Some ring
-named (Issue ring) = Some ring
+named (Issue ring typ) = Some ring
 named (Check anchor keys at) = Some keys
 named command = None
 

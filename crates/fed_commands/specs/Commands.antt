@@ -3,9 +3,10 @@ use Rattle.std.specs.Prelude.{ℕ, List, [], ◌∷◌, ◌==◌, ◌&&◌, ◌|
 use Rattle.std.specs.Option.{option_and_then}
 use Rattle.base64url.specs.Base64url.{decoded_32}
 use Rattle.entity_id.specs.Identifiers.{identifier_of}
-use Rattle.entity_statement.specs.Table.{statement_type}
+use Rattle.fed_commands.specs.Issues.{type_of}
 use Rattle.fed_commands.specs.Options.{option_in, moment_in}
 use Rattle.fed_commands.specs.declared.command.Command.{Command}
+use Rattle.fed_commands.specs.declared.text_type.TextType.{TextType}
 use Rattle.fed_commands.specs.declared.command.Command.TheVariants.{Verify, Keygen, Issue, Check, Help, Version, Faulty}
 
 -- a flag stands alone
@@ -36,15 +37,16 @@ unfoldable pub keygen_of : List (List ℕ) → Command
 keygen_of words =
     if length words == 6 then keygen_with (option_in (codes "--ring") words) (moment_in (codes "--at") words) (moment_in (codes "--exp") words) else Faulty
 
--- the command, where both are there and the type is the one that is issued
-abbrev pub issue_with : Option (List ℕ) → Option (List ℕ) → Command
-issue_with (Some ring) (Some typ) = if bytes_eq typ statement_type then Issue ring else Faulty
+-- the command, where both are there and the type is one that is issued
+abbrev pub issue_with : Option (List ℕ) → Option TextType → Command
+issue_with (Some ring) (Some typ) = Issue ring typ
 issue_with (Some ring) None = Faulty
 issue_with None typ = Faulty
 
--- two options with their values; the type is that of entity statements (OpenID Federation 1.0 section 3.1)
+-- two options with their values; the type is that of entity statements, of trust marks or of delegations (OpenID Federation 1.0
+-- sections 3.1.1, 7.1 and 7.2.1)
 unfoldable pub issue_of : List (List ℕ) → Command
-issue_of words = if length words == 4 then issue_with (option_in (codes "--ring") words) (option_in (codes "--typ") words) else Faulty
+issue_of words = if length words == 4 then issue_with (option_in (codes "--ring") words) (option_and_then type_of (option_in (codes "--typ") words)) else Faulty
 
 -- the command, where the anchor and the file are there; a moment may be absent
 abbrev pub check_with : Option (List ℕ) → Option (List ℕ) → Option ℕ → Command

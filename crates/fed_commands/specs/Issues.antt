@@ -1,5 +1,5 @@
--- What `issue` makes of claims (OpenID Federation 1.0 section 3).
-use Rattle.std.specs.Prelude.{ℕ, List, [], ◌∷◌, ◌++◌, length, codes, nat_lt, Bool, not, Option, Some, None, is_some, is_ok, if◌then◌else◌}
+-- What `issue` makes of claims (OpenID Federation 1.0 sections 3 and 7).
+use Rattle.std.specs.Prelude.{ℕ, List, [], ◌∷◌, ◌++◌, length, codes, nat_lt, Bool, not, Option, Some, None, is_some, is_ok, bytes_eq, if◌then◌else◌}
 use Rattle.entity_statement.specs.Table.{claims_of_tree, statement_type}
 use Rattle.fed_json.specs.declared.tree.Json.{Json}
 use Rattle.fed_json.specs.Compact.{compact}
@@ -8,29 +8,48 @@ use Rattle.fed_json.specs.Reading.{tree_in}
 use Rattle.fed_json.specs.Trees.{as_object}
 use Rattle.sealed.specs.Sealing.{sealed_text}
 use Rattle.fed_commands.specs.Replies.{plain, bad_input, refused}
+use Rattle.trust_mark.specs.Claims.{delegation_of_tree, delegation_type_name, mark_of_tree, mark_type_name}
 use Rattle.fed_commands.specs.declared.reply.Reply.{Reply}
+use Rattle.fed_commands.specs.declared.text_type.TextType.{TextType}
+use Rattle.fed_commands.specs.declared.text_type.TextType.TheVariants.{Statement, Mark, Delegation}
 
--- the claims are those of an entity statement (section 3.1.1)
-abbrev pub claims_read : Json → Bool
-claims_read tree = is_ok (claims_of_tree tree)
+-- the header's `typ` of each type of text (sections 3.1.1, 7.1 and 7.2.1)
+abbrev pub type_name : TextType → List ℕ
+type_name Statement = statement_type
+type_name Mark = mark_type_name
+type_name Delegation = delegation_type_name
+
+-- the type that a `typ` names
+abbrev pub type_of : List ℕ → Option TextType
+type_of word =
+    if bytes_eq word statement_type then Some Statement
+    else (if bytes_eq word mark_type_name then Some Mark
+    else (if bytes_eq word delegation_type_name then Some Delegation
+    else None))
+
+-- the claims are those of a text of the type (sections 3.1.1, 7.1 and 7.2.1)
+abbrev pub claims_read : TextType → Json → Bool
+claims_read Statement tree = is_ok (claims_of_tree tree)
+claims_read Mark tree = is_ok (mark_of_tree tree)
+claims_read Delegation tree = is_ok (delegation_of_tree tree)
 
 -- the sealed text, on its own line (RFC 7515 section 7.1)
-unfoldable pub sealed_reply : List ℕ → Json → Reply
-sealed_reply keys tree = plain 0 (sealed_text keys statement_type tree ++ 10 ∷ [])
+unfoldable pub sealed_reply : List ℕ → TextType → Json → Reply
+sealed_reply keys typ tree = plain 0 (sealed_text keys (type_name typ) tree ++ 10 ∷ [])
 
 -- an object: first whether it has a JSON text, then how long that is, then whether it reads
-unfoldable pub of_object : List ℕ → Json → Reply
-of_object keys tree =
+unfoldable pub of_object : List ℕ → TextType → Json → Reply
+of_object keys typ tree =
     if not (whole tree) then refused (codes "Form")
     else (if nat_lt 180000 (length (compact tree)) then refused (codes "TooLong")
-    else (if not (claims_read tree) then refused (codes "Form")
-    else sealed_reply keys tree))
+    else (if not (claims_read typ tree) then refused (codes "Form")
+    else sealed_reply keys typ tree))
 
 -- the same of the input as a tree, where it is one
-unfoldable pub of_tree : List ℕ → Option Json → Reply
-of_tree keys None = bad_input
-of_tree keys (Some tree) = if is_some (as_object tree) then of_object keys tree else bad_input
+unfoldable pub of_tree : List ℕ → TextType → Option Json → Reply
+of_tree keys typ None = bad_input
+of_tree keys typ (Some tree) = if is_some (as_object tree) then of_object keys typ tree else bad_input
 
 -- the claims are a JSON object
-unfoldable pub issue_reply : List ℕ → List ℕ → Reply
-issue_reply keys input = of_tree keys (tree_in input)
+unfoldable pub issue_reply : List ℕ → TextType → List ℕ → Reply
+issue_reply keys typ input = of_tree keys typ (tree_in input)

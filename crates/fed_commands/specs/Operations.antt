@@ -13,6 +13,7 @@ use Rattle.fed_commands.specs.declared.operation.Operation.TheVariants as operat
 use Rattle.fed_commands.specs.declared.operation.Prepared.{Prepared}
 use Rattle.fed_commands.specs.declared.operation.Prepared.TheVariants.{Answered, WantsInput}
 use Rattle.fed_commands.specs.Checks.{IsChecked, chain_in, keys_in}
+use Rattle.fed_commands.specs.declared.text_type.TextType.{TextType}
 use Rattle.fed_commands.specs.Findings.{IsVerified}
 use Rattle.fed_commands.specs.Issues.{issue_reply}
 use Rattle.fed_commands.specs.Keygens.{keygen_reply}
@@ -27,10 +28,10 @@ IsFileOf TooLong file = (bytes : List ℕ) × (file ≡ Some bytes) × (file_lim
 IsFileOf (Whole bytes) file = (file ≡ Some bytes) × (length bytes ≤ file_limit)
 
 -- claims wait to be sealed by the key of a ring file; another file, one that is too long, or none isn't of the form
-abbrev pub IsIssuePrepared : Option (List ℕ) → Prepared → Type 0
-IsIssuePrepared None prepared = prepared ≡ Answered bad_input
-IsIssuePrepared (Some bytes) prepared =
-    ((key : LiveKey) × (length bytes ≤ file_limit) × IsRing bytes key × (prepared ≡ WantsInput (operation.Issue key.seeds)))
+abbrev pub IsIssuePrepared : TextType → Option (List ℕ) → Prepared → Type 0
+IsIssuePrepared typ None prepared = prepared ≡ Answered bad_input
+IsIssuePrepared typ (Some bytes) prepared =
+    ((key : LiveKey) × (length bytes ≤ file_limit) × IsRing bytes key × (prepared ≡ WantsInput (operation.Issue key.seeds typ)))
     ⊎ (((key : LiveKey) → length bytes ≤ file_limit → ¬ IsRing bytes key) × (prepared ≡ Answered bad_input))
 
 -- a key is made only where no file has the ring's name
@@ -49,7 +50,7 @@ IsCheckPrepared anchor at (Some bytes) prepared =
 abbrev pub IsPrepared : Command → ℕ → Option (List ℕ) → Prepared → Type 0
 IsPrepared (Verify key) moment file prepared = prepared ≡ WantsInput (operation.Verify key)
 IsPrepared (Keygen ring at exp) moment file prepared = IsKeygenPrepared at exp file prepared
-IsPrepared (Issue ring) moment file prepared = IsIssuePrepared file prepared
+IsPrepared (Issue ring typ) moment file prepared = IsIssuePrepared typ file prepared
 IsPrepared (Check anchor keys at) moment file prepared = IsCheckPrepared anchor (unwrap_or at moment) file prepared
 IsPrepared Help moment file prepared = prepared ≡ Answered (plain 0 HELP.now)
 IsPrepared Version moment file prepared = prepared ≡ Answered (plain 0 VERSION.now)
@@ -59,7 +60,7 @@ IsPrepared Faulty moment file prepared = prepared ≡ Answered (plain 2 (codes "
 abbrev pub IsPerformedOn : Operation → List ℕ → Reply → Type 0
 IsPerformedOn (operation.Verify key) text reply = IsVerified key text reply
 IsPerformedOn (operation.Keygen at exp) text reply = reply ≡ keygen_reply at exp text
-IsPerformedOn (operation.Issue keys) text reply = reply ≡ issue_reply keys text
+IsPerformedOn (operation.Issue keys typ) text reply = reply ≡ issue_reply keys typ text
 IsPerformedOn (operation.Check anchor keys at) text reply = IsChecked anchor at (Some keys.keys) (chain_in text) reply.status reply.text × (reply.kept ≡ None)
 
 -- what is made of an input without its line end, or of one that is too long

@@ -7,6 +7,7 @@ use Rattle.fed_commands.specs.declared.command.Command.{Command}
 use Rattle.fed_commands.specs.declared.command.Command.TheVariants.{Issue}
 use Rattle.fed_commands.specs.declared.reply.Reply.{Reply}
 use Rattle.fed_commands.specs.declared.ring.LiveKey.{LiveKey}
+use Rattle.fed_commands.specs.declared.text_type.TextType.{TextType}
 use Rattle.fed_commands.specs.Rings.{IsRing}
 
 -- a line is a text that each set seals in which the key of these seeds stands under its thumbprint (RFC 7638), up to 262,144 bytes,
@@ -25,11 +26,11 @@ IsSealedFrom ring files reply = reply.status ≡ 0
 
 -- the reply of `issue` is so sealed by the key of the ring file that the command names
 abbrev pub RepliesSealed : Command → Option Files → Reply → Type 0
-RepliesSealed command files reply = (ring : List ℕ) → command ≡ Issue ring → IsSealedFrom ring files reply
+RepliesSealed command files reply = (ring : List ℕ) (typ : TextType) → command ≡ Issue ring typ → IsSealedFrom ring files reply
 
 -- after `issue` has answered 0 it has written a text and its line end, and the text is sealed by each set in which the key of the
 -- ring file that the command names stands under its thumbprint (RFC 7515 section 5.2, RFC 7638)
 abbrev pub IssuesSealed : Command → Option Files → Option (List ℕ) → Option (List ℕ) → ℕ → Type 0
-IssuesSealed command files held held' status = (ring : List ℕ) → command ≡ Issue ring → status ≡ 0
+IssuesSealed command files held held' status = (ring : List ℕ) (typ : TextType) → command ≡ Issue ring typ → status ≡ 0
     → (bytes : List ℕ) × (key : LiveKey) × (line : List ℕ) × IsFile files ring (Some bytes) × IsRing bytes key
     × Appends held held' line × IsSealedLine key.seeds line

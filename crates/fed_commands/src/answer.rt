@@ -40,7 +40,7 @@ fn named(command: &Command) -> Option<&Text>
     ensures { option_copied result ≡ named command.now }
 {
     match command {
-        Command::Keygen { ring_file, .. } | Command::Issue { ring_file } => Some(ring_file),
+        Command::Keygen { ring_file, .. } | Command::Issue { ring_file, .. } => Some(ring_file),
         Command::Check { keys_file, .. } => Some(keys_file),
         Command::Verify(_) | Command::Help | Command::Version | Command::Faulty => None,
     }

@@ -1,12 +1,15 @@
 // The command line.
 
-ghost use Rattle.std.specs.Prelude.{◌≡◌, IfOk};
+ghost use Rattle.std.specs.Prelude.{◌≡◌, IfOk, codes};
+ghost use Rattle.std.specs.Option.{option_and_then};
+ghost use Rattle.fed_commands.specs.Issues.{type_of};
+ghost use Rattle.fed_commands.specs.Options.{option_in};
 ghost use Rattle.fed_commands.specs.Commands.{command_of, verb_of, verify_of, keygen_of, issue_of, check_of, flag_of};
 
 use crate::options::{moment_in, option_in};
+use crate::text_type::TextType;
 use base64url::decode_32;
 use entity_id::EntityId;
-use entity_statement::STATEMENT_TYPE;
 use fed_ports::{Duplicate, Memory, Text};
 use std::alloc::Global;
 
@@ -21,9 +24,10 @@ pub enum Command {
         at: u64,
         exp: u64,
     },
-    /// `issue --ring FILE --typ TYP`: seal claims of an entity statement by the key of a ring file.
+    /// `issue --ring FILE --typ TYP`: seal claims as a text of that type by the key of a ring file.
     Issue {
         ring_file: Text,
+        typ: TextType,
     },
     /// `check --anchor ID --keys FILE [--at T]`: check a chain for a trust anchor, its keys, and a moment in seconds since 1970.
     Check {
@@ -123,13 +127,22 @@ fn read_issue(alloc: Global, rest: &[Text]) -> Result<Command, Memory>
     if rest.len() != 4 {
         return Ok(Command::Faulty);
     }
-    match (option_in(rest, b"--ring"), option_in(rest, b"--typ")) {
-        (Some(ring_file), Some(typ)) if typ.as_slice() == STATEMENT_TYPE => {
-            Ok(Command::Issue {
-                ring_file: ring_file.copy(alloc)?,
-            })
-        }
+    match (option_in(rest, b"--ring"), type_in(rest)) {
+        (Some(ring_file), Some(typ)) => Ok(Command::Issue {
+            ring_file: ring_file.copy(alloc)?,
+            typ,
+        }),
         _ => Ok(Command::Faulty),
+    }
+}
+
+// The type of text behind `--typ`.
+fn type_in(rest: &[Text]) -> Option<TextType>
+    ensures { result ≡ option_and_then type_of (option_in (codes "--typ") rest.now) }
+{
+    match option_in(rest, b"--typ") {
+        Some(word) => TextType::of(word.as_slice()),
+        None => None,
     }
 }
 

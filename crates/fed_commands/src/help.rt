@@ -5,7 +5,7 @@ pub const HELP: &[u8] = b"fed: an authority and trust chain resolver of OpenID F
 
 usage: fed verify PUB < TEXT
        fed keygen --ring FILE --at T --exp T < SEEDS
-       fed issue --ring FILE --typ entity-statement+jwt < CLAIMS
+       fed issue --ring FILE --typ TYP < CLAIMS
        fed check --anchor ID --keys FILE [--at T] < CHAIN
        fed --help | --version
 
@@ -17,7 +17,8 @@ keygen   makes the key of 96 hexadecimal digits (SK.seed, SK.prf, PK.seed), live
          from --at to --exp, keeps it in the new file --ring, and writes its
          public key as a JWK, or `refused Exists` or `refused Order`.
 issue    seals claims, a JSON object, by the key of the file --ring, and writes
-         the text, or `refused Form` or `refused TooLong`.
+         the text, or `refused Form` or `refused TooLong`. TYP is
+         entity-statement+jwt, trust-mark+jwt or trust-mark-delegation+jwt.
 check    checks a trust chain, a JSON list of texts from the leaf's up, for the
          anchor ID, whose keys are the key set in the file --keys, at the moment
          --at, or now. It writes `valid <leaf> <exp>` and the leaf's metadata on

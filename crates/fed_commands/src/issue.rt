@@ -1,28 +1,34 @@
 // The answer of `issue`.
 
-ghost use Rattle.std.specs.Prelude.{◌≡◌, IfOk, IsSome, is_some};
+ghost use Rattle.std.specs.Prelude.{◌≡◌, IfOk, IsSome, Result, is_ok, is_some};
 ghost use Rattle.fed_json.specs.Forms.{IsWellFormed};
 ghost use Rattle.fed_json.specs.Reading.{Reads, tree_in};
 ghost use Rattle.fed_json.specs.Trees.{as_object};
+ghost use Rattle.entity_statement.specs.Table.{claims_of_tree};
+ghost use Rattle.trust_mark.specs.Claims.{Gives};
+ghost use Rattle.trust_mark.specs.declared.fault.MarkFault.{MarkFault as Fault};
+ghost use Rattle.trust_mark.specs.declared.mark.Mark.{Mark as Claimed};
 ghost use Rattle.fed_commands.specs.Issues.{claims_read, issue_reply, of_object};
 ghost use Rattle.fed_commands.specs.Sealings.{IsSealedReply};
 
 use crate::reply::{Reply, plain};
-use entity_statement::{STATEMENT_TYPE, Statement, StatementFault};
+use crate::text_type::TextType;
+use entity_statement::{Statement, StatementFault};
 use fed_json::{Json, TreeFault, is_whole, read_tree, write_tree};
 use fed_ports::{Memory, Text};
 use sealed::seal_payload;
 use slh_dsa::KeyPair;
 use std::alloc::Global;
+use trust_mark::{Mark, MarkFault, delegation_of_claims};
 
 // The most bytes that claims may have as compact JSON.
 const MOST_CLAIMS: usize = 180_000;
 
-/// The text that the signer seals the claims in the input as, on its own line. A text of at most 262,144 bytes is sealed by
+/// The text of that type that the signer seals the claims in the input as, on its own line. A text of at most 262,144 bytes is sealed by
 /// each set in which the signer's key has its thumbprint.
 #[tactic(auto, unfolding(crate::specs::Issues::issue_reply, crate::specs::Issues::of_tree))]
-pub fn issue(alloc: Global, signer: &KeyPair, input: Text) -> Result<Reply, Memory>
-    ensures reply { IfOk result (λ reply. reply ≡ issue_reply signer.now input) }
+pub fn issue(alloc: Global, signer: &KeyPair, typ: TextType, input: Text) -> Result<Reply, Memory>
+    ensures reply { IfOk result (λ reply. reply ≡ issue_reply signer.now typ input) }
     ensures sealed { IfOk result (IsSealedReply signer.now) }
 {
     let tree = match read_input(alloc, input) {
@@ -31,7 +37,7 @@ pub fn issue(alloc: Global, signer: &KeyPair, input: Text) -> Result<Reply, Memo
         Err(TreeFault::Syntax) => return plain(alloc, 2, b"input\n"),
     };
     if is_object(&tree) {
-        seal_claims(alloc, signer, tree)
+        seal_claims(alloc, signer, typ, tree)
     } else {
         plain(alloc, 2, b"input\n")
     }
@@ -53,10 +59,10 @@ fn is_object(tree: &Json) -> bool
 
 // The same of claims that are an object.
 #[tactic(auto, unfolding(crate::specs::Issues::of_object, crate::specs::Issues::sealed_reply))]
-fn seal_claims(alloc: Global, signer: &KeyPair, tree: Json) -> Result<Reply, Memory>
+fn seal_claims(alloc: Global, signer: &KeyPair, typ: TextType, tree: Json) -> Result<Reply, Memory>
     requires object { IsSome (as_object tree) }
     requires formed { IsWellFormed tree }
-    ensures reply { IfOk result (λ reply. reply ≡ of_object signer.now tree) }
+    ensures reply { IfOk result (λ reply. reply ≡ of_object signer.now typ tree) }
     ensures sealed { IfOk result (IsSealedReply signer.now) }
 {
     if !is_whole(&tree) {
@@ -66,10 +72,10 @@ fn seal_claims(alloc: Global, signer: &KeyPair, tree: Json) -> Result<Reply, Mem
     if payload.len() > MOST_CLAIMS {
         return plain(alloc, 1, b"refused TooLong\n");
     }
-    if !is_statement(alloc, tree)? {
+    if !are_read(alloc, typ, tree)? {
         return plain(alloc, 1, b"refused Form\n");
     }
-    let typ = Text::of(alloc, STATEMENT_TYPE)?;
+    let typ = typ.name(alloc)?;
     let mut text = seal_payload(alloc, signer, &typ, payload.as_slice())?;
     text.push(b'\n')?;
     Ok(Reply {
@@ -79,10 +85,33 @@ fn seal_claims(alloc: Global, signer: &KeyPair, tree: Json) -> Result<Reply, Mem
     })
 }
 
+// Whether the claims are those of a text of the type.
+fn are_read(alloc: Global, typ: TextType, claims: Json) -> Result<bool, Memory>
+    requires { IsWellFormed claims }
+    ensures { IfOk result (λ read. read ≡ claims_read typ claims) }
+{
+    match typ {
+        TextType::Statement => is_statement(alloc, claims),
+        TextType::Mark => is_mark(Mark::of_claims(alloc, &claims)),
+        TextType::Delegation => is_mark(delegation_of_claims(alloc, &claims)),
+    }
+}
+
+// Whether a mark or a delegation was read, unless memory was wanting.
+fn is_mark(read: Result<Mark, MarkFault>) -> Result<bool, Memory>
+    ensures { (expected : Result Claimed Fault) → Gives read expected → IfOk result (λ read. read ≡ is_ok expected) }
+{
+    match read {
+        Ok(_) => Ok(true),
+        Err(MarkFault::Memory) => Err(Memory),
+        Err(_) => Ok(false),
+    }
+}
+
 // Whether the claims are those of an entity statement (OpenID Federation 1.0 section 3.1.1).
 fn is_statement(alloc: Global, claims: Json) -> Result<bool, Memory>
     requires { IsWellFormed claims }
-    ensures { IfOk result (λ read. read ≡ claims_read claims) }
+    ensures { IfOk result (λ read. read ≡ is_ok (claims_of_tree claims)) }
 {
     match Statement::of_claims(alloc, claims) {
         Ok(_) => Ok(true),

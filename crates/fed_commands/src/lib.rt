@@ -20,6 +20,7 @@ mod options;
 mod output;
 mod reply;
 mod ring;
+mod text_type;
 mod top;
 mod verify;
 mod verify_finding;

@@ -13,6 +13,7 @@ use crate::issue::issue;
 use crate::keygen::keygen;
 use crate::reply::{Reply, plain};
 use crate::ring::read_ring;
+use crate::text_type::TextType;
 use crate::verify::verify;
 use entity_id::EntityId;
 use fed_ports::{Duplicate, Memory, Text};
@@ -41,8 +42,8 @@ pub enum Operation {
         at: u64,
         exp: u64,
     },
-    /// To seal claims by this signer.
-    Issue(KeyPair),
+    /// To seal claims by this signer as a text of this type.
+    Issue(KeyPair, TextType),
     /// To check a chain for an anchor, under these keys, at this moment in seconds since 1970.
     Check {
         anchor: EntityId,
@@ -76,7 +77,7 @@ pub fn prepare(
             at,
             exp,
         } => prepare_keygen(alloc, *at, *exp, file),
-        Command::Issue { ring_file: _ } => prepare_issue(alloc, file),
+        Command::Issue { ring_file: _, typ } => prepare_issue(alloc, *typ, file),
         Command::Check {
             anchor,
             keys_file: _,
@@ -105,14 +106,17 @@ fn prepare_keygen(alloc: Global, at: u64, exp: u64, file: &File) -> Result<Prepa
 }
 
 // Claims are sealed by the key of a ring file.
-fn prepare_issue(alloc: Global, file: &File) -> Result<Prepared, Memory>
-    ensures { (bytes : Option (List ℕ)) → IsFileOf file.now bytes → IfOk result (IsIssuePrepared bytes) }
+fn prepare_issue(alloc: Global, typ: TextType, file: &File) -> Result<Prepared, Memory>
+    ensures { (bytes : Option (List ℕ)) → IsFileOf file.now bytes → IfOk result (IsIssuePrepared typ bytes) }
 {
     let File::Whole(bytes) = file else {
         return answered(alloc, 2, b"input\n");
     };
     match read_ring(alloc, bytes.as_slice())? {
-        Some(key) => Ok(Prepared::WantsInput(Operation::Issue(KeyPair::from_seeds(&key.seeds)))),
+        Some(key) => {
+            let signer = KeyPair::from_seeds(&key.seeds);
+            Ok(Prepared::WantsInput(Operation::Issue(signer, typ)))
+        }
         None => answered(alloc, 2, b"input\n"),
     }
 }
@@ -138,7 +142,7 @@ fn prepare_check(alloc: Global, anchor: &EntityId, at: u64, file: &File) -> Resu
 /// are read from it.
 pub fn perform(alloc: Global, operation: &Operation, input: Option<Text>) -> Result<Reply, Memory>
     ensures performed { IfOk result (IsPerformed operation.now input) }
-    ensures sealed { (seeds : List ℕ) → operation.now ≡ Operation.Issue seeds → IfOk result (IsSealedReply seeds) }
+    ensures sealed { (seeds : List ℕ) (typ : TextType) → operation.now ≡ Operation.Issue seeds typ → IfOk result (IsSealedReply seeds) }
 {
     let Some(input) = input else {
         return plain(alloc, 2, b"input\n");
@@ -146,7 +150,7 @@ pub fn perform(alloc: Global, operation: &Operation, input: Option<Text>) -> Res
     match operation {
         Operation::Verify(key) => verify(alloc, key, input.as_slice()),
         Operation::Keygen { at, exp } => keygen(alloc, *at, *exp, input.as_slice()),
-        Operation::Issue(signer) => issue(alloc, signer, input),
+        Operation::Issue(signer, typ) => issue(alloc, signer, *typ, input),
         Operation::Check { anchor, keys, at } => check(alloc, anchor, keys, *at, input),
     }
 }

@@ -1,0 +1,68 @@
+// Rows that seal a mark or a delegation.
+
+ghost use Rattle.std.specs.Prelude.{IfOk};
+ghost use Rattle.std.specs.Str.{IsUtf8};
+
+use crate::words::cut;
+use fed_base::{Memory, Text};
+use fed_json::{Json, is_whole, read_tree};
+use slh_dsa::KeyPair;
+use std::alloc::Global;
+
+// The 48 seeds from this one on.
+fn seeds(first: u8) -> [u8; 48] {
+    let mut seeds = [0; 48];
+    let mut next = first;
+    for seed in seeds.iter_mut() {
+        *seed = next;
+        next = next.wrapping_add(1);
+    }
+    seeds
+}
+
+fn typ_of(alloc: Global, word: &str) -> Result<Text, Memory>
+    ensures { IfOk result IsUtf8 }
+{
+    if word == "mark" {
+        Text::of(alloc, b"trust-mark+jwt")
+    } else {
+        Text::of(alloc, b"trust-mark-delegation+jwt")
+    }
+}
+
+// The claims, in which an at sign stands for the kept text.
+fn with_kept(alloc: Global, claims: &str, kept: &Text) -> Result<Text, Memory> {
+    let (front, back) = claims.split_once('@').unwrap_or((claims, ""));
+    let mut text = Text::of(alloc, front.as_bytes())?;
+    if front.len() < claims.len() {
+        text.append(kept.as_slice())?;
+    }
+    text.append(back.as_bytes())?;
+    Ok(text)
+}
+
+/// `seal SEED TYPE CLAIMS`: the claims as a mark or a delegation, sealed by the key of the 48 seeds from this one on.
+pub(crate) fn seal(alloc: Global, given: &str, kept: &Text) -> Result<Text, Memory> {
+    let (first, given) = cut(given);
+    let (word, claims) = cut(given);
+    let claims = with_kept(alloc, claims, kept)?;
+    let Ok(tree) = read_tree(alloc, claims.as_slice()) else {
+        return Ok(Text::new(alloc));
+    };
+    if !is_whole(&tree) || !matches!(tree, Json::Object(_)) {
+        return Ok(Text::new(alloc));
+    }
+    let keys = KeyPair::from_seeds(&seeds(first.parse::<u8>().unwrap_or(0)));
+    let typ = typ_of(alloc, word)?;
+    sealed::seal(alloc, &keys, &typ, &tree)
+}
+
+/// `grow NUMBER`: the kept text with the letter A at its end, until it has so many bytes.
+pub(crate) fn grown(alloc: Global, given: &str, kept: &Text) -> Result<Text, Memory> {
+    let mut text = Text::of(alloc, kept.as_slice())?;
+    let len: usize = given.parse().unwrap_or(0);
+    for _ in text.len()..len {
+        text.push(b'A')?;
+    }
+    Ok(text)
+}

@@ -1,0 +1,12 @@
+pub mod ClaimLaws
+pub mod ConditionLaws
+pub mod CountLaws
+pub mod DelegationLaws
+pub mod GrammarLaws
+pub mod Laws
+pub mod OrderLaws
+pub mod PayloadLaws
+pub mod ReadingLaws
+pub mod SealLaws
+pub mod StatusLaws
+pub mod VerdictLaws
