@@ -1,0 +1,43 @@
+// How rows spell what they are given and what they answer.
+use fed_base::{Memory, Text};
+use std::alloc::Global;
+
+/// The number that a part spells, or 0.
+pub fn number(part: &str) -> u64 {
+    part.parse::<u64>().unwrap_or(0)
+}
+
+/// A part of a call, by its place among those with a colon between two.
+pub fn at<'a>(call: &'a str, place: usize) -> &'a str {
+    call.split(':').nth(place).unwrap_or("")
+}
+
+/// The text, where it is UTF-8.
+pub fn shown(text: &Text) -> &str {
+    str::from_utf8(text.as_slice()).unwrap_or("not UTF-8")
+}
+
+/// Appends a number in decimal digits.
+pub fn push_number(out: &mut Text, number: u64) -> Result<(), Memory> {
+    let mut digits = [b'0'; 20];
+    let mut left = number;
+    let mut first = 20;
+    while first > 0 {
+        first -= 1;
+        digits[first] = b'0' + (left % 10) as u8;
+        left /= 10;
+        if left == 0 {
+            break;
+        }
+    }
+    out.append(digits.get(first..).unwrap_or(b""))
+}
+
+/// A text of so many letters `h`.
+pub fn letters(alloc: Global, count: u64) -> Result<Text, Memory> {
+    let mut text = Text::new(alloc);
+    for _ in 0..count {
+        text.push(b'h')?;
+    }
+    Ok(text)
+}
