@@ -1,8 +1,9 @@
 //! Layer 8, rows: calls on a part of the cache, in both of its forms, and on the book of trust anchors' keys.
 //!
-//! Each line of the input is a list of calls with a space between two. `part` and calls are made on an empty part of the cache, in its form on
-//! `lru` and in its form as a plain list, and the line that is written has the replies of both, which must be the same. `book` and calls are
-//! made on a book of two anchors. `passes` and a word makes calls on the cache and the book that threads share, by passes that are split and joined. `same` and a number makes so many calls on both forms of a part, by a row of numbers.
+//! Each line of the input is a word and calls with a space between two. `part` makes calls on an empty part of the cache, in its form on
+//! `lru` and in its form as a plain list; the replies of both must be the same. `book` makes calls on a book of two anchors. `passes` and
+//! a word makes calls on the cache and the book that threads share, by passes that are split and joined. `same` and a number makes so
+//! many calls on both forms of a part, by a row of numbers.
 #![tactic(auto)]
 
 mod book;

@@ -1,5 +1,5 @@
 -- What calls on the book keep and change.
-use Rattle.std.proofs.Common.{◌≡◌, ◌<◌, ◌≤◌, ◌+◌, ℕ, Bool, true, false, cond, List, [], ◌∷◌, Option, Some, None, refl, sym, ap, ◌∙◌, subst, arith, le_trans, true≢false}
+use Rattle.std.proofs.Common.{◌≡◌, ◌<◌, ◌≤◌, ◌+◌, ℕ, Bool, true, false, cond, List, [], ◌∷◌, ◌++◌, Option, Some, None, refl, sym, ap, ◌∙◌, subst, arith, le_trans, true≢false}
 use Rattle.std.specs.Prelude.{bytes_eq, IsSome}
 use Rattle.std.specs.Option.{option_or}
 use Rattle.fed_json.proofs.Order.{bytes_eq-itself, equal-bytes_eq}
@@ -97,3 +97,18 @@ run-keys a (e ∷ es) old new run =
 pub read-tells-last : (anchors : List AnchorKeys) (calls : List (BookCall × BookReply)) (book new : Book) (anchor : List ℕ) (epoch : ℕ) (keys : JwkSet) → Runs BookStep (opened_with anchors) calls book
     → BookStep book (Read anchor) (Keys epoch keys) new → standing_keys anchors anchor calls ≡ Some keys
 read-tells-last anchors calls book new anchor epoch keys run step = sym (run-keys anchor calls (opened_with anchors) book run) ∙ step.0
+
+-- ---- a Read after other calls
+
+split_run : (seen rest : List (BookCall × BookReply)) (first last : Book) → Runs BookStep first (seen ++ rest) last → (mid : Book) × Runs BookStep first seen mid × Runs BookStep mid rest last
+split_run [] rest first last run = (first, refl, run)
+split_run (e ∷ es) rest first last run = let s = split_run es rest run.0 last run.2 in (s.0, (run.0, run.1, s.1), s.2)
+
+pub read-is-as-new : (first last : Book) (seen more : List (BookCall × BookReply)) (anchor : List ℕ) (epoch : ℕ) (keys : JwkSet)
+    → Runs BookStep first (seen ++ (more ++ (Read anchor, Keys epoch keys) ∷ [])) last → (book : Book) × Runs BookStep first seen book × (book.epoch ≤ epoch)
+read-is-as-new first last seen more anchor epoch keys run =
+    let known = split_run seen (more ++ (Read anchor, Keys epoch keys) ∷ []) first last run in
+    let before = split_run more ((Read anchor, Keys epoch keys) ∷ []) known.0 last known.2 in
+    let rose = epochs-rise more known.0 before.0 before.1 in
+    let told = before.2.1.1 in
+    (known.0, known.1, omega (arith, rose, told))

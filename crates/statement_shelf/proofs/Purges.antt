@@ -1,6 +1,6 @@
 -- Purges of the parts in turn.
 use Rattle.std.proofs.Common.{◌≡◌, ◌≢◌, ◌≤◌, ◌<◌, ◌+◌, ◌*◌, ℕ, zero, suc, List, [], ◌∷◌, ◌++◌, length, map, Option, Some, None, refl, sym, ap, ◌∙◌, subst, arith, append-nil, length-append}
-use Rattle.std.specs.Prelude.{slice_get, sum}
+use Rattle.std.specs.Prelude.{Err, IfErr, Ok, Result, slice_get, sum}
 use mathlib.Core.Logic.{dite}
 use native.Mathlib.Decide.{ℕ_discrete}
 use Rattle.std.proofs.lemmas.List.Sums.{sum_by_push}
@@ -11,7 +11,7 @@ use Rattle.turn_log.proofs.Gains.{adds-append, adds-none}
 use Rattle.statement_shelf.specs.Entries.{Part, part_count}
 use Rattle.statement_shelf.specs.Shelf.{ShelfStep, IsPurged}
 use Rattle.statement_shelf.specs.Laws.{IsSmall}
-use Rattle.statement_shelf.specs.Passes.{ArePurged, CommonsKnown, IsPurgeOfAll, IsPurgeOfSome, IsWornPart, purge_at}
+use Rattle.statement_shelf.specs.Passes.{ArePurged, CommonsKnown, IsPurgeOfAll, IsPurgeOfSome, IsWornCall, IsWornPart, purge_at}
 use Rattle.statement_shelf.specs.declared.calls.ShelfCall.{ShelfCall}
 use Rattle.statement_shelf.specs.declared.calls.ShelfCall.TheVariants.{Purge}
 use Rattle.statement_shelf.specs.declared.calls.ShelfReply.{ShelfReply}
@@ -96,11 +96,11 @@ worn_adds old mid new moment counts so more = record {
 
 -- the parts before this one were purged, and dropped so many together
 pub record PurgedBefore (moment at dropped : ℕ) (old new : CommonsKnown) : Type 0 where
-  counts : List ℕ
-  size : length counts ≡ at
-  total : sum counts ≡ dropped
-  few : dropped ≤ 32 * at
-  so : ArePurged moment counts old new
+  pub counts : List ℕ
+  pub size : length counts ≡ at
+  pub total : sum counts ≡ dropped
+  pub few : dropped ≤ 32 * at
+  pub so : ArePurged moment counts old new
 
 pub before-none : (known : CommonsKnown) (moment : ℕ) → PurgedBefore moment 0 0 known known
 before-none known moment = record { counts = []; size = refl; total = refl; few = omega arith; so = purged-none known moment }
@@ -129,3 +129,10 @@ before-worn moment at dropped old mid new less b worn =
         omega (arith, long, less),
         worn_adds old mid new moment b.counts b.so (subst (λ k. AddsOnPart mid k [] new) (sym b.size) worn.0),
         subst (λ k. length (new.part k).seen ≡ call_limit) (sym b.size) worn.1)
+
+-- ---- a call on a part that is worn
+
+pub worn-called : {E : Type 0} (count : E → ℕ) (r : Result ShelfReply E) (call : ShelfCall) (at : ℕ) (old new : CommonsKnown) → (IsWornPart at old new → IsWornCall call old new)
+    → IfErr r (λ e. (count e ≡ call_limit) × AddsOnPart old at [] new × (length (new.part at).seen ≡ call_limit)) → IfErr r (λ e. (count e ≡ call_limit) × IsWornCall call old new)
+worn-called {E} count (Ok reply) call at old new of h = tt
+worn-called {E} count (Err e) call at old new of h = (h.0, of (h.1, h.2))

@@ -1,5 +1,5 @@
 -- What follows for lists of calls on a part of the cache and on the book, whoever made them.
-use Rattle.std.specs.Prelude.{◌≡◌, ◌<◌, ◌≤◌, ℕ, List, [], ◌∷◌, length, All, bytes_eq, cond, Option, Some, None, ⊤}
+use Rattle.std.specs.Prelude.{◌≡◌, ◌<◌, ◌≤◌, ℕ, List, [], ◌∷◌, ◌++◌, length, All, bytes_eq, cond, Option, Some, None, ⊤}
 use Rattle.std.specs.Option.{option_or}
 use Rattle.std.specs.Map.{values_of}
 use Rattle.jwk_set.specs.declared.set.JwkSet.{JwkSet}
@@ -81,3 +81,9 @@ abbrev pub ReadTellsLastRotate : Type 0
 ReadTellsLastRotate =
     (anchors : List AnchorKeys) (calls : List (BookCall × BookReply)) (book new : Book) (anchor : List ℕ) (epoch : ℕ) (keys : JwkSet) → Runs BookStep (opened_with anchors) calls book
     → BookStep book (Read anchor) (Keys epoch keys) new → standing_keys anchors anchor calls ≡ Some keys
+
+-- a Read's epoch is at least that of the book after any calls before it, as those that its caller had seen
+abbrev pub ReadIsAsNew : Type 0
+ReadIsAsNew =
+    (first last : Book) (seen more : List (BookCall × BookReply)) (anchor : List ℕ) (epoch : ℕ) (keys : JwkSet) → Runs BookStep first (seen ++ (more ++ (Read anchor, Keys epoch keys) ∷ [])) last
+    → (book : Book) × Runs BookStep first seen book × (book.epoch ≤ epoch)

@@ -3,10 +3,9 @@ ghost use Rattle.std.specs.Prelude.{IsTrue};
 ghost use Rattle.sealed.specs.Deciding.{are_sealed};
 
 use entity_id::EntityId;
-use fed_base::{Duplicate, Memory, Seq, Text};
+use fed_base::{Seq, Text};
 use jwk_set::JwkSet;
 use sealed::Sealed;
-use std::alloc::Global;
 
 /// A signed text, and keys under which it verifies (RFC 7515 section 5.2).
 #[derive(Drop)]
@@ -118,20 +117,4 @@ pub struct AnchorKeys {
     pub anchor: EntityId,
     /// Its keys.
     pub keys: JwkSet,
-}
-
-impl Duplicate for Proven {
-    fn copy(&self, alloc: Global) -> Result<Self, Memory> {
-        let text = self.text.copy(alloc)?;
-        let keys = self.keys.copy(alloc)?;
-        Ok(Proven { text, keys })
-    }
-}
-
-impl Duplicate for AnchorKeys {
-    fn copy(&self, alloc: Global) -> Result<Self, Memory> {
-        let anchor = self.anchor.copy(alloc)?;
-        let keys = self.keys.copy(alloc)?;
-        Ok(AnchorKeys { anchor, keys })
-    }
 }

@@ -106,8 +106,8 @@ impl Commons {
         Ok(ShelfReply::Dropped(dropped))
     }
 
-    /// A call on the cache: on the part of its URL, or, of a Purge, on each part in turn. It waits for the part's turn. It is worn where that
-    /// part has counted 2^62 calls; a Purge at the first such part, with the parts before it purged.
+    /// A call on the cache: on the part of its URL, or, of a Purge, on each part in turn. It waits for the part's turn. It is worn where
+    /// that part has counted 2^62 calls; a Purge at the first such part, with the parts before it purged.
     pub fn shelf<R: Wait>(
         &self,
         rt: &R,

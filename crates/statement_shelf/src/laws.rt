@@ -1,5 +1,5 @@
 //! What follows for lists of calls on a part of the cache and on the book, whoever made them, and a part as a plain list.
-ghost use Rattle.statement_shelf.specs.Laws.{EpochsRise, HitTellsLastPut, PartsStaySmall, PutIsTold, ReadTellsLastRotate};
+ghost use Rattle.statement_shelf.specs.Laws.{EpochsRise, HitTellsLastPut, PartsStaySmall, PutIsTold, ReadIsAsNew, ReadTellsLastRotate};
 
 pub use crate::plain::PlainPart;
 
@@ -26,4 +26,9 @@ pub fn epochs_rise()
 /// A Read tells the keys of the last Rotate of its anchor before it, or those that the book was opened with.
 pub fn read_tells_last_rotate()
     ensures { ReadTellsLastRotate }
+{}
+
+/// A Read's epoch is at least that of the book after any calls before it, as those that its caller had seen.
+pub fn read_is_as_new()
+    ensures { ReadIsAsNew }
 {}
