@@ -1,8 +1,7 @@
 -- What a look-up finds in a part that a call left.
-use Rattle.std.proofs.Common.{◌≡◌, ℕ, zero, suc, Bool, true, false, cond, List, [], ◌∷◌, ◌++◌, take, Option, Some, None, ◌⊎◌, inl, inr, refl, sym, ap, ◌∙◌, subst}
+use Rattle.std.proofs.Common.{◌≡◌, ℕ, zero, suc, Bool, true, false, cond, List, [], ◌∷◌, ◌++◌, take, Some, ◌⊎◌, inl, inr, refl, sym, ap, ◌∙◌, subst}
 use Rattle.std.specs.Prelude.{bytes_eq}
-use Rattle.std.specs.Map.{lookup, remove_entry, set_value}
-use Rattle.fed_json.proofs.Order.{bytes_eq-itself, equal-bytes_eq}
+use Rattle.fed_json.proofs.Order.{equal-bytes_eq}
 use Rattle.statement_shelf.specs.Entries.{Entry, Part, entry_at, without, written}
 
 module _ (u url : List ℕ) where

@@ -1,5 +1,5 @@
 -- What the calls of a part reply and leave.
-use Rattle.std.proofs.Common.{◌≡◌, ◌≢◌, ◌≤◌, ◌<◌, ◌+◌, ℕ, Bool, true, false, List, [], ◌∷◌, length, take, Option, Some, None, refl, sym, ap, ◌∙◌, subst, arith}
+use Rattle.std.proofs.Common.{◌≡◌, ◌≤◌, ◌<◌, ℕ, List, ◌∷◌, length, take, Some, None, sym, ap, ◌∙◌, subst, arith}
 use Rattle.std.specs.Prelude.{bytes_eq}
 use Rattle.std.specs.Map.{set_value}
 use Rattle.std.proofs.lemmas.List.{take_all}
@@ -10,8 +10,8 @@ use Rattle.lru.specs.LruCache.{LruCache, promoted, put_entries}
 use Rattle.statement_shelf.specs.Entries.{Entry, Part, entry_at, without, put_first, unproved, with_key, max_entries}
 use Rattle.statement_shelf.specs.Shelf.{ShelfStep, Shows}
 use Rattle.statement_shelf.specs.declared.calls.Proven.{Proven}
-use Rattle.statement_shelf.specs.declared.calls.ShelfCall.TheVariants.{Look, Put, Prove, Purge}
-use Rattle.statement_shelf.specs.declared.calls.ShelfReply.TheVariants.{Hit, Miss, Done, Gone, Dropped, Memory}
+use Rattle.statement_shelf.specs.declared.calls.ShelfCall.TheVariants.{Look, Prove}
+use Rattle.statement_shelf.specs.declared.calls.ShelfReply.TheVariants.{Hit, Done, Gone}
 use Rattle.statement_shelf.proofs.KeyLaws.{short}
 use Rattle.statement_shelf.proofs.PartLaws.{length-without, promoted-first, put-first, renewed}
 
@@ -65,6 +65,7 @@ pub prove-missing : (url : List ℕ) (seal : Pair) (old new : Part) → entry_at
 prove-missing url seal old new none is = (λ e holds. let both : Some e ≡ None = sym holds.0 ∙ none in cc, is)
 
 pub prove-other : (url : List ℕ) (seal : Pair) (old new : Part) (e : Entry) → entry_at url old ≡ Some e → (e.text ≡ seal.text → ⊥) → new ≡ set_value (bytes_eq url) old e → ShelfStep old (Prove url seal) Gone new
-prove-other url seal old new e found apart is =
-    (λ x holds. let both : Some x ≡ Some e = sym holds.0 ∙ found in let same : x ≡ e = cc in apart (ap (λ y. y.text) (sym same) ∙ holds.1),
-        is ∙ set_value_same (bytes_eq url) old e found)
+prove-other url seal old new e found apart is = (
+  λ x holds. let both : Some x ≡ Some e = sym holds.0 ∙ found in let same : x ≡ e = cc in apart (ap (λ y. y.text) (sym same) ∙ holds.1),
+  is ∙ set_value_same (bytes_eq url) old e found,
+)

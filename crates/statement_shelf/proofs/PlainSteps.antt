@@ -1,5 +1,5 @@
 -- What the calls of a plain part reply and leave.
-use Rattle.std.proofs.Common.{◌≡◌, ◌≤◌, ◌<◌, ℕ, List, [], ◌∷◌, ◌++◌, take, drop, Option, Some, None, refl, sym, ap, ◌∙◌, arith}
+use Rattle.std.proofs.Common.{◌≡◌, ◌≤◌, ℕ, List, ◌∷◌, take, Some, None, sym, ap, ◌∙◌, arith}
 use Rattle.std.specs.List.{insert}
 use Rattle.statement_shelf.specs.Entries.{Entry, Part, entry_at, without, put_first, unproved}
 use Rattle.statement_shelf.specs.Shelf.{IsLive, Holds}

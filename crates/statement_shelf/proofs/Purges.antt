@@ -1,14 +1,13 @@
 -- Purges of the parts in turn.
-use Rattle.std.proofs.Common.{◌≡◌, ◌≢◌, ◌≤◌, ◌<◌, ◌+◌, ◌*◌, ℕ, zero, suc, List, [], ◌∷◌, ◌++◌, length, map, Option, Some, None, refl, sym, ap, ◌∙◌, subst, arith, append-nil, length-append}
+use Rattle.std.proofs.Common.{◌≡◌, ◌≢◌, ◌≤◌, ◌<◌, ◌+◌, ◌*◌, ℕ, zero, suc, List, [], ◌∷◌, ◌++◌, length, map, Some, refl, sym, ap, ◌∙◌, subst, arith, append-nil, length-append}
 use Rattle.std.specs.Prelude.{Err, IfErr, Ok, Result, slice_get, sum}
 use mathlib.Core.Logic.{dite}
 use native.Mathlib.Decide.{ℕ_discrete}
 use Rattle.std.proofs.lemmas.List.Sums.{sum_by_push}
 use Rattle.turn_log.specs.Runs.{Account, Adds, IsLegal, Runs, call_limit}
-use Rattle.turn_log.specs.Gains.{Known}
 use Rattle.turn_log.specs.Groups.{AddsOnPart}
 use Rattle.turn_log.proofs.Gains.{adds-append, adds-none}
-use Rattle.statement_shelf.specs.Entries.{Part, part_count}
+use Rattle.statement_shelf.specs.Entries.{Part}
 use Rattle.statement_shelf.specs.Shelf.{ShelfStep, IsPurged}
 use Rattle.statement_shelf.specs.Laws.{IsSmall}
 use Rattle.statement_shelf.specs.Passes.{ArePurged, CommonsKnown, IsPurgeOfAll, IsPurgeOfSome, IsWornCall, IsWornPart, purge_at}
@@ -75,11 +74,11 @@ pub purged-more : (old mid new : CommonsKnown) (moment n : ℕ) (counts : List �
 purged-more old mid new moment n counts so more = record {
   parts = λ p. dite (ℕ_discrete p (length counts))
       (λ same. subst (λ (q : ℕ). Adds (old.part q) (new.part q) (purge_at moment (counts ++ n ∷ []) q)) (sym same)
-          (subst (Adds (old.part (length counts)) (new.part (length counts))) (sym (at_end moment n counts).1)
-              (adds-append (old.part (length counts)) (mid.part (length counts)) (new.part (length counts)) [] ((Purge moment, Dropped n) ∷ [])
-                  (subst (Adds (old.part (length counts)) (mid.part (length counts))) (at_end moment n counts).0 (so.parts (length counts))) more.here)))
+      (subst (Adds (old.part (length counts)) (new.part (length counts))) (sym (at_end moment n counts).1)
+      (adds-append (old.part (length counts)) (mid.part (length counts)) (new.part (length counts)) [] ((Purge moment, Dropped n) ∷ [])
+      (subst (Adds (old.part (length counts)) (mid.part (length counts))) (at_end moment n counts).0 (so.parts (length counts))) more.here)))
       (λ apart. subst (λ a. Adds (old.part p) a (purge_at moment (counts ++ n ∷ []) p)) (sym (more.elsewhere p apart))
-          (subst (Adds (old.part p) (mid.part p)) (sym (elsewhere moment n counts p apart)) (so.parts p)));
+      (subst (Adds (old.part p) (mid.part p)) (sym (elsewhere moment n counts p apart)) (so.parts p)));
   book = more.book ∙ so.book;
 }
 
@@ -88,8 +87,8 @@ worn_adds : (old mid new : CommonsKnown) (moment : ℕ) (counts : List ℕ) → 
 worn_adds old mid new moment counts so more = record {
   parts = λ p. dite (ℕ_discrete p (length counts))
       (λ same. subst (λ (q : ℕ). Adds (old.part q) (new.part q) (purge_at moment counts q)) (sym same)
-          (subst (Adds (old.part (length counts)) (new.part (length counts))) (append-nil (purge_at moment counts (length counts)))
-              (adds-append (old.part (length counts)) (mid.part (length counts)) (new.part (length counts)) (purge_at moment counts (length counts)) [] (so.parts (length counts)) more.here)))
+      (subst (Adds (old.part (length counts)) (new.part (length counts))) (append-nil (purge_at moment counts (length counts)))
+      (adds-append (old.part (length counts)) (mid.part (length counts)) (new.part (length counts)) (purge_at moment counts (length counts)) [] (so.parts (length counts)) more.here)))
       (λ apart. subst (λ a. Adds (old.part p) a (purge_at moment counts p)) (sym (more.elsewhere p apart)) (so.parts p));
   book = more.book ∙ so.book;
 }
@@ -124,11 +123,12 @@ before-all moment dropped old new b = (b.counts, b.size, b.total, b.so)
 
 pub before-worn : (moment at dropped : ℕ) (old mid new : CommonsKnown) → at < 8 → PurgedBefore moment at dropped old mid → IsWornPart at mid new → IsPurgeOfSome moment old new
 before-worn moment at dropped old mid new less b worn =
-    let long = b.size in
-    (b.counts,
-        omega (arith, long, less),
-        worn_adds old mid new moment b.counts b.so (subst (λ k. AddsOnPart mid k [] new) (sym b.size) worn.0),
-        subst (λ k. length (new.part k).seen ≡ call_limit) (sym b.size) worn.1)
+    let long = b.size in (
+      b.counts,
+      omega (arith, long, less),
+      worn_adds old mid new moment b.counts b.so (subst (λ k. AddsOnPart mid k [] new) (sym b.size) worn.0),
+      subst (λ k. length (new.part k).seen ≡ call_limit) (sym b.size) worn.1,
+    )
 
 -- ---- a call on a part that is worn
 

@@ -1,11 +1,11 @@
 -- What a part tells was put there.
-use Rattle.std.proofs.Common.{◌≡◌, ◌<◌, ◌≤◌, ℕ, Bool, true, false, cond, List, [], ◌∷◌, ◌++◌, take, Option, Some, None, ◌⊎◌, inl, inr, refl, sym, ap, ap₂, ◌∙◌, subst}
+use Rattle.std.proofs.Common.{◌≡◌, ◌<◌, ℕ, Bool, true, false, cond, List, [], ◌∷◌, Option, Some, None, inl, inr, refl, sym, ap, ◌∙◌, subst}
 use Rattle.std.specs.Prelude.{bytes_eq}
 use Rattle.std.specs.Option.{option_or}
 use Rattle.fed_json.proofs.Order.{bytes_eq-itself}
 use Rattle.turn_log.specs.Runs.{Runs}
 use Rattle.statement_shelf.specs.Entries.{Entry, Part, entry_at, without, written, put_first, unproved, with_key}
-use Rattle.statement_shelf.specs.Shelf.{ShelfStep, IsLive, Shows}
+use Rattle.statement_shelf.specs.Shelf.{ShelfStep}
 use Rattle.statement_shelf.specs.Laws.{TellsUnproved, put_by, last_put}
 use Rattle.statement_shelf.specs.declared.calls.Proven.{Proven}
 use Rattle.statement_shelf.specs.declared.calls.ShelfCall.{ShelfCall}
@@ -65,7 +65,7 @@ put-agrees last url text until old agrees u x h =
     let found = entry_at-take u 32 ((url, e) ∷ without url old) x h in
     by_test (bytes_eq u url)
     (λ same. let is = first_is u url e x (without url old) same found in
-        ap (λ b. option_or (cond b (Some (text, until)) None) (last u)) same ∙ ap (λ y. Some (y.text, y.until)) (sym is.0))
+    ap (λ b. option_or (cond b (Some (text, until)) None) (last u)) same ∙ ap (λ y. Some (y.text, y.until)) (sym is.0))
     (λ apart. ap (λ b. option_or (cond b (Some (text, until)) None) (last u)) apart ∙ agrees u x (sym (entry_at-without u url old apart) ∙ first_not u url e x (without url old) apart found))
 
 prove-agrees : (last : List ℕ → Option (List ℕ × ℕ)) (url key : List ℕ) (e : Entry) (old : Part) → Agrees last old → entry_at url old ≡ Some e → Agrees last (written url (with_key key e) old)

@@ -1,23 +1,21 @@
 -- What each call on a part keeps.
-use Rattle.std.proofs.Common.{◌≡◌, ◌≤◌, ◌<◌, ◌+◌, ℕ, zero, suc, Bool, true, false, cond, List, [], ◌∷◌, ◌++◌, length, take, map, Option, Some, None, ◌⊎◌, inl, inr, refl, sym, ap, ◌∙◌, subst, arith, length-append}
+use Rattle.std.proofs.Common.{◌≡◌, ◌≤◌, ℕ, List, [], ◌∷◌, ◌++◌, length, Some, sym, ap, ◌∙◌, subst, arith, length-append}
 use Rattle.std.specs.Prelude.{bytes_eq, All, IfSome}
-use Rattle.std.specs.Option.{option_or}
-use Rattle.std.specs.Map.{values_of, lookup}
+use Rattle.std.specs.Map.{values_of}
 use Rattle.std.proofs.lemmas.List.{take-map}
 use Rattle.std.proofs.lemmas.List.Elements.{All-cons, All-head, All-tail, All-nil, All-take}
 use Rattle.std.proofs.lemmas.Map.{length-set_value}
 use Rattle.std.proofs.lemmas.Map.Views.{All-map-remove_entry, All-values-set_value, IfSome-lookup_from_All}
 use Rattle.turn_log.specs.Runs.{Runs}
 use Rattle.statement_shelf.specs.Entries.{Entry, Part, entry_at, without, written, put_first, unproved, with_key, max_entries, max_proved}
-use Rattle.statement_shelf.specs.Shelf.{ShelfStep, IsPurged}
-use Rattle.statement_shelf.specs.Laws.{IsSmall, put_by, last_put}
+use Rattle.statement_shelf.specs.Shelf.{ShelfStep}
+use Rattle.statement_shelf.specs.Laws.{IsSmall}
 use Rattle.statement_shelf.specs.declared.calls.ShelfCall.{ShelfCall}
 use Rattle.statement_shelf.specs.declared.calls.ShelfCall.TheVariants.{Look, Put, Prove, Purge}
 use Rattle.statement_shelf.specs.declared.calls.ShelfReply.{ShelfReply}
 use Rattle.statement_shelf.specs.declared.calls.ShelfReply.TheVariants.{Hit, Miss, Done, Gone, Dropped, Memory}
 use Rattle.statement_shelf.proofs.KeyLaws.{few_added, short}
 use Rattle.statement_shelf.proofs.PartLaws.{length-without}
-use Rattle.statement_shelf.proofs.Looking.{entry_at-without, entry_at-written, entry_at-take, entry_at-append, first_is, first_not}
 
 -- ---- small parts
 
@@ -43,9 +41,10 @@ put-small url text until old small =
     (short 32 ((url, unproved text until) ∷ without url old), subst (All FewKeys) (take-map (λ p. p.1) 32 ((url, unproved text until) ∷ without url old)) (All-take FewKeys 32 (unproved text until ∷ values_of (without url old)) all))
 
 prove-small : (url key : List ℕ) (old : Part) (e : Entry) → IsSmall old → entry_at url old ≡ Some e → IsSmall (written url (with_key key e) old)
-prove-small url key old e small h =
-    (subst (λ n. n ≤ max_entries) (sym (length-set_value (bytes_eq url) old (with_key key e))) small.0,
-        All-values-set_value (bytes_eq url) FewKeys old (with_key key e) small.1 (few_added key e.keys (few-found url old e small h)))
+prove-small url key old e small h = (
+  subst (λ n. n ≤ max_entries) (sym (length-set_value (bytes_eq url) old (with_key key e))) small.0,
+  All-values-set_value (bytes_eq url) FewKeys old (with_key key e) small.1 (few_added key e.keys (few-found url old e small h)),
+)
 
 few-front : (front gone : Part) → All FewKeys (values_of (front ++ gone)) → All FewKeys (values_of front)
 few-front [] gone all = All-nil FewKeys

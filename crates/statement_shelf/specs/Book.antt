@@ -1,6 +1,5 @@
 -- The book of trust anchors as a plain list with one epoch, and what each call replies and leaves (OpenID Federation 1.0 section 11.1).
 use Rattle.std.specs.Prelude.{◌≡◌, ◌≢◌, ◌<◌, ◌⊎◌, ◌+◌, ℕ, List, [], ◌∷◌, bytes_eq, AllPairs, Option, Some, None, IsSome, cond}
-use Rattle.std.specs.Option.{option_or}
 use Rattle.jwk_set.specs.declared.set.JwkSet.{JwkSet}
 use Rattle.statement_shelf.specs.declared.calls.AnchorKeys.{AnchorKeys}
 use Rattle.statement_shelf.specs.declared.calls.BookCall.{BookCall}

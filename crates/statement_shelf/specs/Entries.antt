@@ -1,5 +1,5 @@
 -- A part of the cache as a plain list of entries, the most recently used first.
-use Rattle.std.specs.Prelude.{◌≡◌, ◌<◌, ◌%◌, ℕ, List, [], ◌∷◌, take, sum, bytes_eq, nat_le, Bool, false, cond, Option, Some, None}
+use Rattle.std.specs.Prelude.{◌%◌, ℕ, List, [], ◌∷◌, take, sum, bytes_eq, nat_le, Bool, false, cond, Option}
 use Rattle.std.specs.Option.{option_map_or}
 use Rattle.std.specs.List.{list_any}
 use Rattle.std.specs.Map.{lookup, remove_entry, set_value}

@@ -4,7 +4,7 @@ use Rattle.std.specs.Option.{option_or}
 use Rattle.std.specs.Map.{values_of}
 use Rattle.jwk_set.specs.declared.set.JwkSet.{JwkSet}
 use Rattle.turn_log.specs.Runs.{Runs}
-use Rattle.statement_shelf.specs.Entries.{Entry, Part, max_entries, max_proved}
+use Rattle.statement_shelf.specs.Entries.{Part, max_entries, max_proved}
 use Rattle.statement_shelf.specs.Shelf.{ShelfStep}
 use Rattle.statement_shelf.specs.Book.{Book, BookStep, keys_of, opened_with}
 use Rattle.statement_shelf.specs.declared.calls.AnchorKeys.{AnchorKeys}

@@ -13,7 +13,7 @@ use Rattle.statement_shelf.specs.Book.{Book, BookStep}
 use Rattle.statement_shelf.specs.declared.calls.ShelfCall.{ShelfCall}
 use Rattle.statement_shelf.specs.declared.calls.ShelfCall.TheVariants.{Look, Put, Prove, Purge}
 use Rattle.statement_shelf.specs.declared.calls.ShelfReply.{ShelfReply}
-use Rattle.statement_shelf.specs.declared.calls.ShelfReply.TheVariants.{Hit, Miss, Done, Gone, Dropped, Memory}
+use Rattle.statement_shelf.specs.declared.calls.ShelfReply.TheVariants.{Dropped}
 use Rattle.statement_shelf.specs.declared.calls.BookCall.{BookCall}
 use Rattle.statement_shelf.specs.declared.calls.BookReply.{BookReply}
 use Rattle.statement_shelf.specs.declared.commons.SharedCommons.{SharedCommons}

@@ -25,7 +25,6 @@ pub struct AnchorBook {
 impl Model for AnchorBook {
     ghost use Rattle.std.specs.Prelude.{◌≤◌};
     ghost use Rattle.statement_shelf.specs.Book.{Book, last_epoch};
-
     ghost use Rattle.std.specs.Coded.{codes};
     ghost use Rattle.fed_json.specs.contracts.tree.Json as json;
 
@@ -50,7 +49,10 @@ impl AnchorBook {
     fn place_of(&self, anchor: &EntityId) -> Option<usize>
         ensures { result ≡ position (λ a. bytes_eq a.anchor anchor.now) self.now.anchors }
     {
-        self.anchors.as_slice().iter().position(|listed| listed.anchor == *anchor)
+        self.anchors
+            .as_slice()
+            .iter()
+            .position(|listed| listed.anchor == *anchor)
     }
 
     // The keys of an anchor.

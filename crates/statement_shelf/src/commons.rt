@@ -76,7 +76,9 @@ impl Commons {
         ensures few { IfOk result (λ n. n ≤ 32) }
         ensures worn { IfErr result (λ e. (e.count ≡ call_limit) × IsWornPart at (known pass.old) (known pass.new)) }
     {
-        let reply = self.nine.part(rt, alloc, pass, at, ShelfCall::Purge { moment })?;
+        let reply = self
+            .nine
+            .part(rt, alloc, pass, at, ShelfCall::Purge { moment })?;
         self.nine.is_history(pass);
         let ShelfReply::Dropped(count) = reply else {
             unreachable!()

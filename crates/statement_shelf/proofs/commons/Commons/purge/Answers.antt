@@ -1,5 +1,4 @@
 use Rattle.std.proofs.Common.{rules, ◌≡◌, ◌<◌, ◌≤◌, arith, subst}
-use Rattle.turn_log.specs.Runs.{call_limit}
 use Rattle.turn_log.specs.Groups.{known}
 use Rattle.statement_shelf.specs.Passes.{IsPurgeOfSome}
 use Rattle.statement_shelf.proofs.Purges.{PurgedBefore, before-all, before-more, before-none, before-worn}
@@ -12,7 +11,7 @@ pub returns-in_err-count-clause-worn : goal.returns-in_err-count-clause-worn
 returns-in_err-count-clause-worn g c =
     let less : c.loop-at.at < 8 = search rules in
     let some : IsPurgeOfSome c.args.moment (known c.args.pass.now) (known c.purge_part.new.pass) =
-            before-worn c.args.moment c.loop-at.at c.loop-at.dropped (known c.args.pass.now) (known c.loop-at.pass) (known c.purge_part.new.pass) less c.loop-at.invariant.2 c.in_err-count.ensures.worn.1 in
+    before-worn c.args.moment c.loop-at.at c.loop-at.dropped (known c.args.pass.now) (known c.loop-at.pass) (known c.purge_part.new.pass) less c.loop-at.invariant.2 c.in_err-count.ensures.worn.1 in
     let count = c.in_err-count.ensures.worn.0 in
     search rules
 
@@ -24,11 +23,12 @@ overflow_add-dropped g c =
     search rules
 
 pub loop-at-preserved : goal.loop-at-preserved
-loop-at-preserved g c =
-    (c.in_ok-count.ensures.of,
-        λ h. c.in_ok-count.ensures.whole (c.loop-at.invariant.1 h),
-        before-more c.args.moment c.loop-at.at c.loop-at.dropped c.in_ok-count.count (known c.args.pass.now) (known c.loop-at.pass) (known c.purge_part.new.pass) c.loop-at.invariant.2
-        c.in_ok-count.ensures.told c.in_ok-count.ensures.few)
+loop-at-preserved g c = (
+  c.in_ok-count.ensures.of,
+  λ h. c.in_ok-count.ensures.whole (c.loop-at.invariant.1 h),
+  before-more c.args.moment c.loop-at.at c.loop-at.dropped c.in_ok-count.count (known c.args.pass.now) (known c.loop-at.pass) (known c.purge_part.new.pass) c.loop-at.invariant.2
+      c.in_ok-count.ensures.told c.in_ok-count.ensures.few,
+)
 
 pub returns-clause-told : goal.returns-clause-told
 returns-clause-told g c =

@@ -1,5 +1,5 @@
 use Rattle.std.proofs.Common.{rules}
-use Rattle.statement_shelf.proofs.PartSteps.{prove-done, prove-fits, prove-other}
+use Rattle.statement_shelf.proofs.PartSteps.{prove-fits, prove-other}
 use Rattle.statement_shelf.proofs.part.ShelfPart.prove.Goals as goal
 
 pub invariant_of-self-then-ne : goal.invariant_of-self-then-ne

@@ -1,4 +1,4 @@
-use Rattle.std.proofs.Common.{◌≡◌, ◌≤◌, length}
+use Rattle.std.proofs.Common.{◌≡◌, length}
 use Rattle.statement_shelf.specs.Entries.{max_entries}
 use Rattle.statement_shelf.proofs.Purging.{Purging}
 use Rattle.statement_shelf.proofs.part.ShelfPart.purge.Given as goal
