@@ -1,7 +1,7 @@
 // Calls on the book of trust anchors' keys.
 use crate::spelling::{at, number, push_number};
 use entity_id::{EntityId, IdFault};
-use fed_base::{Memory, Seq, Text};
+use fed_base::{Duplicate, Memory, Seq, Text};
 use fed_json::read_tree;
 use jwk_set::{Jwk, JwkSet, SetFault};
 use statement_shelf::{AnchorBook, AnchorKeys, BookCall, BookReply};
@@ -60,23 +60,23 @@ fn push_names(out: &mut Text, keys: &JwkSet) -> Result<(), Memory> {
 }
 
 // Appends a word and a number in brackets.
-fn push_count(out: &mut Text, word: &[u8], count: u64) -> Result<(), Memory> {
+fn push_count(alloc: Global, out: &mut Text, word: &[u8], count: u64) -> Result<(), Memory> {
     out.append(word)?;
     out.append(b"(")?;
-    push_number(out, count)?;
+    push_number(alloc, out, count)?;
     out.append(b")")
 }
 
 /// Appends a reply.
-pub fn push_reply(out: &mut Text, reply: &BookReply) -> Result<(), Memory> {
+pub fn push_reply(alloc: Global, out: &mut Text, reply: &BookReply) -> Result<(), Memory> {
     match reply {
         BookReply::Keys { epoch, keys } => {
-            push_count(out, b"Keys", *epoch)?;
+            push_count(alloc, out, b"Keys", *epoch)?;
             push_names(out, keys)
         },
-        BookReply::At(epoch) => push_count(out, b"At", *epoch),
-        BookReply::Rotated(epoch) => push_count(out, b"Rotated", *epoch),
-        BookReply::Behind(epoch) => push_count(out, b"Behind", *epoch),
+        BookReply::At(epoch) => push_count(alloc, out, b"At", *epoch),
+        BookReply::Rotated(epoch) => push_count(alloc, out, b"Rotated", *epoch),
+        BookReply::Behind(epoch) => push_count(alloc, out, b"Behind", *epoch),
         BookReply::NoAnchor => out.append(b"NoAnchor"),
         BookReply::Memory => out.append(b"Memory"),
     }
@@ -103,7 +103,7 @@ pub fn opened_anchors(alloc: Global) -> Result<Seq<AnchorKeys>, Memory> {
         anchor: anchor_named(alloc, "tb")?,
         keys: set_named(alloc, "tb")?,
     })?;
-    Ok(anchors)
+    anchors.copy(alloc)
 }
 
 /// The replies to these calls, made on a book that was just opened.
@@ -115,7 +115,10 @@ pub fn replies(alloc: Global, calls: &str) -> Result<Text, Memory> {
             out.append(b", ")?;
         }
         match read(alloc, call)? {
-            Some(call) => push_reply(&mut out, &book.act(alloc, call))?,
+            Some(call) => {
+                let reply = book.act(alloc, call.copy(alloc)?);
+                push_reply(alloc, &mut out, &reply.copy(alloc)?)?;
+            },
             None => out.append(b"no call")?,
         }
     }

@@ -24,12 +24,12 @@ fn next(number: u64) -> u64 {
 // The call of a number, which is the n-th.
 fn call_of(alloc: Global, number: u64, n: u64) -> Result<ShelfCall, Memory> {
     let mut url = Text::of(alloc, b"u")?;
-    push_number(&mut url, number / 8 % 64)?;
+    push_number(alloc, &mut url, number / 8 % 64)?;
     Ok(match number % 8 {
         0..=2 => ShelfCall::Look { url, moment: n },
         3..=6 => {
             let mut text = Text::of(alloc, b"text ")?;
-            push_number(&mut text, n)?;
+            push_number(alloc, &mut text, n)?;
             ShelfCall::Put {
                 url,
                 text,
@@ -76,8 +76,8 @@ fn make(
 }
 
 // Appends a count and its word.
-fn push_count(out: &mut Text, count: u64, word: &[u8]) -> Result<(), Memory> {
-    push_number(out, count)?;
+fn push_count(alloc: Global, out: &mut Text, count: u64, word: &[u8]) -> Result<(), Memory> {
+    push_number(alloc, out, count)?;
     out.append(word)
 }
 
@@ -97,9 +97,9 @@ pub fn compared(alloc: Global, calls: u64) -> Result<Text, Memory> {
         number = next(number);
     }
     let mut out = Text::new(alloc);
-    push_count(&mut out, counts.same, b" the same, ")?;
-    push_count(&mut out, counts.hits, b" hits, ")?;
-    push_count(&mut out, counts.misses, b" misses, ")?;
-    push_count(&mut out, counts.dropped, b" dropped")?;
+    push_count(alloc, &mut out, counts.same, b" the same, ")?;
+    push_count(alloc, &mut out, counts.hits, b" hits, ")?;
+    push_count(alloc, &mut out, counts.misses, b" misses, ")?;
+    push_count(alloc, &mut out, counts.dropped, b" dropped")?;
     Ok(out)
 }

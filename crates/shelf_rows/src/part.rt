@@ -67,29 +67,29 @@ fn read(alloc: Global, call: &str, sealed: &Text) -> Result<Option<ShelfCall>, M
 }
 
 // Appends what a Hit shows: the text, or its length where it is long, and how many keys.
-fn push_hit(out: &mut Text, proven: &Proven) -> Result<(), Memory> {
+fn push_hit(alloc: Global, out: &mut Text, proven: &Proven) -> Result<(), Memory> {
     out.append(b"Hit(")?;
     if proven.text.len() < 40 {
         out.append(proven.text.as_slice())?;
     } else {
-        push_number(out, proven.text.len() as u64)?;
+        push_number(alloc, out, proven.text.len() as u64)?;
         out.append(b" bytes")?;
     }
     out.append(b", ")?;
-    push_number(out, proven.keys.len() as u64)?;
+    push_number(alloc, out, proven.keys.len() as u64)?;
     out.append(b" keys)")
 }
 
 /// Appends a reply.
 pub fn push_reply(alloc: Global, out: &mut Text, reply: &ShelfReply) -> Result<(), Memory> {
     match reply {
-        ShelfReply::Hit(proven) => push_hit(out, &proven.copy(alloc)?),
+        ShelfReply::Hit(proven) => push_hit(alloc, out, proven),
         ShelfReply::Miss => out.append(b"Miss"),
         ShelfReply::Done => out.append(b"Done"),
         ShelfReply::Gone => out.append(b"Gone"),
         ShelfReply::Dropped(count) => {
             out.append(b"Dropped(")?;
-            push_number(out, *count)?;
+            push_number(alloc, out, *count)?;
             out.append(b")")
         },
         ShelfReply::Memory => out.append(b"Memory"),
@@ -112,7 +112,7 @@ fn put_many<P: Sequential<Call = ShelfCall, Reply = ShelfReply>>(
             done = done.saturating_add(1);
         }
     }
-    push_number(out, done)?;
+    push_number(alloc, out, done)?;
     out.append(b" times Done")
 }
 
@@ -129,8 +129,8 @@ fn make<P: Sequential<Call = ShelfCall, Reply = ShelfReply>>(
     }
     match read(alloc, call, sealed)? {
         Some(call) => {
-            let reply = part.act(alloc, call);
-            push_reply(alloc, out, &reply)
+            let reply = part.act(alloc, call.copy(alloc)?);
+            push_reply(alloc, out, &reply.copy(alloc)?)
         },
         None => out.append(b"no call"),
     }

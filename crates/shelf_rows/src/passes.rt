@@ -60,7 +60,7 @@ fn rotate_and_join<R: Wait>(rt: &R, alloc: Global, out: &mut Text) -> Result<(),
         anchor: anchor_named(alloc, "ta")?,
     };
     let told = commons.book(rt, alloc, &mut second, read)?;
-    push_reply(out, &told)?;
+    push_reply(alloc, out, &told)?;
     let again = BookCall::Rotate {
         anchor: anchor_named(alloc, "ta")?,
         from: 1,
@@ -70,7 +70,7 @@ fn rotate_and_join<R: Wait>(rt: &R, alloc: Global, out: &mut Text) -> Result<(),
     commons.join(rt, &mut first, second);
     let epoch = commons.book(rt, alloc, &mut first, BookCall::Epoch)?;
     out.append(b", ")?;
-    Ok(push_reply(out, &epoch)?)
+    Ok(push_reply(alloc, out, &epoch)?)
 }
 
 // A pass puts texts under URLs of many parts and purges all.

@@ -18,19 +18,9 @@ pub fn shown(text: &Text) -> &str {
 }
 
 /// Appends a number in decimal digits.
-pub fn push_number(out: &mut Text, number: u64) -> Result<(), Memory> {
-    let mut digits = [b'0'; 20];
-    let mut left = number;
-    let mut first = 20;
-    while first > 0 {
-        first -= 1;
-        digits[first] = b'0' + (left % 10) as u8;
-        left /= 10;
-        if left == 0 {
-            break;
-        }
-    }
-    out.append(digits.get(first..).unwrap_or(b""))
+pub fn push_number(alloc: Global, out: &mut Text, number: u64) -> Result<(), Memory> {
+    let digits = format!(in alloc; "{number}")?;
+    out.append(digits.as_bytes())
 }
 
 /// A text of so many letters `h`.
