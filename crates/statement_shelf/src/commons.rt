@@ -42,8 +42,9 @@ fn part_of(url: &Text) -> usize
 impl Commons {
     ghost use Rattle.std.specs.Prelude.{◌≡◌, ◌<◌, ◌≤◌, ◌∷◌, [], length, IfOk, IfErr};
     ghost use Rattle.turn_log.specs.Runs.{call_limit};
-    ghost use Rattle.turn_log.specs.Groups.{AddsOnBook, AddsOnPart, AreJoined, IsSame, IsUntaken, IsUnused, OwnsEach, known};
-    ghost use Rattle.statement_shelf.specs.Book.{opened_with};
+    ghost use Rattle.turn_log.specs.Groups.{AddsOnBook, AddsOnPart, AreJoined, IsHistory, IsSame, IsUntaken, IsUnused, OwnsEach, known};
+    ghost use Rattle.statement_shelf.specs.Book.{BookStep, opened_with};
+    ghost use Rattle.statement_shelf.specs.Shelf.{ShelfStep};
     ghost use Rattle.statement_shelf.specs.declared.calls.ShelfCall.TheVariants.{Purge};
     ghost use Rattle.statement_shelf.specs.declared.calls.ShelfReply.TheVariants.{Dropped};
     ghost use Rattle.statement_shelf.specs.Passes.{ArePurged, IsPassOf, IsPurgeOfSome, IsPurgeOfAll, IsShelfCall, IsWornCall, IsWornPart, opened_book};
@@ -173,5 +174,14 @@ impl Commons {
         ensures joined { AreJoined (known pass.old) (known other) (known pass.new) }
     {
         self.nine.join(rt, pass, other);
+    }
+
+    /// What a pass has seen of each part and of the book is legal: each call was answered as the plain list answers it there, from the
+    /// empty part and the opened book on.
+    pub fn is_history(&self, _pass: &FedPass)
+        requires { IsPassOf self.now _pass.now }
+        ensures { IsHistory ShelfStep [] BookStep (opened_book self.now) (known _pass.now) }
+    {
+        self.nine.is_history(_pass);
     }
 }
