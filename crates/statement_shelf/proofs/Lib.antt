@@ -1,0 +1,13 @@
+pub mod BookLaws
+pub mod BookRuns
+pub mod KeyLaws
+pub mod Looking
+pub mod PartLaws
+pub mod PartSteps
+pub mod PlainLaws
+pub mod PlainSteps
+pub mod Purges
+pub mod Purging
+pub mod PutLaws
+pub mod StepLaws
+pub mod Urls

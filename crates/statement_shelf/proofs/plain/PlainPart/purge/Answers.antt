@@ -1,0 +1,7 @@
+use Rattle.std.proofs.Common.{rules}
+use Rattle.statement_shelf.proofs.Purging.{purge-more}
+use Rattle.statement_shelf.proofs.plain.PlainPart.purge.Goals as goal
+
+pub loop-self-preserved-in-loop-self : goal.loop-self-preserved-in-loop-self
+loop-self-preserved-in-loop-self c =
+    (purge-more c.self.inside.entries.items c.loop-self.self-inside.entries.items c.pop.new.self.items c.args.moment c.loop-self.invariant.0 (search rules) (search rules), search rules, search rules)
