@@ -18,12 +18,12 @@ pub struct Noted {
     given: u64,
 }
 
-// A byte as the log shows it: an ASCII letter, digit or sign as it is, and any other as a question mark.
+// A byte as the log shows it: an ASCII letter, digit or sign as it is, and any other as a star.
 fn shown(byte: u8) -> u8 {
     if byte == b' ' || byte.is_ascii_graphic() {
         byte
     } else {
-        b'?'
+        b'*'
     }
 }
 
