@@ -1,7 +1,9 @@
 pub mod Bytes
 pub mod Causes
+pub mod Exchanges
 pub mod Inputs
 pub mod KeptFiles
+pub mod Lists
 pub mod MemoryClocks
 pub mod MemoryStores
 pub mod MemoryStreams
@@ -9,3 +11,4 @@ pub mod NamedFiles
 pub mod Plans
 pub mod Stores
 pub mod Times
+pub mod Webs

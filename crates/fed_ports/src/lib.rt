@@ -8,15 +8,20 @@
 //! The texts, lists, errors and ledgers of the base are given again here under their names.
 #![tactic(auto)]
 
+mod address;
 mod call_plan;
 mod clock;
 mod input;
 mod kept_file;
+mod link;
 mod memory_clock;
 mod memory_sink;
 mod memory_source;
 mod memory_store;
 mod named_file;
+mod network;
+mod page;
+mod peer;
 mod real;
 mod real_clock;
 mod real_store;
@@ -24,14 +29,19 @@ mod sink;
 mod source;
 mod store;
 
+pub use address::Address;
 pub use clock::Clock;
 pub use fed_base::{Duplicate, Failed, Ledger, MOMENT_LIMIT, Memory, Plain, Seq, Steps, Text};
 pub use input::{ReadEnd, read_all};
+pub use link::{Link, LinkFault};
 pub use memory_clock::MemoryClock;
 pub use memory_sink::MemorySink;
 pub use memory_source::MemorySource;
 pub use memory_store::MemoryStore;
 pub use named_file::NamedFile;
+pub use network::Network;
+pub use page::Page;
+pub use peer::Peer;
 pub use real::{RealSink, RealSource};
 pub use real_clock::RealClock;
 pub use real_store::RealStore;
