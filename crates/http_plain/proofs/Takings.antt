@@ -3,7 +3,8 @@ use Rattle.std.proofs.Common.{◌≡◌, ◌≤◌, ◌<◌, ◌⊎◌, inl, inr
 use Rattle.std.proofs.Math.Seq.{take-add}
 use Rattle.std.proofs.lemmas.List.{length-append, length-drop, length-take-le, drop-append-le, take-append-le, take-append-drop}
 use Rattle.std.proofs.lemmas.Bool.Decides.{nat_tests}
-use Rattle.fed_ports.specs.Inputs.{Gave, AtEnd}
+use Rattle.fed_ports.specs.Inputs.{AtEnd}
+use Rattle.fed_ports.specs.Lists.{Gave}
 use Rattle.http_plain.specs.declared.inflow.Break.{Break}
 use Rattle.http_plain.specs.declared.inflow.Break.TheVariants.{Failed, Memory}
 use Rattle.http_plain.specs.declared.plan.Plan.{Plan}
@@ -15,10 +16,10 @@ use Rattle.http_plain.specs.declared.request.Method.{Method}
 use Rattle.http_plain.specs.declared.request.Request.{Request}
 use Rattle.http_plain.specs.FlowLaws.{few_given_on, given_on}
 use Rattle.http_plain.specs.Flows.{Given, HeadComes, TakenFew}
-use Rattle.http_plain.specs.Heads.{head_end, head_limit, IsHeadText}
+use Rattle.http_plain.specs.Heads.{head_end, head_limit, BeginsWithHead, HasNoHead, IsHeadText}
 use Rattle.http_plain.specs.Plans.{IsAsked, SaysPlan, end_of, without_head}
 use Rattle.http_plain.specs.Readings.{Fits, IsTheAnswer, Reads, Shows, Taken}
-use Rattle.http_plain.specs.Requests.{Begins, BeginsWithHead, IsHead, IsRefused, RequestText, path_of, pairs_of, query_of, request_limit}
+use Rattle.http_plain.specs.Requests.{Begins, IsHead, IsRefused, RequestText, path_of, pairs_of, query_of, request_limit}
 use Rattle.http_plain.proofs.Ends.{end_inside, found_alone}
 use Rattle.http_plain.proofs.Texts.{one_answer}
 
@@ -84,7 +85,7 @@ head_text t len few e =
       small = omega (arith, size, few, end_inside t len e);
     }
 
-pub begins : (t more : List ℕ) (len : ℕ) → length t ≤ head_limit → head_end t ≡ Some len → BeginsWithHead (t ++ more) (take len t)
+unfoldable pub begins : (t more : List ℕ) (len : ℕ) → length t ≤ head_limit → head_end t ≡ Some len → BeginsWithHead (t ++ more) (take len t)
 begins t more len few e = record {
   rest = drop len t ++ more;
   bytes = ap (λ y. y ++ more) (sym (take-append-drop len t)) ∙ append_assoc (take len t) (drop len t) more;

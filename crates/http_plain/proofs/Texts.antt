@@ -8,9 +8,9 @@ use Rattle.http_plain.specs.declared.read.ReadEnd.TheVariants.{ReadFault, Ended,
 use Rattle.http_plain.specs.declared.request.Incoming.{Incoming}
 use Rattle.http_plain.specs.declared.request.Incoming.TheVariants.{Asked, NotARequest}
 use Rattle.http_plain.specs.declared.request.Request.{Request}
-use Rattle.http_plain.specs.Heads.{head_end, head_limit, IsHeadText}
+use Rattle.http_plain.specs.Heads.{head_end, head_limit, BeginsWithHead, HasNoHead, IsHeadText}
 use Rattle.http_plain.specs.Readings.{Fits}
-use Rattle.http_plain.specs.Requests.{IsHead, IsRefused, IsNoRequest, EndsEarly, EndsInBody, HasNoHead, RequestText, Begins, BeginsWithHead, size_by, method_of, path_of, query_of, pairs_of}
+use Rattle.http_plain.specs.Requests.{IsHead, IsRefused, IsNoRequest, EndsEarly, EndsInBody, RequestText, Begins, size_by, method_of, path_of, query_of, pairs_of}
 use Rattle.http_plain.proofs.Ends.{found_more}
 use Rattle.http_plain.proofs.Sizes.{same_head}
 

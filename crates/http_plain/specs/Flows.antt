@@ -1,7 +1,8 @@
 -- What comes from the other side, over several calls.
 use Rattle.std.specs.Prelude.{◌≡◌, ◌≤◌, ◌⊎◌, ℕ, Bool, true, false, List, ◌++◌, length, Option, Some, None, Result, Ok, Err}
 use Rattle.fed_base.specs.Counts.{Rose}
-use Rattle.fed_ports.specs.Inputs.{Gave, AtEnd}
+use Rattle.fed_ports.specs.Inputs.{AtEnd}
+use Rattle.fed_ports.specs.Lists.{Gave}
 use Rattle.http_plain.specs.declared.inflow.Break.{Break}
 use Rattle.http_plain.specs.declared.inflow.Break.TheVariants.{Failed, Memory}
 use Rattle.http_plain.specs.Heads.{head_end, head_limit}

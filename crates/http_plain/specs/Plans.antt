@@ -1,9 +1,13 @@
 -- What the parts of the reader know of a head.
 use Rattle.std.specs.Prelude.{◌≡◌, ◌≤◌, ℕ, List, [], ◌∷◌, length, cond, nat_lt, Option, Some, None, Result, Ok, Err, slice_range}
-use Rattle.httparse.specs.Grammar.{RequestHead}
-use Rattle.httparse.specs.Spans.{IsRequestAt, IsRequestWithin}
+use Rattle.std.specs.String.{string_bytes}
+use Rattle.fed_ports.specs.declared.address.Address.{Address}
+use Rattle.url.specs.Parts.{Parts}
+use Rattle.httparse.specs.Grammar.{RequestHead, ResponseHead}
+use Rattle.httparse.specs.Spans.{IsRequestAt, IsRequestWithin, IsResponseAt, IsResponseWithin}
 use Rattle.httparse.specs.declared.spans.HeaderSpan.{HeaderSpan}
 use Rattle.httparse.specs.declared.spans.RequestSpans.{RequestSpans}
+use Rattle.httparse.specs.declared.spans.ResponseSpans.{ResponseSpans}
 use Rattle.http_plain.specs.declared.fields.Found.{Found}
 use Rattle.http_plain.specs.declared.fields.Found.TheVariants.{Absent, Once, Again}
 use Rattle.http_plain.specs.declared.fields.Stated.{Stated}
@@ -17,7 +21,11 @@ use Rattle.http_plain.specs.declared.request.Incoming.{Incoming}
 use Rattle.http_plain.specs.declared.request.Incoming.TheVariants.{NotARequest}
 use Rattle.http_plain.specs.declared.request.Method.{Method}
 use Rattle.http_plain.specs.declared.request.Request.{Request}
+use Rattle.http_plain.specs.declared.route.Route.{Route}
+use Rattle.http_plain.specs.declared.target.Target.{Target}
+use Rattle.http_plain.specs.Clients.{HasNoRoute, address_of, message_of, url_in}
 use Rattle.http_plain.specs.Heads.{head_limit}
+use Rattle.http_plain.specs.Pages.{IsAnswerHead}
 use Rattle.http_plain.specs.Requests.{IsHead, IsRefused, body_limit, size_by, method_of, path_of, pairs_of, query_of}
 
 -- the only one of the values, or that there is none or are more
@@ -36,6 +44,11 @@ stated_view Bad = None
 abbrev pub IsHeading : List ℕ → List HeaderSpan → Option RequestSpans → Type 0
 IsHeading text lines None = (h : RequestHead) → IsHead text h → ⊥
 IsHeading text lines (Some r) = IsRequestWithin text lines r × (r.len ≡ length text) × ((h : RequestHead) × IsHead text h × IsRequestAt text lines r h)
+
+-- the places are those of the head that an answer's text is, or it is none
+abbrev pub IsAnswerHeading : List ℕ → List HeaderSpan → Option ResponseSpans → Type 0
+IsAnswerHeading text lines None = (h : ResponseHead) → IsAnswerHead text h → ⊥
+IsAnswerHeading text lines (Some r) = IsResponseWithin text lines r × (r.len ≡ length text) × ((h : ResponseHead) × IsAnswerHead text h × IsResponseAt text lines r h)
 
 -- what the text says, which is a head
 pub record SaysPlan (text : List ℕ) (p : Plan) : Type 0 where
@@ -67,3 +80,14 @@ end_of Memory = NoMemory
 -- what so many bytes show where no head is in them and none will come
 abbrev pub without_head : ℕ → Result Incoming ReadEnd
 without_head have = cond (nat_lt have head_limit) (Err Ended) (Ok NotARequest)
+
+-- where a URL is asked for and by what message, or that there is no route to it
+pub record SaysTarget (routes : List Route) (text : List ℕ) (to : Address) (message : List ℕ) : Type 0 where
+  pub url : Parts
+  pub reads : url_in text ≡ Some url
+  pub address : address_of routes url ≡ Some to
+  pub message_is : message ≡ message_of url
+
+abbrev pub IsTarget : List Route → List ℕ → Option Target → Type 0
+IsTarget routes text None = HasNoRoute routes text
+IsTarget routes text (Some t) = SaysTarget routes text t.to (string_bytes t.message)

@@ -1,7 +1,8 @@
 -- What reading a request answers.
 use Rattle.std.specs.Prelude.{◌≡◌, ◌≤◌, ℕ, List, length, Option, Result, Ok, Err}
 use Rattle.fed_base.specs.Counts.{Rose}
-use Rattle.fed_ports.specs.Inputs.{Gave, AtEnd}
+use Rattle.fed_ports.specs.Inputs.{AtEnd}
+use Rattle.fed_ports.specs.Lists.{Gave}
 use Rattle.http_plain.specs.declared.read.ReadEnd.{ReadEnd}
 use Rattle.http_plain.specs.declared.read.ReadEnd.TheVariants.{ReadFault, Ended, Memory}
 use Rattle.http_plain.specs.declared.request.Incoming.{Incoming}

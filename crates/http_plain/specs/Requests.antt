@@ -10,7 +10,7 @@ use Rattle.http_plain.specs.declared.request.Method.TheVariants.{Get, Post}
 use Rattle.http_plain.specs.declared.request.Pair.{Pair}
 use Rattle.http_plain.specs.declared.request.Request.{Request}
 use Rattle.http_plain.specs.Fields.{Line, has_line, values_named, stated}
-use Rattle.http_plain.specs.Heads.{head_end, head_limit, line_limit, IsHeadText}
+use Rattle.http_plain.specs.Heads.{head_limit, line_limit, BeginsWithHead, HasNoHead, IsHeadText}
 
 -- the most bytes of a body
 abbrev pub body_limit : ℕ
@@ -88,16 +88,6 @@ pub record Begins (x : List ℕ) (r : Request) : Type 0 where
   pub rest : List ℕ
   pub bytes : x ≡ text ++ rest
   pub is_text : RequestText text r
-
--- the bytes begin with such a head
-pub record BeginsWithHead (x head : List ℕ) : Type 0 where
-  pub rest : List ℕ
-  pub bytes : x ≡ head ++ rest
-  pub is_head : IsHeadText head
-
--- the bytes have no head so far
-abbrev pub HasNoHead : List ℕ → Type 0
-HasNoHead x = head_end (take head_limit x) ≡ None
 
 -- no request's head: not one of its form, or one with which there is no request
 abbrev pub IsRefused : List ℕ → Type 0
