@@ -1,5 +1,5 @@
 -- From a reading of chunks to the page of the body.
-use Rattle.std.proofs.Common.{◌≡◌, ◌≤◌, ◌<◌, ℕ, ◌+◌, Bool, true, false, List, [], ◌∷◌, ◌++◌, length, take, drop, get_or, cond, Result, Ok, Err, is_err, OnOk, refl, sym, ap, ◌∙◌, subst, append_assoc, arith, take_all, ap₂}
+use Rattle.std.proofs.Common.{◌≡◌, ◌≤◌, ◌<◌, ℕ, ◌+◌, Bool, true, false, List, [], ◌∷◌, ◌++◌, length, take, drop, get_or, cond, Result, Ok, Err, is_err, OnOk, sym, ap, ◌∙◌, subst, append_assoc, arith, take_all, ap₂}
 use Rattle.std.proofs.lemmas.List.{length-drop, take_more, take-append-drop, take-append-le, drop-append-le, get_or-drop}
 use Rattle.http_plain.specs.declared.chunks.Place.{Place}
 use Rattle.http_plain.specs.declared.form.Form.TheVariants.{Chunked}

@@ -1,5 +1,5 @@
 -- Where the head of a message ends.
-use Rattle.std.proofs.Common.{◌≡◌, ◌≤◌, ◌<◌, ℕ, zero, suc, ◌+◌, ◌-◌, Bool, true, false, List, [], ◌∷◌, ◌++◌, length, take, drop, nat_eq, cond, Option, Some, None, refl, sym, ap, ◌∙◌, subst, arith, rules, drop_of_length-le, append-nil}
+use Rattle.std.proofs.Common.{◌≡◌, ◌≤◌, ◌<◌, ℕ, zero, suc, ◌+◌, ◌-◌, Bool, true, false, List, [], ◌∷◌, ◌++◌, length, take, drop, nat_eq, cond, Option, Some, None, refl, sym, ap, ◌∙◌, subst, arith, drop_of_length-le}
 use Rattle.std.specs.List.{starts_with}
 use Rattle.std.proofs.lemmas.List.{drop-drop, length-drop}
 use Rattle.http_plain.specs.Heads.{head_end, behind, blank}

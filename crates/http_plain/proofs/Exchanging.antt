@@ -1,15 +1,12 @@
 -- From what was sent and received to the exchange of a call.
-use Rattle.std.proofs.Common.{◌≡◌, ◌≤◌, ◌⊎◌, inl, inr, ℕ, ◌+◌, Bool, true, false, List, [], ◌∷◌, ◌++◌, take, drop, Option, Some, None, option_map, Result, Ok, Err, IfOk, OnOk, OnErr, is_err, refl, sym, ap, ap₂, ◌∙◌, subst, append_assoc, append-nil}
+use Rattle.std.proofs.Common.{◌≡◌, inr, ℕ, ◌+◌, Bool, false, List, [], ◌∷◌, ◌++◌, take, drop, Option, Some, None, Result, Ok, Err, IfOk, OnOk, is_err, refl, sym, ap, ◌∙◌, subst, append_assoc, append-nil}
 use Rattle.std.proofs.Math.Seq.{take-add}
-use Rattle.fed_ports.specs.Causes.{HasCause}
 use Rattle.fed_ports.specs.Exchanges.{Exchange, Changed, change_last, fresh, with_sent, with_received}
 use Rattle.fed_ports.specs.Lists.{Added}
 use Rattle.fed_ports.specs.declared.address.Address.{Address}
 use Rattle.fed_ports.specs.declared.page.Page.{Page}
-use Rattle.fed_ports.specs.declared.page.Page.TheVariants.{NoRoute}
 use Rattle.http_plain.specs.declared.inflow.Break.{Break}
 use Rattle.http_plain.specs.declared.route.Route.{Route}
-use Rattle.http_plain.specs.Clients.{ClientPage}
 use Rattle.http_plain.specs.ExchangeLaws.{changed_same, changed_on}
 use Rattle.http_plain.specs.Flows.{BreakCause}
 use Rattle.http_plain.specs.Links.{AddsExchange, Answers, Gets}

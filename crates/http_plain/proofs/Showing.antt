@@ -1,5 +1,5 @@
 -- From what came of an answer to its page.
-use Rattle.std.proofs.Common.{◌≡◌, ◌≤◌, ◌⊎◌, inl, inr, ℕ, ◌+◌, ◌-◌, Bool, true, false, List, [], ◌++◌, length, take, drop, Option, Some, None, Result, Ok, Err, refl, sym, ap, ◌∙◌, subst, append_assoc, arith, take_all, IfOk}
+use Rattle.std.proofs.Common.{inl, inr, ℕ, Bool, false, List, ◌++◌, take, Some, None, Result, Ok, Err, refl, ap, ◌∙◌, subst, arith, take_all, IfOk}
 use Rattle.std.proofs.lemmas.List.{drop-append-le}
 use Rattle.fed_ports.specs.declared.page.Page.{Page}
 use Rattle.fed_ports.specs.declared.page.Page.TheVariants.{Garbled}
@@ -7,7 +7,7 @@ use Rattle.http_plain.specs.declared.form.Form.{Form}
 use Rattle.http_plain.specs.declared.inflow.Break.{Break}
 use Rattle.http_plain.specs.Heads.{head_end, head_limit}
 use Rattle.http_plain.specs.Flows.{HeadComes}
-use Rattle.http_plain.specs.Pages.{IsForm, IsPage, IsBodyPage}
+use Rattle.http_plain.specs.Pages.{IsForm, IsBodyPage}
 use Rattle.http_plain.specs.Shown.{Shows, ShowsBody}
 use Rattle.http_plain.proofs.Ends.{end_inside}
 use Rattle.http_plain.proofs.Takings.{begins}

@@ -1,6 +1,5 @@
 -- What the parts of a head say of the body.
-use Rattle.std.proofs.Common.{◌≡◌, ◌≤◌, ℕ, Bool, true, false, not, ◌||◌, List, [], ◌∷◌, map, take, codes, nat_eq, nat_lt, cond, Option, Some, None, refl, sym, ap, ◌∙◌, arith, rules}
-use Rattle.std.specs.List.{starts_with}
+use Rattle.std.proofs.Common.{◌≡◌, ◌≤◌, ℕ, Bool, true, false, List, [], map, take, codes, cond, Option, Some, None, refl, ap, ◌∙◌, arith}
 use Rattle.httparse.specs.Grammar.{RequestHead}
 use Rattle.httparse.specs.Spans.{IsRequestAt, header_bytes, span_bytes}
 use Rattle.httparse.specs.declared.spans.HeaderSpan.{HeaderSpan}

@@ -1,7 +1,7 @@
 -- From what was taken to what it shows.
-use Rattle.std.proofs.Common.{◌≡◌, ◌≤◌, ◌<◌, ◌⊎◌, inl, inr, ℕ, ◌+◌, ◌-◌, Bool, true, false, List, [], ◌∷◌, ◌++◌, length, cond, nat_lt, take, drop, Option, Some, None, Result, Ok, Err, refl, sym, ap, ap₂, ◌∙◌, subst, append_assoc, append-nil, arith, take_all, slice_range}
+use Rattle.std.proofs.Common.{◌≡◌, ◌≤◌, ◌<◌, ◌⊎◌, inl, inr, ℕ, ◌+◌, Bool, true, false, List, [], ◌++◌, length, cond, nat_lt, take, drop, Option, Some, None, Result, Ok, Err, refl, sym, ap, ap₂, ◌∙◌, subst, append_assoc, append-nil, arith, take_all, slice_range}
 use Rattle.std.proofs.Math.Seq.{take-add}
-use Rattle.std.proofs.lemmas.List.{length-append, length-drop, length-take-le, drop-append-le, take-append-le, take-append-drop}
+use Rattle.std.proofs.lemmas.List.{length-append, length-drop, length-take-le, take-append-le, take-append-drop}
 use Rattle.std.proofs.lemmas.Bool.Decides.{nat_tests}
 use Rattle.fed_ports.specs.Inputs.{AtEnd}
 use Rattle.fed_ports.specs.Lists.{Gave}
@@ -16,10 +16,10 @@ use Rattle.http_plain.specs.declared.request.Method.{Method}
 use Rattle.http_plain.specs.declared.request.Request.{Request}
 use Rattle.http_plain.specs.FlowLaws.{few_given_on, given_on}
 use Rattle.http_plain.specs.Flows.{Given, HeadComes, TakenFew}
-use Rattle.http_plain.specs.Heads.{head_end, head_limit, BeginsWithHead, HasNoHead, IsHeadText}
+use Rattle.http_plain.specs.Heads.{head_end, head_limit, BeginsWithHead, IsHeadText}
 use Rattle.http_plain.specs.Plans.{IsAsked, SaysPlan, end_of, without_head}
-use Rattle.http_plain.specs.Readings.{Fits, IsTheAnswer, Reads, Shows, Taken}
-use Rattle.http_plain.specs.Requests.{Begins, IsHead, IsRefused, RequestText, path_of, pairs_of, query_of, request_limit}
+use Rattle.http_plain.specs.Readings.{Fits, IsTheAnswer, Reads, Taken}
+use Rattle.http_plain.specs.Requests.{IsRefused, path_of, pairs_of, query_of, request_limit}
 use Rattle.http_plain.proofs.Ends.{end_inside, found_alone}
 use Rattle.http_plain.proofs.Texts.{one_answer}
 

@@ -1,16 +1,16 @@
 -- Texts of requests, and the bytes that begin with them.
-use Rattle.std.proofs.Common.{◌≡◌, ◌≤◌, ◌<◌, ◌⊎◌, inl, inr, ℕ, ◌+◌, ◌-◌, List, [], ◌∷◌, ◌++◌, length, take, drop, Option, Some, None, Result, Ok, Err, refl, sym, ap, ap₂, ◌∙◌, subst, append_assoc, append-nil, arith}
+use Rattle.std.proofs.Common.{◌≡◌, ◌≤◌, inl, inr, ℕ, ◌+◌, ◌-◌, List, [], ◌∷◌, ◌++◌, length, take, drop, Some, Result, Ok, Err, refl, sym, ap, ap₂, ◌∙◌, subst, append_assoc, append-nil, arith}
 use Rattle.std.proofs.Math.Seq.{take-append-add, take-append_seam}
-use Rattle.std.proofs.lemmas.List.{length-append, drop-append-le, take-append-le}
+use Rattle.std.proofs.lemmas.List.{length-append}
 use Rattle.httparse.specs.Grammar.{RequestHead}
 use Rattle.http_plain.specs.declared.read.ReadEnd.{ReadEnd}
 use Rattle.http_plain.specs.declared.read.ReadEnd.TheVariants.{ReadFault, Ended, Memory}
 use Rattle.http_plain.specs.declared.request.Incoming.{Incoming}
 use Rattle.http_plain.specs.declared.request.Incoming.TheVariants.{Asked, NotARequest}
 use Rattle.http_plain.specs.declared.request.Request.{Request}
-use Rattle.http_plain.specs.Heads.{head_end, head_limit, BeginsWithHead, HasNoHead, IsHeadText}
+use Rattle.http_plain.specs.Heads.{head_end, head_limit, BeginsWithHead, HasNoHead}
 use Rattle.http_plain.specs.Readings.{Fits}
-use Rattle.http_plain.specs.Requests.{IsHead, IsRefused, IsNoRequest, EndsEarly, EndsInBody, RequestText, Begins, size_by, method_of, path_of, query_of, pairs_of}
+use Rattle.http_plain.specs.Requests.{IsHead, IsNoRequest, EndsEarly, RequestText, Begins, size_by, method_of, path_of, query_of, pairs_of}
 use Rattle.http_plain.proofs.Ends.{found_more}
 use Rattle.http_plain.proofs.Sizes.{same_head}
 

@@ -1,5 +1,5 @@
 -- A client's one exchange for a URL (RFC 9110 section 7, RFC 9112 section 3).
-use Rattle.std.specs.Prelude.{◌≡◌, ◌⊎◌, ℕ, ◌||◌, Bool, false, List, [], ◌∷◌, ◌++◌, codes, bytes_eq, cond, Option, Some, None, option_map, if◌then◌else◌}
+use Rattle.std.specs.Prelude.{◌≡◌, ℕ, ◌||◌, Bool, false, List, [], ◌∷◌, ◌++◌, codes, bytes_eq, cond, Option, Some, None, option_map, if◌then◌else◌}
 use Rattle.std.specs.Result.{result_ok}
 use Rattle.std.specs.Str.{is_utf8}
 use Rattle.fed_base.specs.Values.{◌>>=◌}

@@ -1,5 +1,5 @@
 -- What is sent and received on one connection adds up.
-use Rattle.std.proofs.Common.{◌≡◌, ℕ, ◌+◌, ◌||◌, Bool, true, false, List, [], ◌∷◌, ◌++◌, Option, Some, None, option_map, refl, sym, ap, ap₂, ◌∙◌, append_assoc, append-nil}
+use Rattle.std.proofs.Common.{◌≡◌, ℕ, ◌||◌, Bool, true, false, List, [], ◌∷◌, ◌++◌, Option, Some, None, refl, sym, ap, ap₂, ◌∙◌, append_assoc, append-nil}
 use Rattle.fed_ports.specs.Exchanges.{Exchange, Changed, change_last, with_received}
 
 change_same : (f : Exchange → Exchange) → ((x : Exchange) → x ≡ f x) → (l : List Exchange) → l ≡ change_last f l

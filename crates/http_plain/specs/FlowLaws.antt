@@ -1,7 +1,6 @@
 -- What is taken from a source adds up.
-use Rattle.std.proofs.Common.{◌≡◌, ◌≤◌, ℕ, ◌+◌, Bool, true, false, List, [], ◌++◌, length, Option, Some, None, refl, sym, ap, ◌∙◌, append_assoc, arith}
+use Rattle.std.proofs.Common.{◌≤◌, ℕ, ◌+◌, Bool, false, List, [], ◌++◌, length, Option, Some, None, refl, sym, ap, append_assoc, arith}
 use Rattle.std.proofs.lemmas.List.{length-append}
-use Rattle.fed_ports.specs.Inputs.{AtEnd}
 use Rattle.fed_ports.specs.Lists.{Gave}
 use Rattle.http_plain.specs.Flows.{Given, TakenFew}
 

@@ -1,5 +1,5 @@
 -- The page that the bytes of an answer are (RFC 9112 sections 4, 6 and 7).
-use Rattle.std.specs.Prelude.{◌≡◌, ◌≤◌, ◌<◌, ◌⊎◌, ℕ, ◌==◌, ◌&&◌, Bool, true, false, not, List, [], ◌∷◌, ◌++◌, length, map, take, codes, bytes_eq, cond, Option, Some, None, if◌then◌else◌}
+use Rattle.std.specs.Prelude.{◌≡◌, ◌≤◌, ◌<◌, ◌⊎◌, ℕ, ◌==◌, ◌&&◌, Bool, true, false, not, List, [], ◌∷◌, length, map, take, codes, bytes_eq, cond, Option, Some, None, if◌then◌else◌}
 use Rattle.std.specs.Char.{to_ascii_lowercase}
 use Rattle.fed_ports.specs.declared.page.Page.{Page}
 use Rattle.fed_ports.specs.declared.page.Page.TheVariants.{Document, Refusal, Garbled, TooLong}

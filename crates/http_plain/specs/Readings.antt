@@ -7,7 +7,6 @@ use Rattle.http_plain.specs.declared.read.ReadEnd.{ReadEnd}
 use Rattle.http_plain.specs.declared.read.ReadEnd.TheVariants.{ReadFault, Ended, Memory}
 use Rattle.http_plain.specs.declared.request.Incoming.{Incoming}
 use Rattle.http_plain.specs.declared.request.Incoming.TheVariants.{Asked, NotARequest}
-use Rattle.http_plain.specs.declared.request.Request.{Request}
 use Rattle.http_plain.specs.Requests.{Begins, IsNoRequest, EndsEarly, request_limit}
 
 -- the answer that bytes have; a fault is the answer of none

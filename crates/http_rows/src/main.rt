@@ -6,6 +6,7 @@
 
 mod answers;
 mod asks;
+mod pages;
 mod pieces;
 mod words;
 
@@ -22,6 +23,10 @@ fn answer(alloc: Global, row: &str) -> Result<Text, Memory> {
         "cut" => asks::cut_short(alloc, given),
         "fail" => asks::failing(alloc, given),
         "write" => answers::write(alloc, given),
+        "page" => pages::page(alloc, given),
+        "ends" => pages::cut_short(alloc, given),
+        "lost" => pages::lost(alloc, given),
+        "sent" => pages::sent(alloc, given),
         _ => Text::of(alloc, b"no such row"),
     }
 }

@@ -1,4 +1,4 @@
-use Rattle.std.proofs.Common.{◌≡◌, ◌∙◌, ap, sym, rules}
+use Rattle.std.proofs.Common.{◌∙◌, sym}
 use Rattle.http_plain.proofs.Exchanging.{answered_if, cause_on, ok_part, shown_as}
 use Rattle.http_plain.proofs.exchange.exchange.Goals as goal
 

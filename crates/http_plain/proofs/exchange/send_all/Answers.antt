@@ -1,4 +1,4 @@
-use Rattle.std.proofs.Common.{◌≡◌, ◌≤◌, ◌∙◌, ap, sym, rules, arith, length, take, drop, ◌-◌, take_all, refl, List, ℕ}
+use Rattle.std.proofs.Common.{◌≡◌, ap, rules, arith, length, take, drop, ◌-◌, take_all, refl, List, ℕ}
 use Rattle.std.proofs.lemmas.List.{length-drop}
 use Rattle.http_plain.proofs.Exchanging.{sent_none, sent_on}
 use Rattle.http_plain.proofs.exchange.send_all.Goals as goal

@@ -1,4 +1,4 @@
-use Rattle.std.proofs.Common.{◌≡◌, ◌≤◌, ◌-◌, length, take, List, ℕ}
+use Rattle.std.proofs.Common.{◌≡◌, ◌≤◌, ◌-◌, length, take}
 use Rattle.fed_ports.specs.Exchanges.{Changed, with_sent}
 use Rattle.http_plain.proofs.exchange.send_all.Given as goal
 

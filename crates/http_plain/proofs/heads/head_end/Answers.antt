@@ -1,4 +1,4 @@
-use Rattle.std.proofs.Common.{◌≡◌, ◌<◌, ◌-◌, Bool, true, false, List, ℕ, length, take, drop, rules, arith, nat_eq, sym, ap, ◌∙◌, take_all}
+use Rattle.std.proofs.Common.{◌≡◌, ◌-◌, List, ℕ, length, take, drop, arith, nat_eq, sym, ap, ◌∙◌, take_all}
 use Rattle.std.specs.List.{starts_with}
 use Rattle.std.proofs.lemmas.List.{length-drop}
 use Rattle.http_plain.specs.Heads.{blank}

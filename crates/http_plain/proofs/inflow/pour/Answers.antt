@@ -1,4 +1,4 @@
-use Rattle.std.proofs.Common.{◌≤◌, ◌+◌, [], arith}
+use Rattle.std.proofs.Common.{[], arith}
 use Rattle.http_plain.proofs.inflow.pour.Goals as goal
 
 pub returns-in-Err-clause-few : goal.returns-in-Err-clause-few

@@ -1,4 +1,4 @@
-use Rattle.std.proofs.Common.{◌≡◌, ◌≤◌, ◌-◌, length, false, None, [], List, ℕ, Bool}
+use Rattle.std.proofs.Common.{◌≡◌, ◌≤◌, ◌-◌, length, false, None, []}
 use Rattle.http_plain.specs.Heads.{head_end, head_limit}
 use Rattle.http_plain.specs.Flows.{Comes}
 use Rattle.http_plain.proofs.inflow.pour_head.Given as goal

@@ -1,4 +1,4 @@
-use Rattle.std.proofs.Common.{◌≡◌, ◌≤◌, ◌-◌, length, max, false, List, ℕ, Bool}
+use Rattle.std.proofs.Common.{◌≡◌, ◌≤◌, ◌-◌, length, max, false}
 use Rattle.http_plain.specs.Flows.{Comes}
 use Rattle.http_plain.proofs.inflow.pour_to.Given as goal
 

@@ -1,4 +1,4 @@
-use Rattle.std.proofs.Common.{◌≡◌, ◌≤◌, ◌<◌, ◌+◌, ◌∙◌, ap, sym, rules, arith, subst, refl, length, take, drop, false, true, List, ℕ, [], ◌++◌, append-nil, get_or}
+use Rattle.std.proofs.Common.{◌≡◌, ◌≤◌, ◌+◌, ◌∙◌, ap, sym, rules, arith, subst, refl, length, take, drop, false, true, [], append-nil, get_or}
 use Rattle.std.proofs.lemmas.List.{get_or_read}
 use Rattle.http_plain.specs.declared.chunks.Place.TheVariants.{Line}
 use Rattle.http_plain.specs.Flows.{Comes}

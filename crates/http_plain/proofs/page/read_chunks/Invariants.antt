@@ -1,6 +1,6 @@
-use Rattle.std.proofs.Common.{◌≡◌, ◌≤◌, ◌+◌, ◌-◌, length, take, drop, false, List, ℕ, Bool}
+use Rattle.std.proofs.Common.{◌≡◌, ◌≤◌, ◌+◌, ◌-◌, length, take, drop, false}
 use Rattle.http_plain.specs.Flows.{Comes}
-use Rattle.http_plain.specs.Chunks.{Chunking, chunks_limit, run, start, is_final}
+use Rattle.http_plain.specs.Chunks.{chunks_limit, run, start, is_final}
 use Rattle.http_plain.proofs.page.read_chunks.Given as goal
 
 abbrev pub invariant-loop-from : goal.invariant-loop-from

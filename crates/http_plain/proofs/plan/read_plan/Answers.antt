@@ -1,7 +1,7 @@
-use Rattle.std.proofs.Common.{◌≡◌, ◌≤◌, ◌∙◌, ap, sym, rules, arith, None, Some, subst, refl, length, ap₂, map, take}
+use Rattle.std.proofs.Common.{◌∙◌, ap, sym, arith, subst, ap₂, map, take}
 use Rattle.httparse.specs.Spans.{header_bytes}
-use Rattle.http_plain.specs.Plans.{IsPlan, IsHeading}
-use Rattle.http_plain.specs.Requests.{size_by, method_of, body_size}
+use Rattle.http_plain.specs.Plans.{IsPlan}
+use Rattle.http_plain.specs.Requests.{method_of, body_size}
 use Rattle.http_plain.proofs.Sizes.{size_at, refused_by, size_small, size_method}
 use Rattle.http_plain.proofs.plan.read_plan.Goals as goal
 

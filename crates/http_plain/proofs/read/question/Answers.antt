@@ -1,4 +1,4 @@
-use Rattle.std.proofs.Common.{◌≡◌, ℕ, length, sym, arith, rules}
+use Rattle.std.proofs.Common.{length, sym, arith, rules}
 use Rattle.std.proofs.lemmas.List.Sums.{position_or_len_is}
 use Rattle.http_plain.specs.Requests.{is_question}
 use Rattle.http_plain.proofs.read.question.Goals as goal

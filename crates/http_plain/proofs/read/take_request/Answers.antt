@@ -1,4 +1,4 @@
-use Rattle.std.proofs.Common.{◌≡◌, ◌≤◌, ◌<◌, ◌+◌, ◌-◌, ◌∙◌, ap, ap₂, sym, subst, arith, rules, Bool, true, false, List, ℕ, Err, None, Some, length, take, drop, slice_range}
+use Rattle.std.proofs.Common.{◌≡◌, ◌≤◌, ◌<◌, ◌+◌, ◌-◌, ◌∙◌, ap, ap₂, sym, subst, arith, rules, Err, length, take, drop, slice_range}
 use Rattle.std.proofs.lemmas.List.{length-take-le}
 use Rattle.http_plain.specs.Plans.{SaysPlan}
 use Rattle.http_plain.specs.Readings.{Taken}

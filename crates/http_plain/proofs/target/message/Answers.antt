@@ -1,4 +1,4 @@
-use Rattle.std.proofs.Common.{◌≡◌, ◌∙◌, ap₂, append_assoc}
+use Rattle.std.proofs.Common.{◌∙◌, ap₂, append_assoc}
 use Rattle.http_plain.specs.Clients.{get_text}
 use Rattle.http_plain.proofs.target.message.Goals as goal
 

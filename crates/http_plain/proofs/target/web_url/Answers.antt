@@ -1,4 +1,4 @@
-use Rattle.std.proofs.Common.{◌≡◌, ◌∙◌, sym, rules}
+use Rattle.std.proofs.Common.{◌∙◌, sym}
 use Rattle.http_plain.proofs.WebUrls.{none_in, some_in}
 use Rattle.http_plain.proofs.target.web_url.Goals as goal
 
