@@ -3,7 +3,7 @@
 ghost use Rattle.std.specs.Prelude.{◌≡◌};
 ghost use Rattle.http_plain.specs.Chunks.{is_final, is_data, next as next_place, counted, after_size as place_after, chunk_place};
 
-use httparse::{is_space_or_tab, parse_hex_digit};
+use httparse::parse_hex_digit;
 
 // The most bytes of a document.
 pub(crate) const PAGE_LIMIT: u64 = 262_144;
@@ -11,9 +11,9 @@ pub(crate) const PAGE_LIMIT: u64 = 262_144;
 // The most bytes of the chunks that it comes in.
 const CHUNKS_LIMIT: u64 = 1_048_576;
 
-// Where a reading of chunks is: before or in the size of a chunk (so many digits, their value), behind it in white space, in an extension or
-// before the line feed (the size), before a chunk's bytes (how many are left) or their line end, or at one of its ends: read whole, too
-// long, or not of the form.
+// Where a reading of chunks is: at a chunk's line or in its size (so many digits, their value), behind it in white space, in an extension
+// or before the line feed (the size), in a chunk's bytes (how many are left) or at their line end, or at its own end: whole, too long, or
+// not of the form.
 #[derive(Clone, Copy, Debug, PartialEq, Eq, Drop)]
 pub(crate) enum Place {
     Line,
@@ -34,22 +34,14 @@ impl Place {
     pub(crate) fn is_over(self) -> bool
         ensures { result ≡ is_final self }
     {
-        match self {
-            Place::Done => true,
-            Place::Over => true,
-            Place::Bad => true,
-            _ => false,
-        }
+        matches!(self, Place::Done | Place::Over | Place::Bad)
     }
 
     // The next byte is one of the body.
     pub(crate) fn takes(self) -> bool
         ensures { result ≡ is_data self }
     {
-        match self {
-            Place::Data(_) => true,
-            _ => false,
-        }
+        matches!(self, Place::Data(_))
     }
 }
 
@@ -57,14 +49,11 @@ impl Place {
 fn after_size(size: u64, b: u8) -> Place
     ensures { result ≡ place_after size b }
 {
-    if is_space_or_tab(b) {
-        Place::Pad(size)
-    } else if b == b';' {
-        Place::Extension(size)
-    } else if b == b'\r' {
-        Place::LineFeed(size)
-    } else {
-        Place::Bad
+    match b {
+        b' ' | b'\t' => Place::Pad(size),
+        b';' => Place::Extension(size),
+        b'\r' => Place::LineFeed(size),
+        _ => Place::Bad,
     }
 }
 
@@ -91,42 +80,25 @@ fn next(have: u64, place: Place, b: u8) -> Place
             None => Place::Bad,
         },
         Place::Size(digits, size) => match parse_hex_digit(b) {
-            Some(digit) => if digits >= 16 {
-                Place::Bad
-            } else if size > PAGE_LIMIT {
-                Place::Size(digits + 1, size)
-            } else {
-                Place::Size(digits + 1, size * 16 + digit)
-            },
+            Some(_) if digits >= 16 => Place::Bad,
+            Some(_) if size > PAGE_LIMIT => Place::Size(digits + 1, size),
+            Some(digit) => Place::Size(digits + 1, size * 16 + digit),
             None => after_size(size, b),
         },
         Place::Pad(size) => after_size(size, b),
-        Place::Extension(size) => if b == b'\r' {
-            Place::LineFeed(size)
-        } else if b == b'\n' {
-            Place::Bad
-        } else {
-            Place::Extension(size)
-        },
-        Place::LineFeed(size) => if b == b'\n' {
-            chunk(have, size)
-        } else {
-            Place::Bad
-        },
+        Place::Extension(size) if b == b'\r' => Place::LineFeed(size),
+        Place::Extension(size) if b != b'\n' => Place::Extension(size),
+        Place::LineFeed(size) if b == b'\n' => chunk(have, size),
         Place::Data(left) => if left <= 1 {
             Place::DataReturn
         } else {
             Place::Data(left - 1)
         },
-        Place::DataReturn => if b == b'\r' {
-            Place::DataFeed
-        } else {
-            Place::Bad
-        },
-        Place::DataFeed => if b == b'\n' { Place::Line } else { Place::Bad },
+        Place::DataReturn if b == b'\r' => Place::DataFeed,
+        Place::DataFeed if b == b'\n' => Place::Line,
         Place::Done => Place::Done,
         Place::Over => Place::Over,
-        Place::Bad => Place::Bad,
+        _ => Place::Bad,
     }
 }
 

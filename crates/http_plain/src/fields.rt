@@ -66,11 +66,7 @@ pub(crate) fn has_line(buf: &[u8], lines: &[HeaderSpan], name: &[u8]) -> bool
     requires within { All (IsHeaderWithin (length buf.now)) lines.now }
     ensures { result ≡ has_line name.now (map (header_bytes buf.now) lines.now) }
 {
-    match find(buf, lines, name) {
-        Found::Absent => false,
-        Found::Once(_) => true,
-        Found::Again => true,
-    }
+    !matches!(find(buf, lines, name), Found::Absent)
 }
 
 // A length that a head states.

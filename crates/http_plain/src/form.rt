@@ -81,11 +81,7 @@ fn answer_heading(head: &[u8], lines: &mut [HeaderSpan]) -> Option<ResponseSpans
     ensures { IsAnswerHeading head.now lines.new result }
 {
     match parse_response(head, lines) {
-        Ok(Status::Complete(found)) => if found.len == head.len() {
-            Some(found)
-        } else {
-            None
-        },
+        Ok(Status::Complete(found)) if found.len == head.len() => Some(found),
         _ => None,
     }
 }

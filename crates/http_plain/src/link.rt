@@ -10,8 +10,7 @@ use crate::inflow::Break;
 use crate::networks::Connection;
 use crate::route::Route;
 use crate::target::target_of;
-use fed_base::{Seq, Text};
-use fed_ports::{Link, LinkFault, Network, Page};
+use fed_ports::{Link, LinkFault, Network, Page, Seq, Text};
 use std::alloc::Global;
 
 /// A client of HTTP/1.1 (RFC 9110, RFC 9112), as a link: each call opens a connection, sends one GET, reads its answer and shuts the

@@ -1,16 +1,14 @@
 // Reading the page of an answer.
 
-ghost use Rattle.std.specs.Prelude.{◌≡◌, ◌≤◌, ◌<◌, ◌++◌, ◌∷◌, ℕ, Bool, true, false, List, [], length, IfOk, OnOk, if◌then◌else◌};
+ghost use Rattle.std.specs.Prelude.{◌≡◌, ◌≤◌, ◌<◌, ◌++◌, ◌∷◌, ℕ, Bool, true, false, List, [], length, IfOk, MatchResult, OnOk, if◌then◌else◌};
 ghost use Rattle.http_plain.specs.Chunks.{is_data, is_final, IsEndPage};
 ghost use Rattle.http_plain.specs.Flows.{BreakCause, Comes};
-ghost use Rattle.http_plain.specs.Heads.{head_limit};
-ghost use Rattle.http_plain.specs.Shown.{Shows, ShowsBody};
+ghost use Rattle.http_plain.specs.Shown.{HasHead, Shows, ShowsBody};
 
 use crate::chunks::{PAGE_LIMIT, Place, step};
 use crate::form::{Form, form_of};
 use crate::inflow::{Break, Inflow, pour, pour_head, pour_to};
-use fed_base::{Memory, Text};
-use fed_ports::Page;
+use fed_ports::{Memory, Page, Text};
 use std::alloc::Global;
 
 // Reads one answer, in whatever pieces it comes.
@@ -22,10 +20,7 @@ pub(crate) fn read_page<T, I: Inflow<T>>(alloc: Global, from: &mut T) -> Result<
 {
     let mut buffer = [0u8; 4096];
     let mut text = Vec::new(alloc);
-    let end = match pour_head::<T, I>(from, &mut buffer, &mut text) {
-        Ok(end) => end,
-        Err(fault) => return Err(fault),
-    };
+    let end = pour_head::<T, I>(from, &mut buffer, &mut text)?;
     let Some(len) = end else {
         return Ok(Page::Garbled);
     };
@@ -42,9 +37,7 @@ fn read_body<T, I: Inflow<T>>(
     len: usize,
     form: Form,
 ) -> Result<Page, Break>
-    requires room { 0 < length buffer.old }
-    requires inside { len ≤ length text.old.items }
-    requires head { len ≤ head_limit }
+    requires head { HasHead buffer.old text.old.items len }
     requires ready { I.ready from.old }
     ensures ready { I.ready from.new }
     ensures page { IfOk result (λ page. ShowsBody (I.came from.old from.new) text.old.items len form page) }
@@ -59,6 +52,16 @@ fn read_body<T, I: Inflow<T>>(
     }
 }
 
+// The document of these bytes.
+fn document(alloc: Global, body: &[u8]) -> Result<Page, Break>
+    ensures { MatchResult result (λ page. page ≡ Page.Document body.now) (λ fault. fault ≡ Break.Memory) }
+{
+    match Text::of(alloc, body) {
+        Ok(text) => Ok(Page::Document(text)),
+        Err(Memory) => Err(Break::Memory),
+    }
+}
+
 // Reads a body of that length.
 fn read_sized<T, I: Inflow<T>>(
     alloc: Global,
@@ -68,9 +71,7 @@ fn read_sized<T, I: Inflow<T>>(
     len: usize,
     n: u64,
 ) -> Result<Page, Break>
-    requires room { 0 < length buffer.old }
-    requires inside { len ≤ length text.old.items }
-    requires head { len ≤ head_limit }
+    requires head { HasHead buffer.old text.old.items len }
     requires ready { I.ready from.old }
     ensures ready { I.ready from.new }
     ensures page { IfOk result (λ page. ShowsBody (I.came from.old from.new) text.old.items len (Form.Sized n) page) }
@@ -80,17 +81,11 @@ fn read_sized<T, I: Inflow<T>>(
         return Ok(Page::TooLong);
     }
     let until = len + n as usize;
-    match pour_to::<T, I>(from, buffer, text, until) {
-        Err(fault) => Err(fault),
-        Ok(_) => if text.len() < until {
-            Ok(Page::Garbled)
-        } else {
-            match Text::of(alloc, &text[len..until]) {
-                Ok(body) => Ok(Page::Document(body)),
-                Err(Memory) => Err(Break::Memory),
-            }
-        },
+    pour_to::<T, I>(from, buffer, text, until)?;
+    if text.len() < until {
+        return Ok(Page::Garbled);
     }
+    document(alloc, &text[len..until])
 }
 
 // Reads a body that goes to the end.
@@ -101,26 +96,18 @@ fn read_to_end<T, I: Inflow<T>>(
     text: &mut Vec<u8>,
     len: usize,
 ) -> Result<Page, Break>
-    requires room { 0 < length buffer.old }
-    requires inside { len ≤ length text.old.items }
-    requires head { len ≤ head_limit }
+    requires head { HasHead buffer.old text.old.items len }
     requires ready { I.ready from.old }
     ensures ready { I.ready from.new }
     ensures page { IfOk result (λ page. ShowsBody (I.came from.old from.new) text.old.items len Form.ToEnd page) }
     ensures cause { BreakCause (I.in_faults from.old) (I.in_faults from.new) result }
 {
     let until = len + PAGE_LIMIT as usize + 1;
-    match pour_to::<T, I>(from, buffer, text, until) {
-        Err(fault) => Err(fault),
-        Ok(_) => if text.len() >= until {
-            Ok(Page::TooLong)
-        } else {
-            match Text::of(alloc, &text[len..]) {
-                Ok(body) => Ok(Page::Document(body)),
-                Err(Memory) => Err(Break::Memory),
-            }
-        },
+    pour_to::<T, I>(from, buffer, text, until)?;
+    if text.len() >= until {
+        return Ok(Page::TooLong);
     }
+    document(alloc, &text[len..])
 }
 
 // Adds what comes where the text has no byte at a place yet. Whether the end came.
@@ -175,9 +162,7 @@ fn read_chunks<T, I: Inflow<T>>(
     text: &mut Vec<u8>,
     len: usize,
 ) -> Result<Page, Break>
-    requires room { 0 < length buffer.old }
-    requires inside { len ≤ length text.old.items }
-    requires head { len ≤ head_limit }
+    requires head { HasHead buffer.old text.old.items len }
     requires ready { I.ready from.old }
     ensures ready { I.ready from.new }
     ensures page { IfOk result (λ page. ShowsBody (I.came from.old from.new) text.old.items len Form.Chunked page) }

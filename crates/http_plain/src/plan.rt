@@ -38,18 +38,9 @@ fn body_length(method: Option<Method>, stated: Stated) -> Option<u64>
     let method = method?;
     match stated {
         Stated::Bad => None,
-        Stated::Absent => match method {
-            Method::Get => Some(0),
-            Method::Post => None,
-        },
-        Stated::Size(n) => if n > 300_000 {
-            None
-        } else {
-            match method {
-                Method::Get => Some(0),
-                Method::Post => Some(n),
-            }
-        },
+        Stated::Absent => if method == Method::Get { Some(0) } else { None },
+        Stated::Size(n) if n > 300_000 => None,
+        Stated::Size(n) => if method == Method::Get { Some(0) } else { Some(n) },
     }
 }
 
@@ -71,11 +62,7 @@ fn heading(head: &[u8], lines: &mut [HeaderSpan]) -> Option<RequestSpans>
     ensures { IsHeading head.now lines.new result }
 {
     match parse_request(head, lines) {
-        Ok(Status::Complete(found)) => if found.len == head.len() {
-            Some(found)
-        } else {
-            None
-        },
+        Ok(Status::Complete(found)) if found.len == head.len() => Some(found),
         _ => None,
     }
 }

@@ -46,9 +46,7 @@ fn pairs(alloc: Global, query: &[u8]) -> Result<Seq<Pair>, Memory>
 {
     let mut found = Seq::new(alloc);
     for pair in form_urlencoded::parse(alloc, query) {
-        let Ok((name, value)) = pair else {
-            return Err(Memory);
-        };
+        let (name, value) = pair?;
         let name = Text::of(alloc, name.as_bytes())?;
         let value = Text::of(alloc, value.as_bytes())?;
         found.push(Pair { name, value })?;

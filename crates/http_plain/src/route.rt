@@ -1,7 +1,6 @@
 // Routes.
 
-use fed_base::{Duplicate, Memory, Text};
-use fed_ports::Address;
+use fed_ports::{Address, Duplicate, Memory, Text};
 use std::alloc::Global;
 
 /// Where the connections for a host go. The host is as a URL has it: a domain in lower case, or an address in its usual form.

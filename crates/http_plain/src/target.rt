@@ -6,8 +6,7 @@ ghost use Rattle.http_plain.specs.Clients.{address_of, is_web, message_of, route
 ghost use Rattle.http_plain.specs.Plans.{IsTarget};
 
 use crate::route::Route;
-use fed_base::Memory;
-use fed_ports::Address;
+use fed_ports::{Address, Memory};
 use std::alloc::Global;
 use url::{ParseError, Position, Url};
 
@@ -58,10 +57,7 @@ fn route_to(routes: &[Route], host: &[u8]) -> Option<Address>
 fn address(routes: &[Route], url: &Url) -> Option<Address>
     ensures { result ≡ address_of routes.now url.now }
 {
-    match url.host_str() {
-        Some(host) => route_to(routes, host.as_bytes()),
-        None => None,
-    }
+    route_to(routes, url.host_str()?.as_bytes())
 }
 
 // The message that asks for a URL.

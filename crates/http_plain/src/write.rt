@@ -87,10 +87,8 @@ fn response_text(alloc: Global, answer: &Response) -> Result<Vec<u8>, Memory>
         return Err(Memory);
     };
     let mut text = head(alloc, reason, answer.media, answer.body.len())?.into_bytes();
-    match text.extend_from_slice(answer.body.as_slice()) {
-        Ok(()) => Ok(text),
-        Err(_) => Err(Memory),
-    }
+    text.extend_from_slice(answer.body.as_slice())?;
+    Ok(text)
 }
 
 /// Writes a response, whose status has a reason, as a message that ends its connection (RFC 9112 section 9.6). Its text is made first and

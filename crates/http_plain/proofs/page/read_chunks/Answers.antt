@@ -12,7 +12,7 @@ unfolding run
 loop-from-init g c = record {
   ready = c.requires.ready;
   comes = record { got = []; came = g.I.Inflow.came_none c.args.from.now; adds = sym (append-nil c.args.text.now.items) };
-  inside = omega arith;
+  inside = omega (arith, c.requires.head.inside);
   ran = ap (λ b. standing Line 0 b) (sym c.new-body.ensures.items);
   few = λ _. omega arith;
   most = omega arith;
