@@ -1,5 +1,5 @@
 -- What came shows a page.
-use Rattle.std.specs.Prelude.{ℕ, Bool, List, ◌++◌, drop}
+use Rattle.std.specs.Prelude.{◌≤◌, ◌<◌, ℕ, Bool, List, ◌++◌, drop, length}
 use Rattle.fed_ports.specs.declared.page.Page.{Page}
 use Rattle.http_plain.specs.declared.form.Form.{Form}
 use Rattle.http_plain.specs.Heads.{head_limit}
