@@ -37,10 +37,11 @@ added_on f x (Some l) b c p q = rw (q, p) (ap Some (change_end f l x))
 
 answered : (a b c d : Option (List Exchange)) (to : Address) (message : List ℕ) (p : Page) → Added a (fresh to ∷ []) b → Changed b (with_sent message) c → Shows (λ x e. Changed c (with_received x e) d) p
     → AddsExchange a d (λ x. Answers x to message p)
-answered a b c d to message p opens sends shows =
-    (with_received shows.got shows.ended (with_sent message (fresh to)),
-    added_on (with_received shows.got shows.ended) (with_sent message (fresh to)) a c d (added_on (with_sent message) (fresh to) a b c opens sends) shows.came,
-    record { address = refl; message_is = refl; steady = refl; page = shows.page })
+answered a b c d to message p opens sends shows = (
+  with_received shows.got shows.ended (with_sent message (fresh to)),
+  added_on (with_received shows.got shows.ended) (with_sent message (fresh to)) a c d (added_on (with_sent message) (fresh to) a b c opens sends) shows.came,
+  record { address = refl; message_is = refl; steady = refl; page = shows.page },
+)
 
 pub answered_if : (a b c d e : Option (List Exchange)) (to : Address) (message : List ℕ) (r : Result Page Break) → Added a (fresh to ∷ []) b → Changed b (with_sent message) c → e ≡ d
     → IfOk r (λ p. Shows (λ x n. Changed c (with_received x n) d) p) → IfOk r (λ p. AddsExchange a e (λ x. Answers x to message p))
@@ -57,14 +58,18 @@ cause_on a b c d r first last h = subst (λ x. BreakCause x d r) first (subst (�
 -- the page of a call that had a route
 pub gets : (routes : List Route) (text : List ℕ) (old new : Option (List Exchange)) (to : Address) (message : List ℕ) (p : Page) → SaysTarget routes text to message
     → AddsExchange old new (λ x. Answers x to message p) → Gets routes text old new p
-gets routes text old new to message p says h = inr (h.0, h.1, record {
-  url = says.url;
-  reads = says.reads;
-  address = says.address ∙ ap Some (sym h.2.address);
-  message = h.2.message_is ∙ says.message_is;
-  steady = h.2.steady;
-  page = h.2.page;
-})
+gets routes text old new to message p says h = inr (
+  h.0,
+  h.1,
+  record {
+    url = says.url;
+    reads = says.reads;
+    address = says.address ∙ ap Some (sym h.2.address);
+    message = h.2.message_is ∙ says.message_is;
+    steady = h.2.steady;
+    page = h.2.page;
+  },
+)
 
 -- what shows a page shows it in another account of what came
 pub shown_as : (flow told : List ℕ → Bool → Type 0) → ((x : List ℕ) (e : Bool) → flow x e → told x e) → (r : Result Page Break) → IfOk r (λ p. Shows flow p) → IfOk r (λ p. Shows told p)

@@ -108,15 +108,18 @@ cut_body a c t u more len e p g whole few found says short ended = record {
   got = u;
   few = omega (arith, short, says.small, few, end_inside t len found);
   left = g.gave;
-  shown = (inr (record {
-    head = take len t;
-    begins = subst (λ y. BeginsWithHead y (take len t)) (sym whole) (begins t more len few found);
-    parts = says.parts;
-    reads = says.reads;
-    size = p.size;
-    sized = says.sized;
-    short = omega (arith, short, length-take-le len t (end_inside t len found));
-  }), g.at_end ended);
+  shown = (
+    inr (record {
+      head = take len t;
+      begins = subst (λ y. BeginsWithHead y (take len t)) (sym whole) (begins t more len few found);
+      parts = says.parts;
+      reads = says.reads;
+      size = p.size;
+      sized = says.sized;
+      short = omega (arith, short, length-take-le len t (end_inside t len found));
+    }),
+    g.at_end ended,
+  );
 }
 
 -- the whole request came

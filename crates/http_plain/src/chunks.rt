@@ -5,10 +5,8 @@ ghost use Rattle.http_plain.specs.Chunks.{is_final, is_data, next as next_place,
 
 use httparse::parse_hex_digit;
 
-// The most bytes of a document.
 pub(crate) const PAGE_LIMIT: u64 = 262_144;
 
-// The most bytes of the chunks that it comes in.
 const CHUNKS_LIMIT: u64 = 1_048_576;
 
 // Where a reading of chunks is: at a chunk's line or in its size (so many digits, their value), behind it in white space, in an extension

@@ -45,8 +45,8 @@ fn is_chunked(buf: &[u8], lines: &[HeaderSpan]) -> Option<bool>
 {
     match find(buf, lines, b"transfer-encoding") {
         Found::Absent => Some(false),
-        Found::Once(value) => if is_name(value, b"chunked") { Some(true) } else { None },
-        Found::Again => None,
+        Found::Once(value) if is_name(value, b"chunked") => Some(true),
+        _ => None,
     }
 }
 

@@ -4,10 +4,8 @@ ghost use Rattle.std.specs.Prelude.{◌≡◌, ◌≤◌, length, drop, nat_eq};
 ghost use Rattle.std.specs.List.{starts_with};
 ghost use Rattle.http_plain.specs.Heads.{head_end, behind, blank};
 
-// The most bytes of a head.
 pub(crate) const HEAD_LIMIT: usize = 16_384;
 
-// The most header lines of a head.
 pub(crate) const LINE_LIMIT: usize = 64;
 
 // Whether the bytes begin with the end of a line and an empty line.

@@ -1,8 +1,7 @@
 //! Layer 6, service: messages of HTTP/1.1 (RFC 9110 and RFC 9112), read and written in whatever pieces their bytes come.
 //!
-//! A server reads one [`Request`] of a connection by [`read_request`] and writes one [`Response`] by [`write_response`]. A client asks for
-//! pages by [`HttpLink`], a link over a network. What a text is, of a request or a response, and what a page is, is said of whole lists of
-//! bytes; pieces and buffers are in the code alone.
+//! A server reads a [`Request`] by [`read_request`] and writes a [`Response`] by [`write_response`]. A client gets pages by [`HttpLink`].
+//! Texts and pages are said of as whole lists of bytes; pieces and buffers are in the code alone.
 #![tactic(auto)]
 
 mod chunks;

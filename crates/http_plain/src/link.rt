@@ -66,7 +66,8 @@ impl<N: Network> Link for HttpLink<N> {
         let Some(target) = target else {
             return Ok(Page::NoRoute);
         };
-        match exchange::<N, Connection>(alloc, &mut self.net, &target.to, target.message.as_bytes()) {
+        let message = target.message.as_bytes();
+        match exchange::<N, Connection>(alloc, &mut self.net, &target.to, message) {
             Ok(page) => Ok(page),
             Err(Break::Failed) => Err(LinkFault::Failed),
             Err(Break::Memory) => Err(LinkFault::Memory),

@@ -8,8 +8,7 @@ ghost use Rattle.fed_ports.specs.Lists.{Added};
 use crate::inflow::Inflow;
 use fed_ports::{Address, Failed, Network};
 
-// How a connection of a network is used. It is a trait of its own, without the bound `Send`, since a method of an `impl` passes no such
-// bound on.
+// How a connection of a network is used: without the bound `Send` of `Network`, which a method of an `impl` can't pass on.
 pub(crate) trait Wire<T>: Inflow<T> {
     ghost told: { T → Option (List Exchange) };
 
@@ -44,12 +43,19 @@ impl<N: Network> Inflow<N> for Connection {
     ghost use Rattle.http_plain.specs.ExchangeLaws.{received_none, received_on};
 
     ghost came = { λ a b x e. Changed (N.exchanges a) (with_received x e) (N.exchanges b) };
+
     ghost few = { λ _ _ _. Unit {0} };
+
     ghost in_faults = { λ a. N.faults a };
+
     ghost ready = { λ a. N.is_open a };
+
     ghost came_none = { λ a. received_none (N.exchanges a) };
+
     ghost came_on = { λ a b c x y e p q. received_on (N.exchanges a) (N.exchanges b) (N.exchanges c) x y e p q };
+
     ghost few_came = { λ _ _ _ _ _ _ _. tt };
+
     ghost few_on = { λ _ _ _ _ _ _ _ _ _. tt };
 
     fn more(from: &mut N, into: &mut [u8]) -> Result<usize, Failed> {

@@ -35,12 +35,11 @@ fn begins_path(target: &[u8]) -> bool
 fn body_length(method: Option<Method>, stated: Stated) -> Option<u64>
     ensures { result ≡ body_by method (stated_view stated) }
 {
-    let method = method?;
+    let is_get = method? == Method::Get;
     match stated {
-        Stated::Bad => None,
-        Stated::Absent => if method == Method::Get { Some(0) } else { None },
-        Stated::Size(n) if n > 300_000 => None,
-        Stated::Size(n) => if method == Method::Get { Some(0) } else { Some(n) },
+        Stated::Absent if is_get => Some(0),
+        Stated::Size(n) if n <= 300_000 => Some(if is_get { 0 } else { n }),
+        _ => None,
     }
 }
 

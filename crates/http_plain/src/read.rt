@@ -115,7 +115,8 @@ fn take_request<P: Source>(alloc: Global, from: &mut P) -> Result<Incoming, Read
         Ok(_) => if text.len() < until {
             Err(ReadEnd::Ended)
         } else {
-            match asked(alloc, plan.method, plan.target.of(&text[..len]), &text[len..until]) {
+            let target = plan.target.of(&text[..len]);
+            match asked(alloc, plan.method, target, &text[len..until]) {
                 Ok(request) => Ok(Incoming::Asked(request)),
                 Err(Memory) => Err(ReadEnd::Memory),
             }

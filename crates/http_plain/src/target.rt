@@ -33,7 +33,11 @@ fn web_url(alloc: Global, text: &[u8]) -> Result<Option<Url>, Memory>
         return Ok(None);
     };
     match Url::parse(alloc, text) {
-        Ok(url) => if is_web(&url) { Ok(Some(url)) } else { Ok(None) },
+        Ok(url) => if is_web(&url) {
+            Ok(Some(url))
+        } else {
+            Ok(None)
+        },
         Err(ParseError::OutOfMemory | ParseError::Overflow) => Err(Memory),
         Err(_) => Ok(None),
     }

@@ -69,7 +69,7 @@ returns-in-Ok-asked-clause-taken g c =
     let small = c.in-Some-read_plan.ensures.small in
     let says = subst (λ y. SaysPlan (take c.in-Some.len y) plan) c.deref.ensures.value c.in-Some-read_plan.ensures in
     let enough : c.in-Some.len + plan.size ≤ length u = omega (arith, c.len-in-Ok-pour_to.ensures, c.if-len-until.false) in
-    let target = c.of.ensures ∙ ap (λ y. slice_range (take c.in-Some.len y) plan.target.start plan.target.end) c.deref-else-len-until.ensures.value in
+    let target = c.of-target.ensures ∙ ap (λ y. slice_range (take c.in-Some.len y) plan.target.start plan.target.end) c.deref-else-len-until.ensures.value in
     let size : (c.in-Some.len + plan.size) - c.in-Some.len ≡ plan.size = omega arith in
     let body = ap₂ (λ n y. take n (drop c.in-Some.len y)) size c.deref-else-len-until-2.ensures.value in
     whole_request _ _ t u p.got c.in-Some.len c.in-Ok-pour_to.field-0 plan c.in-Ok-asked.request (came_on _ _ _ t u p.got _ h.0 p.came.0 p.adds) p.adds h.1 h.2 says enough
