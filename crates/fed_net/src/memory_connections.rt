@@ -56,6 +56,7 @@ impl Connections {
         ensures kept { OnTrue result (told_of self.new ≡ told_of self.old) }
         ensures none { OnTrue result (self.new.last ≡ None) }
         ensures silent { OnFalse result (told_of self.new ≡ None) }
+        ensures open { self.new.open ≡ self.old.open }
     {
         let Some(last) = self.last.take() else {
             return true;
@@ -72,6 +73,7 @@ impl Connections {
         ensures added { OnTrue result (Added (told_of self.old) (fresh to.now ∷ []) (told_of self.new)) }
         ensures open { OnTrue result (IsOpen self.new) }
         ensures failed { OnFalse result (AddedOrSilent (told_of self.old) (with_failure (fresh to.now)) (told_of self.new)) }
+        ensures none { OnFalse result (IsOpen self.new → ⊥) }
     {
         self.open = false;
         if !self.shelve() {
@@ -120,7 +122,8 @@ impl Connections {
 
     /// Shuts the open connection. It is told as before.
     pub fn shut(&mut self)
-        ensures { told_of self.new ≡ told_of self.old }
+        ensures told { told_of self.new ≡ told_of self.old }
+        ensures none { IsOpen self.new → ⊥ }
     {
         self.open = false;
     }

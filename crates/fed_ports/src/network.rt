@@ -38,6 +38,7 @@ pub trait Network: Sized + Send {
         ensures open { OnOk result (is_open self.new) }
         ensures added { OnOk result (Added (exchanges self.old) (fresh to.now ∷ []) (exchanges self.new)) }
         ensures err { OnErr result (AddedOrSilent (exchanges self.old) (with_failure (fresh to.now)) (exchanges self.new)) }
+        ensures none { OnErr result (is_open self.new → ⊥) }
         ensures listens { listens self.old → listens self.new }
         ensures callers { callers self.new ≡ callers self.old }
         ensures settled { settled self.new ≡ settled self.old }
@@ -74,6 +75,7 @@ pub trait Network: Sized + Send {
     /// Shuts the open connection.
     fn shut(&mut self)
         requires { is_open self.old }
+        ensures none { is_open self.new → ⊥ }
         ensures exchanges { exchanges self.new ≡ exchanges self.old }
         ensures listens { listens self.old → listens self.new }
         ensures callers { callers self.new ≡ callers self.old }
