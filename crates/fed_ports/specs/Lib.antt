@@ -5,9 +5,6 @@ pub mod Inputs
 pub mod KeptFiles
 pub mod Lists
 pub mod MemoryClocks
-pub mod MemoryLinks
-pub mod MemoryNetworks
-pub mod MemoryPeers
 pub mod MemoryStores
 pub mod MemoryStreams
 pub mod NamedFiles

@@ -1,9 +1,10 @@
 //! Layer 1, the outside: what `fed` reads from and writes to.
 //!
-//! Everything that the program reads or writes goes through a trait of this crate: bytes come from a [`Source`] and go to a [`Sink`], files
-//! are in a [`Store`], and a [`Clock`] gives the moment. Each trait states what a call does to the bytes where the object tells them, and
-//! that an answer `Failed` comes only where the object's own count of faults rose. The versions in memory tell what they hold; the real
-//! ones are a few lines over the standard library and tell nothing.
+//! Everything that the program reads or writes goes through a trait of this crate: bytes come from a [`Source`] and go to a [`Sink`],
+//! files are in a [`Store`], and a [`Clock`] gives the moment. A [`Network`] connects to others and accepts their connections, each of
+//! which is a [`Peer`], and a [`Link`] gives the pages of URLs. Each trait states what a call does to the bytes where the object tells
+//! them, and that an answer `Failed` comes only where the object's own count of faults rose. The versions in memory tell what they hold;
+//! the real ones are a few lines over the standard library and tell nothing. Those of the network stand in `fed_net`.
 //!
 //! The texts, lists, errors and ledgers of the base are given again here under their names.
 #![tactic(auto)]
@@ -15,51 +16,36 @@ mod input;
 mod kept_file;
 mod link;
 mod memory_clock;
-mod memory_connection;
-mod memory_connections;
-mod memory_link;
-mod memory_network;
-mod memory_peer;
 mod memory_sink;
 mod memory_source;
 mod memory_store;
 mod named_file;
-mod named_page;
 mod network;
-mod noted;
 mod page;
 mod peer;
 mod real;
 mod real_clock;
-mod real_network;
-mod real_peer;
 mod real_store;
 mod sink;
 mod source;
 mod store;
-mod timed;
 
 pub use address::{Address, listen_address};
+pub use call_plan::CallPlan;
 pub use clock::Clock;
 pub use fed_base::{Duplicate, Failed, Ledger, MOMENT_LIMIT, Memory, Plain, Seq, Steps, Text};
 pub use input::{ReadEnd, read_all};
 pub use link::{Link, LinkFault};
 pub use memory_clock::MemoryClock;
-pub use memory_link::MemoryLink;
-pub use memory_network::MemoryNetwork;
-pub use memory_peer::MemoryPeer;
 pub use memory_sink::MemorySink;
 pub use memory_source::MemorySource;
 pub use memory_store::MemoryStore;
 pub use named_file::NamedFile;
-pub use named_page::NamedPage;
 pub use network::Network;
 pub use page::Page;
 pub use peer::Peer;
 pub use real::{RealSink, RealSource};
 pub use real_clock::RealClock;
-pub use real_network::RealNetwork;
-pub use real_peer::RealPeer;
 pub use real_store::RealStore;
 pub use sink::Sink;
 pub use source::Source;

@@ -1,0 +1,3 @@
+pub mod MemoryLinks
+pub mod MemoryNetworks
+pub mod MemoryPeers
