@@ -2,7 +2,8 @@
 
 use crate::words::{add_number, bytes, cut, number, show};
 use fed_base::{Memory, Seq, Text};
-use fed_ports::{Address, Link, LinkFault, MemoryNetwork, Page};
+use fed_net::MemoryNetwork;
+use fed_ports::{Address, Link, LinkFault, Page};
 use http_plain::{HttpLink, Route};
 use std::alloc::Global;
 
