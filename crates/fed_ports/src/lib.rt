@@ -10,6 +10,7 @@
 
 mod call_plan;
 mod clock;
+mod file_lock;
 mod input;
 mod kept_file;
 mod memory_clock;
