@@ -1,5 +1,5 @@
 mod ChangeLaws
-mod FileLaws
+pub mod FileLaws
 mod FoundAgain
 mod Gathering
 mod KeepingLaws
