@@ -1,12 +1,14 @@
 -- What `issue` answers is sealed, from its reply to the end of the run.
 use Rattle.std.proofs.Common.{◌≡◌, ℕ, suc, List, sym, ap, ◌∙◌, subst, inl, inr, arith}
-use Rattle.std.specs.Prelude.{Option, Some, None}
+use Rattle.std.specs.Prelude.{Option, Some, None, Result, Ok, Err, IfOk}
 use Rattle.fed_ports.specs.Bytes.{Appends}
 use Rattle.fed_ports.specs.Stores.{Files}
+use Rattle.key_ring.specs.Rings.{Ring}
+use Rattle.key_ring.specs.Sets.{signer_seeds}
 use Rattle.fed_commands.specs.Answers.{IsEnded, IsNamed, Output}
 use Rattle.fed_commands.specs.Replies.{bad_input}
-use Rattle.fed_commands.specs.Sealings.{IsSealedReply, IsSealedFrom, RepliesSealed, IssuesSealed}
-use Rattle.fed_commands.specs.Operations.{IsPrepared, IsIssuePrepared}
+use Rattle.fed_commands.specs.Sealings.{IsSealedBySigner, IsSealedReply, IsSealedFrom, RepliesSealed, IssuesSealed}
+use Rattle.fed_commands.specs.Operations.{IsPrepared, IsRingFound, issue_prepared}
 use Rattle.fed_commands.specs.declared.command.Command.{Command}
 use Rattle.fed_commands.specs.declared.command.Command.TheVariants.{Issue}
 use Rattle.fed_commands.specs.declared.reply.Reply.{Reply}
@@ -19,31 +21,38 @@ not_zero n status is zero = absurd (omega (arith, is, zero))
 
 -- ---- the reply of a command
 
-done_at_issue : (file : Option (List ℕ)) (reply : Reply) → IsIssuePrepared file (Answered reply) → reply.status ≡ 2
+done_at_issue : (found : Option Ring) (reply : Reply) → Answered reply ≡ issue_prepared found → reply.status ≡ 2
 done_at_issue None reply is = let same : reply ≡ bad_input = cc is in ap (λ z. z.status) same
-done_at_issue (Some bytes) reply (inl (key, few, ring, is)) = absurd (never is)
-  where
-    never : Answered reply ≡ WantsInput (operation.Issue key.seeds) → ⊥
-    never e = cc e
-done_at_issue (Some bytes) reply (inr (none, is)) = let same : reply ≡ bad_input = cc is in ap (λ z. z.status) same
+done_at_issue (Some ring) reply is = absurd (cc is)
 
 -- a reply before the input is none
 pub done_sealed : (c : Command) (moment : ℕ) (files : Option Files) (file : Option (List ℕ)) (reply : Reply) → IsPrepared c moment file (Answered reply) → RepliesSealed c files reply
-done_sealed c moment files file reply is = λ ring same zero.
-    absurd (not_zero 1 reply.status (done_at_issue file reply (subst (λ z. IsPrepared z moment file (Answered reply)) same is)) zero)
+done_sealed c moment files file reply is = λ name same zero.
+    let (found, of_file, made) = subst (λ z. IsPrepared z moment file (Answered reply)) same is in
+    absurd (not_zero 1 reply.status (done_at_issue found reply made) zero)
 
-awaited_issue : (ring : List ℕ) (files : Option Files) (file : Option (List ℕ)) (work : Operation) (reply : Reply) → IsNamed (Issue ring) files file → IsIssuePrepared file (WantsInput work)
-    → ((seeds : List ℕ) → work ≡ operation.Issue seeds → IsSealedReply seeds reply) → IsSealedFrom ring files reply
-awaited_issue ring files None work reply named is sealed = cc is
-awaited_issue ring files (Some bytes) work reply named (inl (key, few, of_ring, is)) sealed =
-    let same : work ≡ operation.Issue key.seeds = cc is in λ zero. (bytes, key, named, of_ring, sealed key.seeds same zero)
-awaited_issue ring files (Some bytes) work reply named (inr (none, is)) sealed = cc is
+by_signer : (name : List ℕ) (files : Option Files) (file : Option (List ℕ)) (found : Option Ring) (work : Operation) (reply : Reply) → IsNamed (Issue name) files file → IsRingFound file found
+    → WantsInput work ≡ issue_prepared found → ((ring : Ring) → work ≡ operation.Issue ring → IsSealedBySigner ring reply) → IsSealedFrom name files reply
+by_signer name files file None work reply named of_file is sealed = absurd (cc is)
+by_signer name files None (Some ring) work reply named of_file is sealed = absurd (cc of_file)
+by_signer name files (Some bytes) (Some ring) work reply named (few, opened) is sealed =
+    let same : work ≡ operation.Issue ring = cc is in λ zero. let (seeds, signs, line) = sealed ring same zero in (bytes, ring, seeds, named, opened, signs, line)
 
--- a reply on the input is by the key of the ring
+-- a reply on the input is by the signer of the ring
 pub awaited_sealed : (c : Command) (moment : ℕ) (files : Option Files) (file : Option (List ℕ)) (work : Operation) (reply : Reply) → IsNamed c files file
-    → IsPrepared c moment file (WantsInput work) → ((seeds : List ℕ) → work ≡ operation.Issue seeds → IsSealedReply seeds reply) → RepliesSealed c files reply
-awaited_sealed c moment files file work reply named is sealed = λ ring same.
-    awaited_issue ring files file work reply (subst (λ z. IsNamed z files file) same named) (subst (λ z. IsPrepared z moment file (WantsInput work)) same is) sealed
+    → IsPrepared c moment file (WantsInput work) → ((ring : Ring) → work ≡ operation.Issue ring → IsSealedBySigner ring reply) → RepliesSealed c files reply
+awaited_sealed c moment files file work reply named is sealed = λ name same.
+    let (found, of_file, made) = subst (λ z. IsPrepared z moment file (WantsInput work)) same is in
+    by_signer name files file found work reply (subst (λ z. IsNamed z files file) same named) of_file made sealed
+
+-- claims that are sealed by the signer's key are sealed by the signer
+pub sealed_by_signer : {E : Type 0} (result : Result Reply E) (work : Operation) (held ring : Ring) (seeds : List ℕ) → work ≡ operation.Issue held → signer_seeds held ≡ Some seeds
+    → IfOk result (IsSealedReply seeds) → work ≡ operation.Issue ring → IfOk result (IsSealedBySigner ring)
+sealed_by_signer (Ok reply) work held ring seeds is signs sealed also =
+    let both : operation.Issue held ≡ operation.Issue ring = sym is ∙ also in
+    let same : held ≡ ring = cc both in
+    λ zero. (seeds, subst (λ r. signer_seeds r ≡ Some seeds) same signs, sealed zero)
+sealed_by_signer (Err e) work held ring seeds is signs sealed also = tt
 
 -- ---- the end of a run
 
@@ -54,7 +63,7 @@ stopped_sealed c files held held' status n is = λ ring same zero. absurd (not_z
 written_sealed : (c : Command) (files : Option Files) (held held' : Option (List ℕ)) (reply : Reply) (status : ℕ) → RepliesSealed c files reply → status ≡ reply.status
     → Appends held held' reply.text → IssuesSealed c files held held' status
 written_sealed c files held held' reply status sealed is written = λ ring same zero.
-    let (bytes, key, file, of_ring, line) = sealed ring same (sym is ∙ zero) in (bytes, key, reply.text, file, of_ring, written, line)
+    let (bytes, opened, seeds, file, of_ring, signs, line) = sealed ring same (sym is ∙ zero) in (bytes, opened, seeds, reply.text, file, of_ring, signs, written, line)
 
 -- what a run with a reply wrote is that reply
 pub ended_sealed : (c : Command) (r : Reply) (x y : Output) (status : ℕ) → RepliesSealed c x.files r → IsEnded c r x y status → IssuesSealed c x.files x.held y.held status

@@ -1,8 +1,10 @@
 // The command line.
 
 ghost use Rattle.std.specs.Prelude.{◌≡◌, IfOk};
-ghost use Rattle.fed_commands.specs.Commands.{command_of, verb_of, verify_of, keygen_of, issue_of, check_of, flag_of};
+ghost use Rattle.fed_commands.specs.Commands.{command_of, verb_of, verify_of, keygen_of, issue_of, rotate_of, check_of, flag_of};
 
+use crate::act::{Act, read_act};
+use crate::moment::Moment;
 use crate::options::{moment_in, option_in};
 use base64url::decode_32;
 use entity_id::EntityId;
@@ -15,21 +17,26 @@ use std::alloc::Global;
 pub enum Command {
     /// `verify PUB`: check one entity configuration under this public key.
     Verify([u8; 32]),
-    /// `keygen --ring FILE --at T --exp T`: make a ring file of one key, for these moments in seconds since 1970.
+    /// `keygen --ring FILE --at T --exp T`: make a ring file of one key, for these moments.
     Keygen {
         ring_file: Text,
-        at: u64,
-        exp: u64,
+        at: Moment,
+        exp: Moment,
     },
-    /// `issue --ring FILE --typ TYP`: seal claims of an entity statement by the key of a ring file.
+    /// `issue --ring FILE --typ TYP`: seal claims of an entity statement by the signer of a ring file.
     Issue {
         ring_file: Text,
     },
-    /// `check --anchor ID --keys FILE [--at T]`: check a chain for a trust anchor, its keys, and a moment in seconds since 1970.
+    /// `rotate --ring FILE --act ACT ..`: make a change of the ring of a ring file.
+    Rotate {
+        ring_file: Text,
+        act: Act,
+    },
+    /// `check --anchor ID --keys FILE [--at T]`: check a chain for a trust anchor, its keys, and a moment.
     Check {
         anchor: EntityId,
         keys_file: Text,
-        at: Option<u64>,
+        at: Option<Moment>,
     },
     /// `--help`, alone.
     Help,
@@ -60,6 +67,8 @@ fn read_verb(alloc: Global, verb: &[u8], rest: &[Text]) -> Result<Command, Memor
         read_keygen(alloc, rest)
     } else if verb == b"issue".as_slice() {
         read_issue(alloc, rest)
+    } else if verb == b"rotate".as_slice() {
+        read_rotate(alloc, rest)
     } else if verb == b"check".as_slice() {
         read_check(alloc, rest)
     } else {
@@ -130,6 +139,22 @@ fn read_issue(alloc: Global, rest: &[Text]) -> Result<Command, Memory>
             })
         }
         _ => Ok(Command::Faulty),
+    }
+}
+
+#[tactic(auto, unfolding(crate::specs::Commands::rotate_of))]
+fn read_rotate(alloc: Global, rest: &[Text]) -> Result<Command, Memory>
+    ensures { IfOk result (λ c. c ≡ rotate_of rest.now) }
+{
+    let Some(ring_file) = option_in(rest, b"--ring") else {
+        return Ok(Command::Faulty);
+    };
+    match read_act(alloc, rest)? {
+        Some(act) => Ok(Command::Rotate {
+            ring_file: ring_file.copy(alloc)?,
+            act,
+        }),
+        None => Ok(Command::Faulty),
     }
 }
 

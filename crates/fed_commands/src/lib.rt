@@ -5,6 +5,7 @@
 //! `fed` makes the real outside and calls it.
 #![tactic(auto)]
 
+mod act;
 mod answer;
 mod check;
 mod check_keys;
@@ -15,11 +16,12 @@ mod help;
 mod input;
 mod issue;
 mod keygen;
+mod moment;
 mod operation;
 mod options;
 mod output;
 mod reply;
-mod ring;
+mod rotate;
 mod top;
 mod verify;
 mod verify_finding;

@@ -52,7 +52,11 @@ pub fn memory(alloc: Global, given: &str) -> Result<Text, Memory> {
 }
 
 /// The same of a file of that name in the folder where the program runs.
-pub fn real<R: Files + AllocGlobal + Eprint>(rt: &R, alloc: Global, given: &str) -> Result<Text, Memory> {
+pub fn real<R: Files + AllocGlobal + Eprint>(
+    rt: &R,
+    alloc: Global,
+    given: &str,
+) -> Result<Text, Memory> {
     let name = Text::of(alloc, given.as_bytes())?;
     let mut store = RealStore::new(rt);
     let before = letter(store.load(alloc, &name));
