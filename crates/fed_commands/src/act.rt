@@ -18,9 +18,7 @@ pub enum Act {
         exp: Moment,
     },
     /// `--act retire --kid KID`: retire the key of this name.
-    Retire {
-        kid: Text,
-    },
+    Retire(Text),
     /// `--act revoke --kid KID --at T --reason R`: revoke the key of this name, since a moment and for a reason.
     Revoke {
         kid: Text,
@@ -59,11 +57,8 @@ fn read_named(alloc: Global, act: &[u8], words: &[Text]) -> Result<Option<Act>, 
 fn read_add(words: &[Text]) -> Option<Act>
     ensures { result ≡ add_in words.now }
 {
-    if words.len() != 8 {
-        return None;
-    }
     match (moment_in(words, b"--at"), moment_in(words, b"--exp")) {
-        (Some(at), Some(exp)) => Some(Act::Add { at, exp }),
+        (Some(at), Some(exp)) if words.len() == 8 => Some(Act::Add { at, exp }),
         _ => None,
     }
 }
@@ -72,14 +67,9 @@ fn read_add(words: &[Text]) -> Option<Act>
 fn read_retire(alloc: Global, words: &[Text]) -> Result<Option<Act>, Memory>
     ensures { IfOk result (λ act. act ≡ retire_in words.now) }
 {
-    if words.len() != 6 {
-        return Ok(None);
-    }
     match option_in(words, b"--kid") {
-        Some(kid) => Ok(Some(Act::Retire {
-            kid: kid.copy(alloc)?,
-        })),
-        None => Ok(None),
+        Some(kid) if words.len() == 6 => Ok(Some(Act::Retire(kid.copy(alloc)?))),
+        _ => Ok(None),
     }
 }
 
@@ -87,15 +77,12 @@ fn read_retire(alloc: Global, words: &[Text]) -> Result<Option<Act>, Memory>
 fn read_revoke(alloc: Global, words: &[Text]) -> Result<Option<Act>, Memory>
     ensures { IfOk result (λ act. act ≡ revoke_in words.now) }
 {
-    if words.len() != 10 {
-        return Ok(None);
-    }
     match (
         option_in(words, b"--kid"),
         moment_in(words, b"--at"),
         reason_in(words),
     ) {
-        (Some(kid), Some(at), Some(reason)) => Ok(Some(Act::Revoke {
+        (Some(kid), Some(at), Some(reason)) if words.len() == 10 => Ok(Some(Act::Revoke {
             kid: kid.copy(alloc)?,
             at,
             reason,

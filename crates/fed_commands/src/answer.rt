@@ -41,7 +41,7 @@ fn named(command: &Command) -> Option<&Text>
 {
     match command {
         Command::Keygen { ring_file, .. }
-        | Command::Issue { ring_file }
+        | Command::Issue(ring_file)
         | Command::Rotate { ring_file, .. } => Some(ring_file),
         Command::Check { keys_file, .. } => Some(keys_file),
         Command::Verify(_) | Command::Help | Command::Version | Command::Faulty => None,

@@ -24,9 +24,7 @@ pub enum Command {
         exp: Moment,
     },
     /// `issue --ring FILE --typ TYP`: seal claims of an entity statement by the signer of a ring file.
-    Issue {
-        ring_file: Text,
-    },
+    Issue(Text),
     /// `rotate --ring FILE --act ACT ..`: make a change of the ring of a ring file.
     Rotate {
         ring_file: Text,
@@ -108,15 +106,12 @@ fn read_verify(rest: &[Text]) -> Command
 fn read_keygen(alloc: Global, rest: &[Text]) -> Result<Command, Memory>
     ensures { IfOk result (λ c. c ≡ keygen_of rest.now) }
 {
-    if rest.len() != 6 {
-        return Ok(Command::Faulty);
-    }
     match (
         option_in(rest, b"--ring"),
         moment_in(rest, b"--at"),
         moment_in(rest, b"--exp"),
     ) {
-        (Some(ring_file), Some(at), Some(exp)) => Ok(Command::Keygen {
+        (Some(ring_file), Some(at), Some(exp)) if rest.len() == 6 => Ok(Command::Keygen {
             ring_file: ring_file.copy(alloc)?,
             at,
             exp,
@@ -134,9 +129,7 @@ fn read_issue(alloc: Global, rest: &[Text]) -> Result<Command, Memory>
     }
     match (option_in(rest, b"--ring"), option_in(rest, b"--typ")) {
         (Some(ring_file), Some(typ)) if typ.as_slice() == STATEMENT_TYPE => {
-            Ok(Command::Issue {
-                ring_file: ring_file.copy(alloc)?,
-            })
+            Ok(Command::Issue(ring_file.copy(alloc)?))
         }
         _ => Ok(Command::Faulty),
     }

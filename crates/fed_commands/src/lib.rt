@@ -8,9 +8,8 @@
 mod act;
 mod answer;
 mod check;
-mod check_keys;
+mod check_inputs;
 mod check_lines;
-mod check_texts;
 mod command;
 mod help;
 mod input;

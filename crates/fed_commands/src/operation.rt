@@ -8,7 +8,7 @@ ghost use Rattle.fed_commands.specs.Replies.{plain};
 
 use crate::act::Act;
 use crate::check::check;
-use crate::check_keys::read_keys;
+use crate::check_inputs::read_keys;
 use crate::command::Command;
 use crate::help::{HELP, VERSION};
 use crate::issue::issue;
@@ -85,7 +85,7 @@ pub fn prepare(
             at,
             exp,
         } => prepare_keygen(alloc, *at, *exp, file),
-        Command::Issue { ring_file: _ } => prepare_issue(alloc, file),
+        Command::Issue(_) => prepare_issue(alloc, file),
         Command::Rotate { ring_file: _, act } => prepare_rotate(alloc, act, file),
         Command::Check {
             anchor,
@@ -169,7 +169,7 @@ fn change(alloc: Global, act: &Act, ring: KeyRing) -> Result<Prepared, Memory>
             at: *at,
             exp: *exp,
         })),
-        Act::Retire { kid } => Ok(Prepared::Answered(retire(alloc, ring, kid)?)),
+        Act::Retire(kid) => Ok(Prepared::Answered(retire(alloc, ring, kid)?)),
         Act::Revoke { kid, at, reason } => {
             Ok(Prepared::Answered(revoke(alloc, ring, kid, *at, *reason)?))
         }
