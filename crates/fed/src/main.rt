@@ -7,10 +7,15 @@
 use fed_commands::run;
 use fed_ports::{Memory, RealClock, RealSink, RealSource, RealStore, Seq, Text};
 use std::alloc::Global;
-use std::env;
 use std::env::Env;
-use std::io::ErrorKind;
+use std::io::{Eprint, ErrorKind};
+use std::os::unix::fs::PermissionsExt;
 use std::process::ExitCode;
+use std::rt::Files;
+use std::{env, fs, str};
+
+// The status of words, or of a file, that aren't of their form.
+const FAULTY: u8 = 2;
 
 // The words after the program's name. Where one isn't UTF-8 a word stands for them that no command has.
 fn words<R: Env + AllocGlobal>(rt: &R) -> Result<Seq<Text>, Memory> {
@@ -28,6 +33,27 @@ fn words<R: Env + AllocGlobal>(rt: &R) -> Result<Seq<Text>, Memory> {
     Ok(words)
 }
 
+// The word behind `--ring`, where there is one.
+fn ring_file(words: &[Text]) -> Option<&str> {
+    match words {
+        [option, value, ..] if option.as_slice() == b"--ring".as_slice() => {
+            str::from_utf8(value.as_slice()).ok()
+        }
+        [_, rest @ ..] => ring_file(rest),
+        [] => None,
+    }
+}
+
+// Says so where others than its owner can read or write the ring file.
+fn tell_of_open_file<R: Files + Eprint>(rt: &R, path: &str) {
+    let is_open = fs::metadata(rt, path).is_ok_and(|found| found.permissions().mode() & 0o077 != 0);
+    if is_open {
+        let _ = eprintln!(rt;
+            "fed: others than its owner can read {path} and so sign in the node's name; `chmod 600 {path}` keeps it to its owner"
+        );
+    }
+}
+
 fn main(rt: HostRuntime) -> ExitCode {
     let Ok(words) = words(&rt) else {
         return ExitCode::from(5);
@@ -36,7 +62,7 @@ fn main(rt: HostRuntime) -> ExitCode {
     let mut out = RealSink::new(rt.stdout());
     let mut store = RealStore::new(&rt);
     let mut clock = RealClock::new(&rt);
-    ExitCode::from(run(
+    let status = run(
         &rt,
         rt.alloc(),
         &words,
@@ -44,5 +70,10 @@ fn main(rt: HostRuntime) -> ExitCode {
         &mut out,
         &mut store,
         &mut clock,
-    ))
+    );
+    match ring_file(words.as_slice()) {
+        Some(path) if status != FAULTY => tell_of_open_file(&rt, path),
+        _ => {}
+    }
+    ExitCode::from(status)
 }

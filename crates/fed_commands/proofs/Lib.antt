@@ -3,8 +3,8 @@ pub mod FindingLaws
 pub mod KeygenLaws
 pub mod ReadLaws
 pub mod ReplyLaws
-pub mod RingForms
 pub mod RingLaws
+pub mod RotateLaws
 pub mod SealingLaws
 pub mod StreamLaws
 pub mod TopLaws

@@ -1,6 +1,6 @@
 -- A command has one reply on its file and its input, and what was read gives it.
-use Rattle.std.proofs.Common.{◌≡◌, ◌≤◌, ℕ, List, [], ◌∷◌, ◌++◌, codes, cond, nat_lt, not, lit≤, Bool, Option, Some, None, true, false, refl, sym, ap, ◌∙◌, subst, inl, inr, arith}
-use Rattle.std.specs.Prelude.{IsTrue, IfSome, unwrap_or}
+use Rattle.std.proofs.Common.{◌≡◌, ◌≤◌, ℕ, List, [], ◌∷◌, ◌++◌, codes, cond, not, lit≤, Bool, Option, Some, None, true, false, refl, sym, ap, ◌∙◌, subst, inl, inr, arith}
+use Rattle.std.specs.Prelude.{IsTrue, IfSome, Result, Ok, Err, unwrap_or}
 use Rattle.fed_ports.specs.Stores.{Files, IsFile}
 use Rattle.std.specs.Result.{result_ok}
 use Rattle.hex.specs.Hex.{decode_sized}
@@ -9,18 +9,26 @@ use Rattle.fed_json.specs.Forms.{whole}
 use Rattle.fed_json.specs.Reading.{tree_in}
 use Rattle.fed_commands.specs.Issues.{issue_reply, of_tree, of_object, sealed_reply}
 use Rattle.fed_commands.specs.Keygens.{keygen_reply, of_seeds, made}
+use Rattle.fed_commands.specs.Rotations.{add_reply, by_fault, change_reply, of_new_seeds}
+use Rattle.key_ring.proofs.FileLaws.{one-ring}
+use Rattle.key_ring.specs.Changes.{Change, add_key, after, fault_of, kid_added, retire_key, revoke_key}
+use Rattle.key_ring.specs.Files.{first_text}
+use Rattle.key_ring.specs.Rings.{Ring}
+use Rattle.key_ring.specs.declared.fault.RingFault.{RingFault}
+use Rattle.key_ring.specs.declared.fault.RingFault.TheVariants.{Shape, Known, Unknown, Order, StoreFault, Memory}
+use Rattle.key_ring.specs.declared.key.RevokeReason.{RevokeReason}
 use Rattle.fed_commands.specs.Answers.{named, wants_input, text_of, IsMomentFor, Readings, IsReply, MayBe, IsNamed, IsReached, IsTextRead, FixesFile, FixesInput}
 use Rattle.fed_commands.specs.Findings.{status_of, line_of}
 use Rattle.fed_commands.specs.Replies.{plain, bad_input, refused}
-use Rattle.fed_commands.specs.Rings.{IsRing}
 use Rattle.fed_commands.specs.Checks.{IsChecked, chain_in, keys_in}
-use Rattle.fed_commands.specs.Operations.{IsFileOf, IsPrepared, IsCheckPrepared, IsIssuePrepared, IsKeygenPrepared, IsPerformed, IsOutcome}
+use Rattle.fed_commands.specs.Operations.{IsFileOf, IsPrepared, IsCheckPrepared, IsKeygenPrepared, IsPerformed, IsOutcome, IsRingFound, IsRingPrepared, issue_prepared, rotate_prepared}
+use Rattle.fed_commands.specs.declared.act.Act.{Act}
+use Rattle.fed_commands.specs.declared.act.Act.TheVariants.{Add, Retire, Revoke}
 use Rattle.fed_commands.specs.declared.command.Command.{Command}
-use Rattle.fed_commands.specs.declared.command.Command.TheVariants.{Verify, Keygen, Issue, Check, Help, Version, Faulty}
+use Rattle.fed_commands.specs.declared.command.Command.TheVariants.{Verify, Keygen, Issue, Rotate, Check, Help, Version, Faulty}
 use Rattle.fed_commands.specs.declared.help.TheConstants.{HELP, VERSION}
 use Rattle.fed_commands.specs.declared.reply.Reply.{Reply}
 use Rattle.fed_commands.specs.declared.text_type.TextType.{TextType}
-use Rattle.fed_commands.specs.declared.ring.LiveKey.{LiveKey}
 use Rattle.fed_commands.specs.declared.operation.File.{File}
 use Rattle.fed_commands.specs.declared.operation.File.TheVariants.{Whole}
 use Rattle.fed_commands.specs.declared.operation.Operation.{Operation}
@@ -30,7 +38,6 @@ use Rattle.fed_commands.specs.declared.operation.Prepared.TheVariants.{Answered,
 use Rattle.jwk_set.specs.declared.set.JwkSet.{JwkSet}
 use Rattle.fed_commands.proofs.CheckLaws.{checked_once, checked_small}
 use Rattle.fed_commands.proofs.FindingLaws.{finding_once, status_small}
-use Rattle.fed_commands.proofs.RingLaws.{is_found}
 
 -- ---- what was read gives a reply
 
@@ -69,15 +76,16 @@ check_awaits file found anchor copied at keys is same keyed bytes of_file =
 
 -- ---- a command has one reply
 
-ring_once : (bytes : List ℕ) (a b : LiveKey) → IsRing bytes a → IsRing bytes b → a ≡ b
-ring_once bytes a b p q = let same = sym (is_found bytes _ a p.reads p).1 ∙ (is_found bytes _ b p.reads q).1 in cc same
+-- a file has one ring, or none
+pub found_once : (file : Option (List ℕ)) (a b : Option Ring) → IsRingFound file a → IsRingFound file b → a ≡ b
+found_once None a b p q = p ∙ sym q
+found_once (Some bytes) (Some a) (Some b) (few, p) (few', q) = ap Some (one-ring bytes a b p.0 q.0)
+found_once (Some bytes) (Some a) None (few, p) none = absurd (none a few p)
+found_once (Some bytes) None (Some b) none (few, q) = absurd (none b few q)
+found_once (Some bytes) None None none none' = refl
 
-issue_once : (typ : TextType) (file : Option (List ℕ)) (a b : Prepared) → IsIssuePrepared typ file a → IsIssuePrepared typ file b → a ≡ b
-issue_once typ None a b p q = p ∙ sym q
-issue_once typ (Some bytes) a b (inl (k, few, r, e)) (inl (l, few', s, d)) = e ∙ (ap (λ z. WantsInput (operation.Issue z.seeds typ)) (ring_once bytes k l r s) ∙ sym d)
-issue_once typ (Some bytes) a b (inl (k, few, r, e)) (inr (none, d)) = absurd (none k few r)
-issue_once typ (Some bytes) a b (inr (none, e)) (inl (k, few, r, d)) = absurd (none k few r)
-issue_once typ (Some bytes) a b (inr (none, e)) (inr (none', d)) = e ∙ sym d
+ring_once : (make : Option Ring → Prepared) (file : Option (List ℕ)) (a b : Prepared) → IsRingPrepared make file a → IsRingPrepared make file b → a ≡ b
+ring_once make file a b (k, r, e) (l, s, d) = e ∙ (ap make (found_once file k l r s) ∙ sym d)
 
 keygen_once : (at exp : ℕ) (file : Option (List ℕ)) (a b : Prepared) → IsKeygenPrepared at exp file a → IsKeygenPrepared at exp file b → a ≡ b
 keygen_once at exp None a b p q = p ∙ sym q
@@ -108,7 +116,8 @@ done_once : (work : Operation) (text : Option (List ℕ)) (r s : Reply) → IsPe
 done_once work None r s p q = p ∙ sym q
 done_once (operation.Verify key) (Some text) r s (f, p, e) (g, q, d) = e ∙ (ap (λ z. plain (status_of z) (line_of z)) (finding_once key text f g p q) ∙ sym d)
 done_once (operation.Keygen at exp) (Some text) r s p q = p ∙ sym q
-done_once (operation.Issue keys typ) (Some text) r s p q = p ∙ sym q
+done_once (operation.Issue ring typ) (Some text) r s (a, k, p) (b, l, q) = let same : Some a ≡ Some b = sym k ∙ l in p ∙ (ap (λ z. issue_reply z typ text) (cc same) ∙ sym q)
+done_once (operation.Add ring at exp) (Some text) r s p q = p ∙ sym q
 done_once (operation.Check anchor keys at) (Some text) r s p q = checks_once anchor at keys keys (Some text) r s refl p q
 
 outcome_once : (prepared : Prepared) (text : Option (List ℕ)) (r s : Reply) → IsOutcome prepared text r → IsOutcome prepared text s → r ≡ s
@@ -137,7 +146,9 @@ reply_once : (c : Command) (moment : ℕ) (x y : Option (List ℕ)) (a b : Prepa
     → IsOutcome a text r → IsOutcome b text s → r ≡ s
 reply_once (Verify key) moment x y a b text r s same p q out other = by_prepared a b text r s (p ∙ sym q) out other
 reply_once (Keygen ring at exp) moment x y a b text r s same p q out other = by_prepared a b text r s (keygen_once at exp y a b (subst (λ z. IsKeygenPrepared at exp z a) same p) q) out other
-reply_once (Issue ring typ) moment x y a b text r s same p q out other = by_prepared a b text r s (issue_once typ y a b (subst (λ z. IsIssuePrepared typ z a) same p) q) out other
+reply_once (Issue ring typ) moment x y a b text r s same p q out other = by_prepared a b text r s (ring_once (issue_prepared typ) y a b (subst (λ z. IsRingPrepared (issue_prepared typ) z a) same p) q) out other
+reply_once (Rotate ring act) moment x y a b text r s same p q out other =
+    by_prepared a b text r s (ring_once (rotate_prepared act) y a b (subst (λ z. IsRingPrepared (rotate_prepared act) z a) same p) q) out other
 reply_once (Check anchor keys at) moment x y a b text r s same p q out other =
     check_once anchor (unwrap_or at moment) y a b text r s (subst (λ z. IsCheckPrepared anchor (unwrap_or at moment) z a) same p) q out other
 reply_once Help moment x y a b text r s same p q out other = by_prepared a b text r s (p ∙ sym q) out other
@@ -152,12 +163,29 @@ same_file (Some name) files x y is fixes =
     let found : IsFile (Some fixes.0) name x = subst (λ f. IsFile f name x) fixes.1 is in
     sym found ∙ fixes.2
 
+-- what is answered before the input doesn't depend on it
+answered_outcome : (prepared : Prepared) (answer : Reply) (a b : Option (List ℕ)) (reply : Reply) → prepared ≡ Answered answer → IsOutcome prepared a reply → IsOutcome prepared b reply
+answered_outcome prepared answer a b reply is out = subst (λ s. IsOutcome s b reply) (sym is) (subst (λ s. IsOutcome s a reply) is out)
+
+-- a retirement and a revocation are answered by the ring alone
+retired : (found : Option Ring) (kid : List ℕ) → (answer : Reply) × (rotate_prepared (Retire kid) found ≡ Answered answer)
+retired None kid = (bad_input, refl)
+retired (Some ring) kid = (change_reply ring (retire_key kid) (codes "done"), refl)
+
+revoked : (found : Option Ring) (kid : List ℕ) (at : ℕ) (reason : RevokeReason) → (answer : Reply) × (rotate_prepared (Revoke kid at reason) found ≡ Answered answer)
+revoked None kid at reason = (bad_input, refl)
+revoked (Some ring) kid at reason = (change_reply ring (revoke_key kid at reason) (codes "done"), refl)
+
 -- an input that isn't wanted doesn't matter
 same_outcome : (c : Command) (moment : ℕ) (file : Option (List ℕ)) (prepared : Prepared) (a b : List ℕ) (reply : Reply) → IsPrepared c moment file prepared → (IsTrue (wants_input c) → a ≡ b)
     → IsOutcome prepared (text_of a) reply → IsOutcome prepared (text_of b) reply
 same_outcome Help moment file prepared a b reply is same out = subst (λ s. IsOutcome s (text_of b) reply) (sym is) (subst (λ s. IsOutcome s (text_of a) reply) is out)
 same_outcome Version moment file prepared a b reply is same out = subst (λ s. IsOutcome s (text_of b) reply) (sym is) (subst (λ s. IsOutcome s (text_of a) reply) is out)
 same_outcome Faulty moment file prepared a b reply is same out = subst (λ s. IsOutcome s (text_of b) reply) (sym is) (subst (λ s. IsOutcome s (text_of a) reply) is out)
+same_outcome (Rotate ring (Retire kid)) moment file prepared a b reply (found, of_file, is) same out =
+    answered_outcome prepared (retired found kid).0 (text_of a) (text_of b) reply (is ∙ (retired found kid).1) out
+same_outcome (Rotate ring (Revoke kid at reason)) moment file prepared a b reply (found, of_file, is) same out =
+    answered_outcome prepared (revoked found kid at reason).0 (text_of a) (text_of b) reply (is ∙ (revoked found kid at reason).1) out
 same_outcome c moment file prepared a b reply is same out = subst (λ z. IsOutcome prepared (text_of z) reply) (same refl) out
 
 same_input : (left : Option (List ℕ)) (a b : List ℕ) → left ≡ Some b → MayBe left a → a ≡ b
@@ -179,13 +207,34 @@ keygen_small : (at exp : ℕ) (text : List ℕ) → (keygen_reply at exp text).s
 unfolding keygen_reply
 keygen_small at exp text = of_digits (result_ok (decode_sized text 48))
   where
-    of_order : (b : Bool) (key : LiveKey) → (cond b (made key) (refused (codes "Order"))).status ≤ 2
-    of_order true key = lit≤ tt
-    of_order false key = lit≤ tt
+    of_file : (seeds : List ℕ) (file : Result (List ℕ) RingFault) → (made seeds file).status ≤ 2
+    of_file seeds (Ok file) = lit≤ tt
+    of_file seeds (Err fault) = lit≤ tt
 
     of_digits : (seeds : Option (List ℕ)) → (of_seeds at exp seeds).status ≤ 2
     of_digits None = lit≤ tt
-    of_digits (Some seeds) = of_order (nat_lt at exp) (record { seeds = seeds; iat = at; exp = exp })
+    of_digits (Some seeds) = of_file seeds (first_text seeds at exp)
+
+change_small : (ring : Ring) (change : Change) (line : List ℕ) → (change_reply ring change line).status ≤ 2
+unfolding change_reply
+change_small ring change line = of_fault (fault_of ring change)
+  where
+    of_fault : (fault : Option RingFault) → (by_fault fault (after ring change) line).status ≤ 2
+    of_fault None = lit≤ tt
+    of_fault (Some Shape) = lit≤ tt
+    of_fault (Some (Known kid)) = lit≤ tt
+    of_fault (Some (Unknown kid)) = lit≤ tt
+    of_fault (Some (Order fault)) = lit≤ tt
+    of_fault (Some StoreFault) = lit≤ tt
+    of_fault (Some Memory) = lit≤ tt
+
+add_small : (ring : Ring) (at exp : ℕ) (text : List ℕ) → (add_reply ring at exp text).status ≤ 2
+unfolding add_reply
+add_small ring at exp text = of_digits (result_ok (decode_sized text 48))
+  where
+    of_digits : (seeds : Option (List ℕ)) → (of_new_seeds ring at exp seeds).status ≤ 2
+    of_digits None = lit≤ tt
+    of_digits (Some seeds) = change_small ring (add_key seeds at exp) (kid_added seeds)
 
 issue_small : (keys : List ℕ) (typ : TextType) (text : List ℕ) → (issue_reply keys typ text).status ≤ 2
 unfolding issue_reply of_tree of_object sealed_reply
@@ -209,7 +258,8 @@ done_small : (work : Operation) (text : Option (List ℕ)) (r : Reply) → IsPer
 done_small work None r p = subst (λ z. z.status ≤ 2) (sym p) (lit≤ tt)
 done_small (operation.Verify key) (Some text) r (f, p, e) = let few = status_small f in subst (λ z. z.status ≤ 2) (sym e) (omega (arith, few))
 done_small (operation.Keygen at exp) (Some text) r p = subst (λ z. z.status ≤ 2) (sym p) (keygen_small at exp text)
-done_small (operation.Issue keys typ) (Some text) r p = subst (λ z. z.status ≤ 2) (sym p) (issue_small keys typ text)
+done_small (operation.Issue ring typ) (Some text) r (seeds, k, p) = subst (λ z. z.status ≤ 2) (sym p) (issue_small seeds typ text)
+done_small (operation.Add ring at exp) (Some text) r p = subst (λ z. z.status ≤ 2) (sym p) (add_small ring at exp text)
 done_small (operation.Check anchor keys at) (Some text) r (p, kept) = checked_small anchor at (Some keys.keys) (chain_in text) r.status r.text p
 
 done_at : (prepared : Prepared) (reply : Reply) (text : Option (List ℕ)) (r : Reply) → prepared ≡ Answered reply → IsOutcome prepared text r → r ≡ reply
@@ -218,10 +268,19 @@ done_at prepared reply text r e out = subst (λ s. IsOutcome s text r) e out
 small_at : (prepared : Prepared) (reply : Reply) (text : Option (List ℕ)) (r : Reply) → reply.status ≤ 2 → prepared ≡ Answered reply → IsOutcome prepared text r → r.status ≤ 2
 small_at prepared reply text r small e out = subst (λ z. z.status ≤ 2) (sym (done_at prepared reply text r e out)) small
 
-issue_prepared_small : (typ : TextType) (file : Option (List ℕ)) (prepared : Prepared) (text : Option (List ℕ)) (r : Reply) → IsIssuePrepared typ file prepared → IsOutcome prepared text r → r.status ≤ 2
-issue_prepared_small typ None prepared text r p out = small_at prepared bad_input text r (lit≤ tt) p out
-issue_prepared_small typ (Some bytes) prepared text r (inl (k, few, ring, e)) out = done_small (operation.Issue k.seeds typ) text r (awaits prepared (operation.Issue k.seeds typ) text r e out)
-issue_prepared_small typ (Some bytes) prepared text r (inr (none, e)) out = small_at prepared bad_input text r (lit≤ tt) e out
+issue_prepared_small : (typ : TextType) (found : Option Ring) (prepared : Prepared) (text : Option (List ℕ)) (r : Reply) → prepared ≡ issue_prepared typ found → IsOutcome prepared text r → r.status ≤ 2
+issue_prepared_small typ None prepared text r is out = small_at prepared bad_input text r (lit≤ tt) is out
+issue_prepared_small typ (Some ring) prepared text r is out = done_small (operation.Issue ring typ) text r (awaits prepared (operation.Issue ring typ) text r is out)
+
+rotate_prepared_small : (act : Act) (found : Option Ring) (prepared : Prepared) (text : Option (List ℕ)) (r : Reply) → prepared ≡ rotate_prepared act found → IsOutcome prepared text r → r.status ≤ 2
+rotate_prepared_small (Add at exp) None prepared text r is out = small_at prepared bad_input text r (lit≤ tt) is out
+rotate_prepared_small (Retire kid) None prepared text r is out = small_at prepared bad_input text r (lit≤ tt) is out
+rotate_prepared_small (Revoke kid at reason) None prepared text r is out = small_at prepared bad_input text r (lit≤ tt) is out
+rotate_prepared_small (Add at exp) (Some ring) prepared text r is out = done_small (operation.Add ring at exp) text r (awaits prepared (operation.Add ring at exp) text r is out)
+rotate_prepared_small (Retire kid) (Some ring) prepared text r is out =
+    small_at prepared (change_reply ring (retire_key kid) (codes "done")) text r (change_small ring (retire_key kid) (codes "done")) is out
+rotate_prepared_small (Revoke kid at reason) (Some ring) prepared text r is out =
+    small_at prepared (change_reply ring (revoke_key kid at reason) (codes "done")) text r (change_small ring (revoke_key kid at reason) (codes "done")) is out
 
 keygen_prepared_small : (at exp : ℕ) (file : Option (List ℕ)) (prepared : Prepared) (text : Option (List ℕ)) (r : Reply) → IsKeygenPrepared at exp file prepared → IsOutcome prepared text r → r.status ≤ 2
 keygen_prepared_small at exp None prepared text r p out = done_small (operation.Keygen at exp) text r (awaits prepared (operation.Keygen at exp) text r p out)
@@ -237,7 +296,8 @@ check_prepared_small anchor at (Some bytes) prepared text r (inr (none, e)) out 
 pub reply_small : (c : Command) (moment : ℕ) (file : Option (List ℕ)) (prepared : Prepared) (text : Option (List ℕ)) (r : Reply) → IsPrepared c moment file prepared → IsOutcome prepared text r → r.status ≤ 2
 reply_small (Verify key) moment file prepared text r p out = done_small (operation.Verify key) text r (awaits prepared (operation.Verify key) text r p out)
 reply_small (Keygen ring at exp) moment file prepared text r p out = keygen_prepared_small at exp file prepared text r p out
-reply_small (Issue ring typ) moment file prepared text r p out = issue_prepared_small typ file prepared text r p out
+reply_small (Issue ring typ) moment file prepared text r (found, of_file, is) out = issue_prepared_small typ found prepared text r is out
+reply_small (Rotate ring act) moment file prepared text r (found, of_file, is) out = rotate_prepared_small act found prepared text r is out
 reply_small (Check anchor keys at) moment file prepared text r p out = check_prepared_small anchor (unwrap_or at moment) file prepared text r p out
 reply_small Help moment file prepared text r p out = small_at prepared (plain 0 HELP.now) text r (lit≤ tt) p out
 reply_small Version moment file prepared text r p out = small_at prepared (plain 0 VERSION.now) text r (lit≤ tt) p out
@@ -267,9 +327,15 @@ reached_at c before now moment files left left' reply is reached =
 
 -- ---- its input
 
+answers_never : (answer : Reply) (work : Operation) → WantsInput work ≡ Answered answer → ⊥
+answers_never answer work is = cc is
+
 -- a command that wants no input is answered by its file
 pub never_wanted : (c : Command) (moment : ℕ) (file : Option (List ℕ)) (work : Operation) → wants_input c ≡ false → IsPrepared c moment file (WantsInput work) → ⊥
 never_wanted Help moment file work unwanted is = cc is
 never_wanted Version moment file work unwanted is = cc is
 never_wanted Faulty moment file work unwanted is = cc is
+never_wanted (Rotate ring (Retire kid)) moment file work unwanted (found, of_file, is) = answers_never (retired found kid).0 work (is ∙ (retired found kid).1)
+never_wanted (Rotate ring (Revoke kid at reason)) moment file work unwanted (found, of_file, is) =
+    answers_never (revoked found kid at reason).0 work (is ∙ (revoked found kid at reason).1)
 never_wanted c moment file work unwanted is = cc unwanted

@@ -1,37 +1,50 @@
--- What a ring of one key has is found in it again, and nothing else is.
-use Rattle.std.proofs.Common.{◌≡◌, ◌<◌, ℕ, pos, List, cond, Some, None, length, refl, sym, ap, ◌∙◌, arith}
-use Rattle.std.proofs.lemmas.Bool.{lt-ltb}
-use Rattle.std.specs.Option.{option_and_then}
-use Rattle.std.specs.Result.{result_ok}
-use Rattle.hex.specs.Hex.{encode_lower, decode_sized, IsBytes}
-use Rattle.hex.proofs.HexLemmas.{decode_sized-encode_lower}
-use Rattle.fed_base.specs.Moments.{moment_limit}
-use Rattle.fed_json.specs.declared.tree.Json.{Json, Int, Text}
-use Rattle.fed_json.specs.Reading.{tree_in}
-use Rattle.fed_json.specs.Trees.{as_text, count_below, if_below}
-use Rattle.fed_json.proofs.Accessors.{as_text-Text, as_int-Int, as_list-List, as_object-Object}
-use Rattle.fed_commands.specs.Rings.{IsRing, live_key, ring_tree, key_fields, key_in, fields_in}
-use Rattle.fed_commands.specs.declared.ring.LiveKey.{LiveKey}
+-- The ring of a file.
+use Rattle.std.proofs.Common.{◌≡◌, ℕ, List, Some, None, refl, sym, ap, ◌∙◌, subst, arith}
+use Rattle.std.specs.Prelude.{Option, Err}
+use Rattle.key_ring.proofs.FileLaws.{one-ring}
+use Rattle.key_ring.specs.Files.{Opens, repeated_in}
+use Rattle.key_ring.specs.Rings.{Ring}
+use Rattle.key_ring.specs.declared.fault.RingFault.{RingFault}
+use Rattle.key_ring.specs.declared.fault.RingFault.TheVariants.{Shape, Known, Unknown, Order, StoreFault, Memory}
+use Rattle.fed_commands.specs.Operations.{IsFileOf, IsOpened, IsRingFound}
+use Rattle.fed_commands.specs.declared.operation.File.{File}
+use Rattle.fed_commands.specs.declared.operation.File.TheVariants.{Absent, TooLong, Whole}
 
--- a moment is read from its number
-counted : (n : ℕ) → n < moment_limit → count_below moment_limit (Int (pos n)) ≡ Some n
-counted n small = ap (if_below moment_limit) (as_int-Int (pos n)) ∙ ap (λ b. cond b (Some n) None) (lt-ltb n moment_limit small)
+-- no ring is opened where another answer was given
+pub unopened : (bytes : List ℕ) (fault : RingFault) → Opens bytes (Err fault) → (fault ≡ Memory → ⊥) → (ring : Ring) → ¬ IsOpened bytes ring
+unopened bytes Shape opens other = λ ring opened. opens ring opened.0
+unopened bytes (Known kid) (again, file, twice) other = λ ring opened.
+    let same : None ≡ Some kid = sym opened.1 ∙ (ap repeated_in (one-ring bytes ring again opened.0 file) ∙ twice) in
+    cc same
+unopened bytes (Unknown kid) opens other = absurd opens
+unopened bytes (Order fault) opens other = absurd opens
+unopened bytes StoreFault opens other = absurd opens
+unopened bytes Memory opens other = absurd (other refl)
 
--- and the seeds from their digits
-seeded : (seeds : List ℕ) → length seeds ≡ 48 → IsBytes seeds → option_and_then (λ text. result_ok (decode_sized text 48)) (as_text (Text (encode_lower seeds))) ≡ Some seeds
-seeded seeds size bytes =
-    ap (option_and_then (λ text. result_ok (decode_sized text 48))) (as_text-Text (encode_lower seeds)) ∙ ap result_ok (decode_sized-encode_lower seeds 48 size bytes)
+-- what was looked at isn't a file that was read whole
+pub not_whole : (file : File) (bytes : Option (List ℕ)) → ((read : List ℕ) → file ≡ Whole read → ⊥) → IsFileOf file bytes → IsRingFound bytes None
+not_whole Absent bytes other is = subst (λ b. IsRingFound b None) (sym is) refl
+not_whole TooLong bytes other (read, is, long) = subst (λ b. IsRingFound b None) (sym is) (λ ring short. absurd (omega (arith, long, short)))
+not_whole (Whole read) bytes other is = absurd (other read refl)
 
--- what a ring has is found in it
-pub found_again : (key : LiveKey) → key.iat < moment_limit → key.exp < moment_limit → length key.seeds ≡ 48 → IsBytes key.seeds → fields_in (ring_tree key) ≡ Some key
-unfolding fields_in key_in key_fields ring_tree live_key
-found_again key iat exp size bytes =
-    rw (as_object-Object, as_list-List, as_object-Object, seeded key.seeds size bytes, counted key.iat iat, counted key.exp exp) refl
+-- a file that was read whole has the ring that was opened
+pub opened_found : (file : File) (read : List ℕ) (bytes : Option (List ℕ)) (ring : Ring) → file ≡ Whole read → IsFileOf file bytes → IsOpened read ring → IsRingFound bytes (Some ring)
+opened_found file read bytes ring whole is opened =
+    let there : IsFileOf (Whole read) bytes = subst (λ f. IsFileOf f bytes) whole is in
+    subst (λ b. IsRingFound b (Some ring)) (sym there.0) (there.1, opened)
 
--- and nothing else is
-pub is_found : (text : List ℕ) (tree : Json) (key : LiveKey) → tree_in text ≡ Some tree → IsRing text key → (tree ≡ ring_tree key) × (fields_in tree ≡ Some key)
-is_found text tree key read ring =
-    let same : tree ≡ ring_tree key = cc (sym read ∙ ring.reads) in
-    let order = ring.order in
-    let small = ring.small in
-    (same, ap fields_in same ∙ found_again key (omega (arith, order, small)) small ring.size ring.octets)
+-- or none
+pub unopened_found : (file : File) (read : List ℕ) (bytes : Option (List ℕ)) (fault : RingFault) → file ≡ Whole read → IsFileOf file bytes → Opens read (Err fault) → (fault ≡ Memory → ⊥)
+    → IsRingFound bytes None
+unopened_found file read bytes fault whole is opens other =
+    let there : IsFileOf (Whole read) bytes = subst (λ f. IsFileOf f bytes) whole is in
+    subst (λ b. IsRingFound b None) (sym there.0) (λ ring short. unopened read fault opens other ring)
+
+pub shape_found : (file : File) (read : List ℕ) (bytes : Option (List ℕ)) (fault : RingFault) → file ≡ Whole read → IsFileOf file bytes → Opens read (Err fault) → fault ≡ Shape → IsRingFound bytes None
+shape_found file read bytes fault whole is opens shape =
+    unopened_found file read bytes fault whole is opens (λ memory. let e : Shape ≡ Memory = sym shape ∙ memory in cc e)
+
+pub known_found : (file : File) (read : List ℕ) (bytes : Option (List ℕ)) (fault : RingFault) (kid : List ℕ) → file ≡ Whole read → IsFileOf file bytes → Opens read (Err fault)
+    → fault ≡ Known kid → IsRingFound bytes None
+known_found file read bytes fault kid whole is opens known =
+    unopened_found file read bytes fault whole is opens (λ memory. let e : Known kid ≡ Memory = sym known ∙ memory in cc e)

@@ -1,12 +1,14 @@
 -- What `issue` answers is sealed, from its reply to the end of the run.
 use Rattle.std.proofs.Common.{◌≡◌, ℕ, suc, List, sym, ap, ◌∙◌, subst, inl, inr, arith}
-use Rattle.std.specs.Prelude.{Option, Some, None}
+use Rattle.std.specs.Prelude.{Option, Some, None, Result, Ok, Err, IfOk}
 use Rattle.fed_ports.specs.Bytes.{Appends}
 use Rattle.fed_ports.specs.Stores.{Files}
+use Rattle.key_ring.specs.Rings.{Ring}
+use Rattle.key_ring.specs.Sets.{signer_seeds}
 use Rattle.fed_commands.specs.Answers.{IsEnded, IsNamed, Output}
 use Rattle.fed_commands.specs.Replies.{bad_input}
-use Rattle.fed_commands.specs.Sealings.{IsSealedReply, IsSealedFrom, RepliesSealed, IssuesSealed}
-use Rattle.fed_commands.specs.Operations.{IsPrepared, IsIssuePrepared}
+use Rattle.fed_commands.specs.Sealings.{IsSealedBySigner, IsSealedReply, IsSealedFrom, RepliesSealed, IssuesSealed}
+use Rattle.fed_commands.specs.Operations.{IsPrepared, IsRingFound, issue_prepared}
 use Rattle.fed_commands.specs.declared.command.Command.{Command}
 use Rattle.fed_commands.specs.declared.command.Command.TheVariants.{Issue}
 use Rattle.fed_commands.specs.declared.reply.Reply.{Reply}
@@ -20,42 +22,49 @@ not_zero n status is zero = absurd (omega (arith, is, zero))
 
 -- ---- the reply of a command
 
-done_at_issue : (typ : TextType) (file : Option (List ℕ)) (reply : Reply) → IsIssuePrepared typ file (Answered reply) → reply.status ≡ 2
+done_at_issue : (typ : TextType) (found : Option Ring) (reply : Reply) → Answered reply ≡ issue_prepared typ found → reply.status ≡ 2
 done_at_issue typ None reply is = let same : reply ≡ bad_input = cc is in ap (λ z. z.status) same
-done_at_issue typ (Some bytes) reply (inl (key, few, ring, is)) = absurd (never is)
-  where
-    never : Answered reply ≡ WantsInput (operation.Issue key.seeds typ) → ⊥
-    never e = cc e
-done_at_issue typ (Some bytes) reply (inr (none, is)) = let same : reply ≡ bad_input = cc is in ap (λ z. z.status) same
+done_at_issue typ (Some ring) reply is = absurd (cc is)
 
 -- a reply before the input is none
 pub done_sealed : (c : Command) (moment : ℕ) (files : Option Files) (file : Option (List ℕ)) (reply : Reply) → IsPrepared c moment file (Answered reply) → RepliesSealed c files reply
-done_sealed c moment files file reply is = λ ring typ same zero.
-    absurd (not_zero 1 reply.status (done_at_issue typ file reply (subst (λ z. IsPrepared z moment file (Answered reply)) same is)) zero)
+done_sealed c moment files file reply is = λ name typ same zero.
+    let (found, of_file, made) = subst (λ z. IsPrepared z moment file (Answered reply)) same is in
+    absurd (not_zero 1 reply.status (done_at_issue typ found reply made) zero)
 
-awaited_issue : (ring : List ℕ) (typ : TextType) (files : Option Files) (file : Option (List ℕ)) (work : Operation) (reply : Reply) → IsNamed (Issue ring typ) files file → IsIssuePrepared typ file (WantsInput work)
-    → ((seeds : List ℕ) (kind : TextType) → work ≡ operation.Issue seeds kind → IsSealedReply seeds reply) → IsSealedFrom ring files reply
-awaited_issue ring typ files None work reply named is sealed = cc is
-awaited_issue ring typ files (Some bytes) work reply named (inl (key, few, of_ring, is)) sealed =
-    let same : work ≡ operation.Issue key.seeds typ = cc is in λ zero. (bytes, key, named, of_ring, sealed key.seeds typ same zero)
-awaited_issue ring typ files (Some bytes) work reply named (inr (none, is)) sealed = cc is
+by_signer : (name : List ℕ) (typ : TextType) (files : Option Files) (file : Option (List ℕ)) (found : Option Ring) (work : Operation) (reply : Reply) → IsNamed (Issue name typ) files file → IsRingFound file found
+    → WantsInput work ≡ issue_prepared typ found → ((ring : Ring) (kind : TextType) → work ≡ operation.Issue ring kind → IsSealedBySigner ring reply) → IsSealedFrom name files reply
+by_signer name typ files file None work reply named of_file is sealed = absurd (cc is)
+by_signer name typ files None (Some ring) work reply named of_file is sealed = absurd (cc of_file)
+by_signer name typ files (Some bytes) (Some ring) work reply named (few, opened) is sealed =
+    let same : work ≡ operation.Issue ring typ = cc is in λ zero. let (seeds, signs, line) = sealed ring typ same zero in (bytes, ring, seeds, named, opened, signs, line)
 
--- a reply on the input is by the key of the ring
+-- a reply on the input is by the signer of the ring
 pub awaited_sealed : (c : Command) (moment : ℕ) (files : Option Files) (file : Option (List ℕ)) (work : Operation) (reply : Reply) → IsNamed c files file
-    → IsPrepared c moment file (WantsInput work) → ((seeds : List ℕ) (kind : TextType) → work ≡ operation.Issue seeds kind → IsSealedReply seeds reply) → RepliesSealed c files reply
-awaited_sealed c moment files file work reply named is sealed = λ ring typ same.
-    awaited_issue ring typ files file work reply (subst (λ z. IsNamed z files file) same named) (subst (λ z. IsPrepared z moment file (WantsInput work)) same is) sealed
+    → IsPrepared c moment file (WantsInput work) → ((ring : Ring) (kind : TextType) → work ≡ operation.Issue ring kind → IsSealedBySigner ring reply) → RepliesSealed c files reply
+awaited_sealed c moment files file work reply named is sealed = λ name typ same.
+    let (found, of_file, made) = subst (λ z. IsPrepared z moment file (WantsInput work)) same is in
+    by_signer name typ files file found work reply (subst (λ z. IsNamed z files file) same named) of_file made sealed
+
+-- claims that are sealed by the signer's key are sealed by the signer
+pub sealed_by_signer : {E : Type 0} (result : Result Reply E) (work : Operation) (held ring : Ring) (typ kind : TextType) (seeds : List ℕ) → work ≡ operation.Issue held typ → signer_seeds held ≡ Some seeds
+    → IfOk result (IsSealedReply seeds) → work ≡ operation.Issue ring kind → IfOk result (IsSealedBySigner ring)
+sealed_by_signer (Ok reply) work held ring typ kind seeds is signs sealed also =
+    let both : operation.Issue held typ ≡ operation.Issue ring kind = sym is ∙ also in
+    let same : held ≡ ring = cc both in
+    λ zero. (seeds, subst (λ r. signer_seeds r ≡ Some seeds) same signs, sealed zero)
+sealed_by_signer (Err e) work held ring typ kind seeds is signs sealed also = tt
 
 -- ---- the end of a run
 
 -- a run that didn't end with 0 tells of no text
 pub stopped_sealed : (c : Command) (files : Option Files) (held held' : Option (List ℕ)) (status n : ℕ) → status ≡ suc n → IssuesSealed c files held held' status
-stopped_sealed c files held held' status n is = λ ring typ same zero. absurd (not_zero n status is zero)
+stopped_sealed c files held held' status n is = λ name typ same zero. absurd (not_zero n status is zero)
 
 written_sealed : (c : Command) (files : Option Files) (held held' : Option (List ℕ)) (reply : Reply) (status : ℕ) → RepliesSealed c files reply → status ≡ reply.status
     → Appends held held' reply.text → IssuesSealed c files held held' status
-written_sealed c files held held' reply status sealed is written = λ ring typ same zero.
-    let (bytes, key, file, of_ring, line) = sealed ring typ same (sym is ∙ zero) in (bytes, key, reply.text, file, of_ring, written, line)
+written_sealed c files held held' reply status sealed is written = λ name typ same zero.
+    let (bytes, opened, seeds, file, of_ring, signs, line) = sealed name typ same (sym is ∙ zero) in (bytes, opened, seeds, reply.text, file, of_ring, signs, written, line)
 
 -- what a run with a reply wrote is that reply
 pub ended_sealed : (c : Command) (r : Reply) (x y : Output) (status : ℕ) → RepliesSealed c x.files r → IsEnded c r x y status → IssuesSealed c x.files x.held y.held status

@@ -8,18 +8,20 @@ use Rattle.fed_ports.specs.Times.{Told}
 use Rattle.fed_base.specs.declared.faults.Failed.{Failed}
 use Rattle.fed_commands.specs.declared.answer.Stop.{Stop}
 use Rattle.fed_commands.specs.declared.answer.Stop.TheVariants.{Source, Store, Memory}
+use Rattle.fed_commands.specs.declared.act.Act.TheVariants.{Retire, Revoke}
 use Rattle.fed_commands.specs.declared.command.Command.{Command}
-use Rattle.fed_commands.specs.declared.command.Command.TheVariants.{Keygen, Issue, Check, Help, Version, Faulty}
+use Rattle.fed_commands.specs.declared.command.Command.TheVariants.{Keygen, Issue, Rotate, Check, Help, Version, Faulty}
 use Rattle.fed_commands.specs.declared.reply.Reply.{Reply}
 use Rattle.fed_commands.specs.declared.operation.Prepared.{Prepared}
 use Rattle.fed_commands.specs.declared.operation.Prepared.TheVariants.{Answered, WantsInput}
 use Rattle.fed_commands.specs.Operations.{IsPrepared, IsOutcome}
 use Rattle.fed_commands.specs.Streams.{without_line_end}
 
--- the file that a command names: each looks at it, and `keygen` keeps it
+-- the file that a command names: each looks at it, and `keygen` and `rotate` keep it
 abbrev pub named : Command → Option (List ℕ)
 named (Keygen ring at exp) = Some ring
 named (Issue ring typ) = Some ring
+named (Rotate ring act) = Some ring
 named (Check anchor keys at) = Some keys
 named command = None
 
@@ -28,6 +30,8 @@ abbrev pub wants_input : Command → Bool
 wants_input Help = false
 wants_input Version = false
 wants_input Faulty = false
+wants_input (Rotate ring (Retire kid)) = false
+wants_input (Rotate ring (Revoke kid at reason)) = false
 wants_input command = true
 
 -- the command reads the clock: a check without a moment of its own

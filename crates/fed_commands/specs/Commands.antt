@@ -3,11 +3,13 @@ use Rattle.std.specs.Prelude.{ℕ, List, [], ◌∷◌, ◌==◌, ◌&&◌, ◌|
 use Rattle.std.specs.Option.{option_and_then}
 use Rattle.base64url.specs.Base64url.{decoded_32}
 use Rattle.entity_id.specs.Identifiers.{identifier_of}
+use Rattle.fed_commands.specs.Acts.{act_in}
 use Rattle.fed_commands.specs.Issues.{type_of}
 use Rattle.fed_commands.specs.Options.{option_in, moment_in}
+use Rattle.fed_commands.specs.declared.act.Act.{Act}
 use Rattle.fed_commands.specs.declared.command.Command.{Command}
 use Rattle.fed_commands.specs.declared.text_type.TextType.{TextType}
-use Rattle.fed_commands.specs.declared.command.Command.TheVariants.{Verify, Keygen, Issue, Check, Help, Version, Faulty}
+use Rattle.fed_commands.specs.declared.command.Command.TheVariants.{Verify, Keygen, Issue, Rotate, Check, Help, Version, Faulty}
 
 -- a flag stands alone
 unfoldable pub flag_of : List ℕ → List (List ℕ) → Command
@@ -48,6 +50,16 @@ issue_with None typ = Faulty
 unfoldable pub issue_of : List (List ℕ) → Command
 issue_of words = if length words == 4 then issue_with (option_in (codes "--ring") words) (option_and_then type_of (option_in (codes "--typ") words)) else Faulty
 
+-- the command, where the file and the change are there
+abbrev pub rotate_with : Option (List ℕ) → Option Act → Command
+rotate_with (Some ring) (Some act) = Rotate ring act
+rotate_with (Some ring) None = Faulty
+rotate_with None act = Faulty
+
+-- a ring file and a change of its ring
+unfoldable pub rotate_of : List (List ℕ) → Command
+rotate_of words = rotate_with (option_in (codes "--ring") words) (act_in words)
+
 -- the command, where the anchor and the file are there; a moment may be absent
 abbrev pub check_with : Option (List ℕ) → Option (List ℕ) → Option ℕ → Command
 check_with (Some anchor) (Some keys) at = Check anchor keys at
@@ -67,8 +79,9 @@ verb_of verb words =
     if bytes_eq verb (codes "verify") then verify_of words
     else (if bytes_eq verb (codes "keygen") then keygen_of words
     else (if bytes_eq verb (codes "issue") then issue_of words
+    else (if bytes_eq verb (codes "rotate") then rotate_of words
     else (if bytes_eq verb (codes "check") then check_of words
-    else flag_of verb words)))
+    else flag_of verb words))))
 
 -- the words after the program's name
 unfoldable pub command_of : List (List ℕ) → Command

@@ -1,3 +1,4 @@
+pub mod Acts
 pub mod Answers
 pub mod Checks
 pub mod Commands
@@ -8,6 +9,6 @@ pub mod Keygens
 pub mod Operations
 pub mod Options
 pub mod Replies
-pub mod Rings
+pub mod Rotations
 pub mod Sealings
 pub mod Streams

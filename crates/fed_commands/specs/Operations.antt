@@ -1,24 +1,29 @@
 -- What each command makes of its file, and then of its input.
-use Rattle.std.specs.Prelude.{◌≡◌, ◌≤◌, ◌<◌, ◌⊎◌, ℕ, List, [], ◌∷◌, ◌++◌, length, codes, Option, Some, None, unwrap_or}
+use Rattle.std.specs.Prelude.{◌≡◌, ◌≤◌, ◌<◌, ◌⊎◌, ℕ, List, [], ◌∷◌, ◌++◌, length, codes, Option, Some, None, Ok, unwrap_or}
 use Rattle.fed_ports.specs.Stores.{file_limit}
+use Rattle.key_ring.specs.Changes.{retire_key, revoke_key}
+use Rattle.key_ring.specs.Files.{Opens}
+use Rattle.key_ring.specs.Rings.{Ring}
+use Rattle.key_ring.specs.Sets.{signer_seeds}
+use Rattle.fed_commands.specs.declared.act.Act.{Act}
+use Rattle.fed_commands.specs.declared.act.Act.TheVariants.{Add, Retire, Revoke}
 use Rattle.fed_commands.specs.declared.command.Command.{Command}
-use Rattle.fed_commands.specs.declared.command.Command.TheVariants.{Verify, Keygen, Issue, Check, Help, Version, Faulty}
+use Rattle.fed_commands.specs.declared.command.Command.TheVariants.{Verify, Keygen, Issue, Rotate, Check, Help, Version, Faulty}
 use Rattle.fed_commands.specs.declared.help.TheConstants.{HELP, VERSION}
 use Rattle.fed_commands.specs.declared.reply.Reply.{Reply}
-use Rattle.fed_commands.specs.declared.ring.LiveKey.{LiveKey}
 use Rattle.fed_commands.specs.declared.operation.File.{File}
 use Rattle.fed_commands.specs.declared.operation.File.TheVariants.{Absent, TooLong, Whole}
 use Rattle.fed_commands.specs.declared.operation.Operation.{Operation}
 use Rattle.fed_commands.specs.declared.operation.Operation.TheVariants as operation
 use Rattle.fed_commands.specs.declared.operation.Prepared.{Prepared}
+use Rattle.fed_commands.specs.declared.text_type.TextType.{TextType}
 use Rattle.fed_commands.specs.declared.operation.Prepared.TheVariants.{Answered, WantsInput}
 use Rattle.fed_commands.specs.Checks.{IsChecked, chain_in, keys_in}
-use Rattle.fed_commands.specs.declared.text_type.TextType.{TextType}
 use Rattle.fed_commands.specs.Findings.{IsVerified}
 use Rattle.fed_commands.specs.Issues.{issue_reply}
 use Rattle.fed_commands.specs.Keygens.{keygen_reply}
 use Rattle.fed_commands.specs.Replies.{plain, bad_input, refused}
-use Rattle.fed_commands.specs.Rings.{IsRing}
+use Rattle.fed_commands.specs.Rotations.{add_reply, change_reply}
 use Rattle.jwk_set.specs.declared.set.JwkSet.{JwkSet}
 
 -- the file that was looked at: none, one that is too long, or its bytes
@@ -27,12 +32,31 @@ IsFileOf Absent file = file ≡ None
 IsFileOf TooLong file = (bytes : List ℕ) × (file ≡ Some bytes) × (file_limit < length bytes)
 IsFileOf (Whole bytes) file = (file ≡ Some bytes) × (length bytes ≤ file_limit)
 
--- claims wait to be sealed by the key of a ring file; another file, one that is too long, or none isn't of the form
-abbrev pub IsIssuePrepared : TextType → Option (List ℕ) → Prepared → Type 0
-IsIssuePrepared typ None prepared = prepared ≡ Answered bad_input
-IsIssuePrepared typ (Some bytes) prepared =
-    ((key : LiveKey) × (length bytes ≤ file_limit) × IsRing bytes key × (prepared ≡ WantsInput (operation.Issue key.seeds typ)))
-    ⊎ (((key : LiveKey) → length bytes ≤ file_limit → ¬ IsRing bytes key) × (prepared ≡ Answered bad_input))
+-- a file is that of this ring, and no key stands twice in it
+abbrev pub IsOpened : List ℕ → Ring → Type 0
+IsOpened bytes ring = Opens bytes (Ok ring)
+
+-- the ring of a file, and none where there is no file, or one that is too long or that of no ring
+abbrev pub IsRingFound : Option (List ℕ) → Option Ring → Type 0
+IsRingFound None found = found ≡ None
+IsRingFound (Some bytes) (Some ring) = (length bytes ≤ file_limit) × IsOpened bytes ring
+IsRingFound (Some bytes) None = (ring : Ring) → length bytes ≤ file_limit → ¬ IsOpened bytes ring
+
+-- claims wait to be sealed by the signer of a ring, as a text of this type
+abbrev pub issue_prepared : TextType → Option Ring → Prepared
+issue_prepared typ (Some ring) = WantsInput (operation.Issue ring typ)
+issue_prepared typ None = Answered bad_input
+
+-- seeds wait to be added to a ring; another change is made of the ring alone
+abbrev pub rotate_prepared : Act → Option Ring → Prepared
+rotate_prepared (Add at exp) (Some ring) = WantsInput (operation.Add ring at exp)
+rotate_prepared (Retire kid) (Some ring) = Answered (change_reply ring (retire_key kid) (codes "done"))
+rotate_prepared (Revoke kid at reason) (Some ring) = Answered (change_reply ring (revoke_key kid at reason) (codes "done"))
+rotate_prepared act None = Answered bad_input
+
+-- what is made of the ring of a file
+abbrev pub IsRingPrepared : (Option Ring → Prepared) → Option (List ℕ) → Prepared → Type 0
+IsRingPrepared make file prepared = (found : Option Ring) × IsRingFound file found × (prepared ≡ make found)
 
 -- a key is made only where no file has the ring's name
 abbrev pub IsKeygenPrepared : ℕ → ℕ → Option (List ℕ) → Prepared → Type 0
@@ -50,17 +74,23 @@ IsCheckPrepared anchor at (Some bytes) prepared =
 abbrev pub IsPrepared : Command → ℕ → Option (List ℕ) → Prepared → Type 0
 IsPrepared (Verify key) moment file prepared = prepared ≡ WantsInput (operation.Verify key)
 IsPrepared (Keygen ring at exp) moment file prepared = IsKeygenPrepared at exp file prepared
-IsPrepared (Issue ring typ) moment file prepared = IsIssuePrepared typ file prepared
+IsPrepared (Issue ring typ) moment file prepared = IsRingPrepared (issue_prepared typ) file prepared
+IsPrepared (Rotate ring act) moment file prepared = IsRingPrepared (rotate_prepared act) file prepared
 IsPrepared (Check anchor keys at) moment file prepared = IsCheckPrepared anchor (unwrap_or at moment) file prepared
 IsPrepared Help moment file prepared = prepared ≡ Answered (plain 0 HELP.now)
 IsPrepared Version moment file prepared = prepared ≡ Answered (plain 0 VERSION.now)
 IsPrepared Faulty moment file prepared = prepared ≡ Answered (plain 2 (codes "words" ++ 10 ∷ []))
 
+-- claims are sealed by the ring's signer, as a text of this type
+abbrev pub IsIssued : Ring → TextType → List ℕ → Reply → Type 0
+IsIssued ring typ text reply = (seeds : List ℕ) × (signer_seeds ring ≡ Some seeds) × (reply ≡ issue_reply seeds typ text)
+
 -- the reply of an operation on a text that was read whole
 abbrev pub IsPerformedOn : Operation → List ℕ → Reply → Type 0
 IsPerformedOn (operation.Verify key) text reply = IsVerified key text reply
 IsPerformedOn (operation.Keygen at exp) text reply = reply ≡ keygen_reply at exp text
-IsPerformedOn (operation.Issue keys typ) text reply = reply ≡ issue_reply keys typ text
+IsPerformedOn (operation.Issue ring typ) text reply = IsIssued ring typ text reply
+IsPerformedOn (operation.Add ring at exp) text reply = reply ≡ add_reply ring at exp text
 IsPerformedOn (operation.Check anchor keys at) text reply = IsChecked anchor at (Some keys.keys) (chain_in text) reply.status reply.text × (reply.kept ≡ None)
 
 -- what is made of an input without its line end, or of one that is too long

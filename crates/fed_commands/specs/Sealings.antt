@@ -2,13 +2,14 @@
 use Rattle.std.specs.Prelude.{◌≡◌, ℕ, List, [], ◌∷◌, ◌++◌, Option, Some}
 use Rattle.fed_ports.specs.Bytes.{Appends}
 use Rattle.fed_ports.specs.Stores.{Files, IsFile}
+use Rattle.key_ring.specs.Rings.{Ring}
+use Rattle.key_ring.specs.Sets.{signer_seeds}
 use Rattle.sealed.specs.Sealing.{IsSealedFor}
 use Rattle.fed_commands.specs.declared.command.Command.{Command}
 use Rattle.fed_commands.specs.declared.command.Command.TheVariants.{Issue}
 use Rattle.fed_commands.specs.declared.reply.Reply.{Reply}
-use Rattle.fed_commands.specs.declared.ring.LiveKey.{LiveKey}
 use Rattle.fed_commands.specs.declared.text_type.TextType.{TextType}
-use Rattle.fed_commands.specs.Rings.{IsRing}
+use Rattle.fed_commands.specs.Operations.{IsOpened}
 
 -- a line is a text that each set seals in which the key of these seeds stands under its thumbprint (RFC 7638), up to 262,144 bytes,
 -- and its line end
@@ -19,18 +20,23 @@ IsSealedLine seeds line = (text : List ℕ) × (line ≡ text ++ 10 ∷ []) × I
 abbrev pub IsSealedReply : List ℕ → Reply → Type 0
 IsSealedReply seeds reply = reply.status ≡ 0 → IsSealedLine seeds reply.text
 
--- a reply with status 0 is so sealed by the key of the ring file of that name
+-- a reply with status 0 is such a line by the signer of the ring
+abbrev pub IsSealedBySigner : Ring → Reply → Type 0
+IsSealedBySigner ring reply = reply.status ≡ 0 → (seeds : List ℕ) × (signer_seeds ring ≡ Some seeds) × IsSealedLine seeds reply.text
+
+-- a reply with status 0 is so sealed by the signer of the ring in the file of that name
 abbrev pub IsSealedFrom : List ℕ → Option Files → Reply → Type 0
-IsSealedFrom ring files reply = reply.status ≡ 0
-    → (bytes : List ℕ) × (key : LiveKey) × IsFile files ring (Some bytes) × IsRing bytes key × IsSealedLine key.seeds reply.text
+IsSealedFrom name files reply = reply.status ≡ 0
+    → (bytes : List ℕ) × (ring : Ring) × (seeds : List ℕ) × IsFile files name (Some bytes) × IsOpened bytes ring × (signer_seeds ring ≡ Some seeds)
+    × IsSealedLine seeds reply.text
 
--- the reply of `issue` is so sealed by the key of the ring file that the command names
+-- the reply of `issue` is so sealed by the signer of the ring in the file that the command names
 abbrev pub RepliesSealed : Command → Option Files → Reply → Type 0
-RepliesSealed command files reply = (ring : List ℕ) (typ : TextType) → command ≡ Issue ring typ → IsSealedFrom ring files reply
+RepliesSealed command files reply = (name : List ℕ) (typ : TextType) → command ≡ Issue name typ → IsSealedFrom name files reply
 
--- after `issue` has answered 0 it has written a text and its line end, and the text is sealed by each set in which the key of the
--- ring file that the command names stands under its thumbprint (RFC 7515 section 5.2, RFC 7638)
+-- after `issue` has answered 0 it has written a text and its line end, and the text is sealed by each set in which the newest live key
+-- of the ring file that the command names stands under its thumbprint (RFC 7515 section 5.2, RFC 7638)
 abbrev pub IssuesSealed : Command → Option Files → Option (List ℕ) → Option (List ℕ) → ℕ → Type 0
-IssuesSealed command files held held' status = (ring : List ℕ) (typ : TextType) → command ≡ Issue ring typ → status ≡ 0
-    → (bytes : List ℕ) × (key : LiveKey) × (line : List ℕ) × IsFile files ring (Some bytes) × IsRing bytes key
-    × Appends held held' line × IsSealedLine key.seeds line
+IssuesSealed command files held held' status = (name : List ℕ) (typ : TextType) → command ≡ Issue name typ → status ≡ 0
+    → (bytes : List ℕ) × (ring : Ring) × (seeds : List ℕ) × (line : List ℕ) × IsFile files name (Some bytes) × IsOpened bytes ring
+    × (signer_seeds ring ≡ Some seeds) × Appends held held' line × IsSealedLine seeds line

@@ -40,7 +40,9 @@ fn named(command: &Command) -> Option<&Text>
     ensures { option_copied result ≡ named command.now }
 {
     match command {
-        Command::Keygen { ring_file, .. } | Command::Issue { ring_file, .. } => Some(ring_file),
+        Command::Keygen { ring_file, .. }
+        | Command::Issue { ring_file, .. }
+        | Command::Rotate { ring_file, .. } => Some(ring_file),
         Command::Check { keys_file, .. } => Some(keys_file),
         Command::Verify(_) | Command::Help | Command::Version | Command::Faulty => None,
     }
@@ -101,7 +103,7 @@ pub fn reply_to<S: Source, D: Store>(
         Prepared::Answered(reply) => Ok(reply),
         Prepared::WantsInput(operation) => {
             let text = read_text(alloc, input)?;
-            Ok(perform(alloc, &operation, text)?)
+            Ok(perform(alloc, operation, text)?)
         }
     }
 }

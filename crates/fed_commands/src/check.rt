@@ -3,8 +3,8 @@
 ghost use Rattle.std.specs.Prelude.{◌≡◌, None, Some, IfOk};
 ghost use Rattle.fed_commands.specs.Checks.{IsChecked, chain_in};
 
+use crate::check_inputs::read_chain;
 use crate::check_lines::{lines, status};
-use crate::check_texts::read_chain;
 use crate::reply::{Reply, plain};
 use chain_check::check_chain;
 use entity_id::EntityId;

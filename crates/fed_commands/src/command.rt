@@ -4,8 +4,10 @@ ghost use Rattle.std.specs.Prelude.{◌≡◌, IfOk, codes};
 ghost use Rattle.std.specs.Option.{option_and_then};
 ghost use Rattle.fed_commands.specs.Issues.{type_of};
 ghost use Rattle.fed_commands.specs.Options.{option_in};
-ghost use Rattle.fed_commands.specs.Commands.{command_of, verb_of, verify_of, keygen_of, issue_of, check_of, flag_of};
+ghost use Rattle.fed_commands.specs.Commands.{command_of, verb_of, verify_of, keygen_of, issue_of, rotate_of, check_of, flag_of};
 
+use crate::act::{Act, read_act};
+use crate::moment::Moment;
 use crate::options::{moment_in, option_in};
 use crate::text_type::TextType;
 use base64url::decode_32;
@@ -18,22 +20,27 @@ use std::alloc::Global;
 pub enum Command {
     /// `verify PUB`: check one entity configuration under this public key.
     Verify([u8; 32]),
-    /// `keygen --ring FILE --at T --exp T`: make a ring file of one key, for these moments in seconds since 1970.
+    /// `keygen --ring FILE --at T --exp T`: make a ring file of one key, for these moments.
     Keygen {
         ring_file: Text,
-        at: u64,
-        exp: u64,
+        at: Moment,
+        exp: Moment,
     },
-    /// `issue --ring FILE --typ TYP`: seal claims as a text of that type by the key of a ring file.
+    /// `issue --ring FILE --typ TYP`: seal claims as a text of that type by the signer of a ring file.
     Issue {
         ring_file: Text,
         typ: TextType,
     },
-    /// `check --anchor ID --keys FILE [--at T]`: check a chain for a trust anchor, its keys, and a moment in seconds since 1970.
+    /// `rotate --ring FILE --act ACT ..`: make a change of the ring of a ring file.
+    Rotate {
+        ring_file: Text,
+        act: Act,
+    },
+    /// `check --anchor ID --keys FILE [--at T]`: check a chain for a trust anchor, its keys, and a moment.
     Check {
         anchor: EntityId,
         keys_file: Text,
-        at: Option<u64>,
+        at: Option<Moment>,
     },
     /// `--help`, alone.
     Help,
@@ -64,6 +71,8 @@ fn read_verb(alloc: Global, verb: &[u8], rest: &[Text]) -> Result<Command, Memor
         read_keygen(alloc, rest)
     } else if verb == b"issue".as_slice() {
         read_issue(alloc, rest)
+    } else if verb == b"rotate".as_slice() {
+        read_rotate(alloc, rest)
     } else if verb == b"check".as_slice() {
         read_check(alloc, rest)
     } else {
@@ -103,15 +112,12 @@ fn read_verify(rest: &[Text]) -> Command
 fn read_keygen(alloc: Global, rest: &[Text]) -> Result<Command, Memory>
     ensures { IfOk result (λ c. c ≡ keygen_of rest.now) }
 {
-    if rest.len() != 6 {
-        return Ok(Command::Faulty);
-    }
     match (
         option_in(rest, b"--ring"),
         moment_in(rest, b"--at"),
         moment_in(rest, b"--exp"),
     ) {
-        (Some(ring_file), Some(at), Some(exp)) => Ok(Command::Keygen {
+        (Some(ring_file), Some(at), Some(exp)) if rest.len() == 6 => Ok(Command::Keygen {
             ring_file: ring_file.copy(alloc)?,
             at,
             exp,
@@ -143,6 +149,22 @@ fn type_in(rest: &[Text]) -> Option<TextType>
     match option_in(rest, b"--typ") {
         Some(word) => TextType::of(word.as_slice()),
         None => None,
+    }
+}
+
+#[tactic(auto, unfolding(crate::specs::Commands::rotate_of))]
+fn read_rotate(alloc: Global, rest: &[Text]) -> Result<Command, Memory>
+    ensures { IfOk result (λ c. c ≡ rotate_of rest.now) }
+{
+    let Some(ring_file) = option_in(rest, b"--ring") else {
+        return Ok(Command::Faulty);
+    };
+    match read_act(alloc, rest)? {
+        Some(act) => Ok(Command::Rotate {
+            ring_file: ring_file.copy(alloc)?,
+            act,
+        }),
+        None => Ok(Command::Faulty),
     }
 }
 

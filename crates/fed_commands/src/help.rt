@@ -6,6 +6,9 @@ pub const HELP: &[u8] = b"fed: an authority and trust chain resolver of OpenID F
 usage: fed verify PUB < TEXT
        fed keygen --ring FILE --at T --exp T < SEEDS
        fed issue --ring FILE --typ TYP < CLAIMS
+       fed rotate --ring FILE --act add --at T --exp T < SEEDS
+       fed rotate --ring FILE --act retire --kid KID
+       fed rotate --ring FILE --act revoke --kid KID --at T --reason R
        fed check --anchor ID --keys FILE [--at T] < CHAIN
        fed --help | --version
 
@@ -16,9 +19,13 @@ verify   checks one entity configuration under the public key PUB, 43 base64url
 keygen   makes the key of 96 hexadecimal digits (SK.seed, SK.prf, PK.seed), live
          from --at to --exp, keeps it in the new file --ring, and writes its
          public key as a JWK, or `refused Exists` or `refused Order`.
-issue    seals claims, a JSON object, by the key of the file --ring, and writes
-         the text, or `refused Form` or `refused TooLong`. TYP is
+issue    seals claims, a JSON object, by the newest live key of the file --ring,
+         and writes the text, or `refused Form` or `refused TooLong`. TYP is
          entity-statement+jwt, trust-mark+jwt or trust-mark-delegation+jwt.
+rotate   changes the file --ring: it adds a live key as `keygen` makes one and
+         writes its name, or it retires the key of the name KID, or revokes it
+         since --at for R, `unspecified`, `compromised` or `superseded`, and
+         writes `done`; or `refused Order`, `refused Known`, `refused Unknown`.
 check    checks a trust chain, a JSON list of texts from the leaf's up, for the
          anchor ID, whose keys are the key set in the file --keys, at the moment
          --at, or now. It writes `valid <leaf> <exp>` and the leaf's metadata on

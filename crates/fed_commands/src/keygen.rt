@@ -3,37 +3,33 @@
 ghost use Rattle.std.specs.Prelude.{◌≡◌, IfOk};
 ghost use Rattle.fed_commands.specs.Keygens.{keygen_reply, public_line};
 
+use crate::moment::Moment;
 use crate::reply::{Reply, plain};
-use crate::ring::{LiveKey, ring_tree};
 use fed_json::write_tree;
 use fed_ports::{Memory, Text};
 use hex::FromHex;
 use jwk_set::{Jwk, thumbprint, write_key};
+use key_ring::{RingFault, first_file};
 use slh_dsa::KeyPair;
 use std::alloc::Global;
 
 /// The ring file of a key of the seeds that the input has, for these moments, and its public key as a JWK.
 #[tactic(auto, unfolding(crate::specs::Keygens::keygen_reply))]
-pub fn keygen(alloc: Global, at: u64, exp: u64, input: &[u8]) -> Result<Reply, Memory>
+pub fn keygen(alloc: Global, at: Moment, exp: Moment, input: &[u8]) -> Result<Reply, Memory>
     ensures { IfOk result (λ reply. reply ≡ keygen_reply at exp input.now) }
 {
     let Ok(seeds) = <[u8; 48]>::from_hex(input) else {
         return plain(alloc, 2, b"input\n");
     };
-    if exp <= at {
-        return plain(alloc, 1, b"refused Order\n");
+    match first_file(alloc, &seeds, at.seconds(), exp.seconds()) {
+        Ok(file) => Ok(Reply {
+            status: 0,
+            text: public_line(alloc, &seeds)?,
+            kept: Some(file),
+        }),
+        Err(RingFault::Memory) => Err(Memory),
+        Err(_) => plain(alloc, 1, b"refused Order\n"),
     }
-    let key = LiveKey {
-        seeds,
-        iat: at,
-        exp,
-    };
-    let kept = write_tree(alloc, &ring_tree(alloc, &key)?)?;
-    Ok(Reply {
-        status: 0,
-        text: public_line(alloc, &seeds)?,
-        kept: Some(kept),
-    })
 }
 
 // The public key of these seeds as a JWK in compact JSON, on its own line.

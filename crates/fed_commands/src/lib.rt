@@ -5,21 +5,22 @@
 //! `fed` makes the real outside and calls it.
 #![tactic(auto)]
 
+mod act;
 mod answer;
 mod check;
-mod check_keys;
+mod check_inputs;
 mod check_lines;
-mod check_texts;
 mod command;
 mod help;
 mod input;
 mod issue;
 mod keygen;
+mod moment;
 mod operation;
 mod options;
 mod output;
 mod reply;
-mod ring;
+mod rotate;
 mod text_type;
 mod top;
 mod verify;

@@ -1,24 +1,27 @@
 // What a command is once its file was looked at, and its reply on its input.
 
-ghost use Rattle.std.specs.Prelude.{◌≡◌, IfOk, List, ℕ, Option};
-ghost use Rattle.fed_commands.specs.Sealings.{IsSealedReply};
-ghost use Rattle.fed_commands.specs.Operations.{IsPrepared, IsCheckPrepared, IsKeygenPrepared, IsFileOf, IsPerformed, IsIssuePrepared};
+ghost use Rattle.std.specs.Prelude.{◌≡◌, IfOk, List, ℕ, Option, Some, unwrap_or};
+ghost use Rattle.key_ring.specs.Rings.{Ring};
+ghost use Rattle.fed_commands.specs.Sealings.{IsSealedBySigner};
+ghost use Rattle.fed_commands.specs.Operations.{IsCheckPrepared, IsFileOf, IsKeygenPrepared, IsPerformed, IsPrepared, IsRingFound, IsRingPrepared, issue_prepared, rotate_prepared};
 ghost use Rattle.fed_commands.specs.Replies.{plain};
 
+use crate::act::Act;
 use crate::check::check;
-use crate::check_keys::read_keys;
+use crate::check_inputs::read_keys;
 use crate::command::Command;
 use crate::help::{HELP, VERSION};
 use crate::issue::issue;
 use crate::keygen::keygen;
+use crate::moment::Moment;
 use crate::reply::{Reply, plain};
-use crate::ring::read_ring;
+use crate::rotate::{add, retire, revoke};
 use crate::text_type::TextType;
 use crate::verify::verify;
 use entity_id::EntityId;
 use fed_ports::{Duplicate, Memory, Text};
 use jwk_set::JwkSet;
-use slh_dsa::KeyPair;
+use key_ring::{KeyRing, RingFault};
 use std::alloc::Global;
 
 /// The file that a command names.
@@ -39,11 +42,20 @@ pub enum Operation {
     Verify([u8; 32]),
     /// To make a ring file for these moments.
     Keygen {
-        at: u64,
-        exp: u64,
+        at: Moment,
+        exp: Moment,
     },
-    /// To seal claims by this signer as a text of this type.
-    Issue(KeyPair, TextType),
+    /// To seal claims by the signer of this ring, as a text of this type.
+    Issue {
+        ring: KeyRing,
+        typ: TextType,
+    },
+    /// To add a key to this ring, for these moments.
+    Add {
+        ring: KeyRing,
+        at: Moment,
+        exp: Moment,
+    },
     /// To check a chain for an anchor, under these keys, at this moment in seconds since 1970.
     Check {
         anchor: EntityId,
@@ -78,14 +90,25 @@ pub fn prepare(
             exp,
         } => prepare_keygen(alloc, *at, *exp, file),
         Command::Issue { ring_file: _, typ } => prepare_issue(alloc, *typ, file),
+        Command::Rotate { ring_file: _, act } => prepare_rotate(alloc, act, file),
         Command::Check {
             anchor,
             keys_file: _,
             at,
-        } => prepare_check(alloc, anchor, at.unwrap_or(moment), file),
+        } => prepare_check(alloc, anchor, moment_or(*at, moment), file),
         Command::Help => answered(alloc, 0, HELP),
         Command::Version => answered(alloc, 0, VERSION),
         Command::Faulty => answered(alloc, 2, b"words\n"),
+    }
+}
+
+// The command's own moment, or the clock's.
+fn moment_or(at: Option<Moment>, moment: u64) -> u64
+    ensures { result ≡ unwrap_or at moment }
+{
+    match at {
+        Some(at) => at.seconds(),
+        None => moment,
     }
 }
 
@@ -96,7 +119,7 @@ fn answered(alloc: Global, status: u8, text: &[u8]) -> Result<Prepared, Memory>
 }
 
 // A key is made only where no file has the ring's name.
-fn prepare_keygen(alloc: Global, at: u64, exp: u64, file: &File) -> Result<Prepared, Memory>
+fn prepare_keygen(alloc: Global, at: Moment, exp: Moment, file: &File) -> Result<Prepared, Memory>
     ensures { (bytes : Option (List ℕ)) → IsFileOf file.now bytes → IfOk result (IsKeygenPrepared at exp bytes) }
 {
     match file {
@@ -105,19 +128,55 @@ fn prepare_keygen(alloc: Global, at: u64, exp: u64, file: &File) -> Result<Prepa
     }
 }
 
-// Claims are sealed by the key of a ring file.
-fn prepare_issue(alloc: Global, typ: TextType, file: &File) -> Result<Prepared, Memory>
-    ensures { (bytes : Option (List ℕ)) → IsFileOf file.now bytes → IfOk result (IsIssuePrepared typ bytes) }
+// The ring of a file, or `None` where there is none.
+fn open_ring(alloc: Global, file: &File) -> Result<Option<KeyRing>, Memory>
+    ensures { (bytes : Option (List ℕ)) → IsFileOf file.now bytes → IfOk result (IsRingFound bytes) }
 {
     let File::Whole(bytes) = file else {
-        return answered(alloc, 2, b"input\n");
+        return Ok(None);
     };
-    match read_ring(alloc, bytes.as_slice())? {
-        Some(key) => {
-            let signer = KeyPair::from_seeds(&key.seeds);
-            Ok(Prepared::WantsInput(Operation::Issue(signer, typ)))
-        }
+    match KeyRing::open(alloc, bytes.as_slice()) {
+        Ok(ring) => Ok(Some(ring)),
+        Err(RingFault::Shape) => Ok(None),
+        Err(RingFault::Known(_)) => Ok(None),
+        Err(_) => Err(Memory),
+    }
+}
+
+// Claims are sealed by the signer of a ring.
+fn prepare_issue(alloc: Global, typ: TextType, file: &File) -> Result<Prepared, Memory>
+    ensures { (bytes : Option (List ℕ)) → IsFileOf file.now bytes → IfOk result (IsRingPrepared (issue_prepared typ) bytes) }
+{
+    match open_ring(alloc, file)? {
+        Some(ring) => Ok(Prepared::WantsInput(Operation::Issue { ring, typ })),
         None => answered(alloc, 2, b"input\n"),
+    }
+}
+
+// A change is made of a ring.
+fn prepare_rotate(alloc: Global, act: &Act, file: &File) -> Result<Prepared, Memory>
+    ensures { (bytes : Option (List ℕ)) → IsFileOf file.now bytes → IfOk result (IsRingPrepared (rotate_prepared act.now) bytes) }
+{
+    match open_ring(alloc, file)? {
+        Some(ring) => change(alloc, act, ring),
+        None => answered(alloc, 2, b"input\n"),
+    }
+}
+
+// The seeds of a new key are those of the input; another change wants none.
+fn change(alloc: Global, act: &Act, ring: KeyRing) -> Result<Prepared, Memory>
+    ensures { IfOk result (λ prepared. prepared ≡ rotate_prepared act.now (Some ring)) }
+{
+    match act {
+        Act::Add { at, exp } => Ok(Prepared::WantsInput(Operation::Add {
+            ring,
+            at: *at,
+            exp: *exp,
+        })),
+        Act::Retire(kid) => Ok(Prepared::Answered(retire(alloc, ring, kid)?)),
+        Act::Revoke { kid, at, reason } => {
+            Ok(Prepared::Answered(revoke(alloc, ring, kid, *at, *reason)?))
+        }
     }
 }
 
@@ -140,17 +199,18 @@ fn prepare_check(alloc: Global, anchor: &EntityId, at: u64, file: &File) -> Resu
 
 /// What is answered on the input, without its line end; an input that is too long is `None`. Claims and chains free its memory once they
 /// are read from it.
-pub fn perform(alloc: Global, operation: &Operation, input: Option<Text>) -> Result<Reply, Memory>
-    ensures performed { IfOk result (IsPerformed operation.now input) }
-    ensures sealed { (seeds : List ℕ) (typ : TextType) → operation.now ≡ Operation.Issue seeds typ → IfOk result (IsSealedReply seeds) }
+pub fn perform(alloc: Global, operation: Operation, input: Option<Text>) -> Result<Reply, Memory>
+    ensures performed { IfOk result (IsPerformed operation input) }
+    ensures sealed { (ring : Ring) (typ : TextType) → operation ≡ Operation.Issue ring typ → IfOk result (IsSealedBySigner ring) }
 {
     let Some(input) = input else {
         return plain(alloc, 2, b"input\n");
     };
     match operation {
-        Operation::Verify(key) => verify(alloc, key, input.as_slice()),
-        Operation::Keygen { at, exp } => keygen(alloc, *at, *exp, input.as_slice()),
-        Operation::Issue(signer, typ) => issue(alloc, signer, *typ, input),
-        Operation::Check { anchor, keys, at } => check(alloc, anchor, keys, *at, input),
+        Operation::Verify(key) => verify(alloc, &key, input.as_slice()),
+        Operation::Keygen { at, exp } => keygen(alloc, at, exp, input.as_slice()),
+        Operation::Issue { ring, typ } => issue(alloc, ring.signer(), typ, input),
+        Operation::Add { ring, at, exp } => add(alloc, ring, at, exp, input.as_slice()),
+        Operation::Check { anchor, keys, at } => check(alloc, &anchor, &keys, at, input),
     }
 }

@@ -1,10 +1,11 @@
 // Options, their values and numbers among the words.
 
-ghost use Rattle.std.specs.Prelude.{◌≡◌, ◌<◌};
+ghost use Rattle.std.specs.Prelude.{◌≡◌, ◌<◌, IfSome};
 ghost use Rattle.std.specs.Option.{option_copied};
 ghost use Rattle.fed_base.specs.Moments.{moment_limit};
 ghost use Rattle.fed_commands.specs.Options.{option_in, number_after, number_of, moment_in};
 
+use crate::moment::Moment;
 use fed_ports::{MOMENT_LIMIT, Text};
 
 /// The value behind the first option of that name, where the words are pairs of an option and its value.
@@ -24,24 +25,24 @@ pub fn option_in<'a>(words: &'a [Text], name: &[u8]) -> Option<&'a Text>
     }
 }
 
-/// The moment that the option's value gives, in seconds since 1970.
-pub fn moment_in(words: &[Text], name: &[u8]) -> Option<u64>
+/// The moment that the option's value gives.
+pub fn moment_in(words: &[Text], name: &[u8]) -> Option<Moment>
     ensures { result ≡ moment_in name.now words.now }
 {
     match option_in(words, name) {
-        Some(value) => number_of(value.as_slice()),
+        Some(value) => moment_of(value.as_slice()),
         None => None,
     }
 }
 
-// The number of these decimal digits, without sign and without a leading zero, below 2^62.
-fn number_of(word: &[u8]) -> Option<u64>
+// The moment of these decimal digits, without sign and without a leading zero, below 2^62.
+fn moment_of(word: &[u8]) -> Option<Moment>
     ensures { result ≡ number_of word.now }
 {
     match word {
         [] => None,
         [b'0', _, ..] => None,
-        _ => number_after(0, word),
+        _ => Some(Moment::of(number_after(0, word)?)),
     }
 }
 
@@ -49,7 +50,8 @@ fn number_of(word: &[u8]) -> Option<u64>
 #[tactic(auto, unfolding(crate::specs::Options::number_after))]
 fn number_after(number: u64, digits: &[u8]) -> Option<u64>
     requires { number < moment_limit }
-    ensures { result ≡ number_after number digits.now }
+    ensures number { result ≡ number_after number digits.now }
+    ensures small { IfSome result (λ n. n < moment_limit) }
 {
     let Some((digit, rest)) = digits.split_first() else {
         return Some(number);

@@ -12,6 +12,7 @@
 mod address;
 mod call_plan;
 mod clock;
+mod file_lock;
 mod input;
 mod kept_file;
 mod link;

@@ -3,35 +3,70 @@
 ghost use Rattle.std.specs.Prelude.{◌≡◌, None};
 ghost use Rattle.fed_ports.specs.Stores.{Loads};
 
+use crate::file_lock::{leave, take};
 use crate::input::{ReadEnd, read_all};
 use crate::real::RealSource;
 use crate::store::{Store, StoreFault};
-use fed_base::{Duplicate, Failed, Text};
+use fed_base::{Duplicate, Failed, Memory, Text};
 use std::alloc::Global;
 use std::fs::{OpenFile, OpenOptions};
-use std::io::{ErrorKind, Write};
+use std::io::{Eprint, ErrorKind, Write};
 use std::os::unix::fs::OpenOptionsExt;
 use std::rt::Files;
 use std::{fs, io, str};
 
 /// The files of the folder that the program runs in, and of the paths from there.
+///
+/// A file is kept in the place of the one that was loaded last under its name, and of no other: where another stands there by then, nothing
+/// is kept. So of programs that change a file at once, none undoes what another has done. What a user can do about a failure is said on
+/// standard error.
 #[derive(Drop)]
-pub struct RealStore<'a, R: Files + AllocGlobal> {
+pub struct RealStore<'a, R: Files + AllocGlobal + Eprint> {
     rt: &'a R,
+    seen: Option<Seen>,
     faults: u64,
 }
 
-impl<'a, R: Files + AllocGlobal> RealStore<'a, R> {
+impl<'a, R: Files + AllocGlobal + Eprint> RealStore<'a, R> {
     /// A store that has not failed yet.
     pub fn new(rt: &'a R) -> RealStore<'a, R>
         ensures { ⟦<RealStore<'a, R> as Store>⟧.store_faults result ≡ 0 }
     {
-        RealStore { rt, faults: 0 }
+        RealStore {
+            rt,
+            seen: None,
+            faults: 0,
+        }
     }
 }
 
-// The whole file, or `None` where there is none. A name in a folder that isn't there is that of no file.
-fn load_file<R: Files>(rt: &R, alloc: Global, name: &Text) -> Result<Option<Text>, StoreFault>
+// What was loaded last: a name, and the bytes of its file, where there was one.
+#[derive(Drop)]
+struct Seen {
+    name: Text,
+    bytes: Option<Text>,
+}
+
+impl Seen {
+    fn of(alloc: Global, name: &Text, bytes: &Option<Text>) -> Result<Seen, Memory> {
+        let bytes = match bytes {
+            Some(bytes) => Some(bytes.copy(alloc)?),
+            None => None,
+        };
+        Ok(Seen {
+            name: name.copy(alloc)?,
+            bytes,
+        })
+    }
+}
+
+// The whole file, or `None` where there is none. A name in a folder that isn't there is that of no file; that of a link that leads nowhere
+// isn't, since a file that is kept would take the link's place.
+fn load_file<R: Files + Eprint>(
+    rt: &R,
+    alloc: Global,
+    name: &Text,
+) -> Result<Option<Text>, StoreFault>
     ensures { Loads None name.now result }
 {
     let Ok(path) = str::from_utf8(name.as_slice()) else {
@@ -45,11 +80,52 @@ fn load_file<R: Files>(rt: &R, alloc: Global, name: &Text) -> Result<Option<Text
             Err(ReadEnd::Failed) => Err(StoreFault::Failed),
         },
         Err(error) => match error.kind() {
+            ErrorKind::NotFound | ErrorKind::NotADirectory if is_link(rt, path) => Err(
+                StoreFault::Failed,
+            ),
             ErrorKind::NotFound | ErrorKind::NotADirectory => Ok(None),
             ErrorKind::OutOfMemory => Err(StoreFault::Memory),
             _ => Err(StoreFault::Failed),
         },
     }
+}
+
+// Whether the name is that of a link, and says so.
+fn is_link<R: Files + Eprint>(rt: &R, path: &str) -> bool {
+    let is_link = fs::symlink_metadata(rt, path).is_ok_and(|found| found.is_symlink());
+    if is_link {
+        let _ = eprintln!(rt;
+            "fed: {path} is a link, and no file is kept in its place; name the file that it is to lead to"
+        );
+    }
+    is_link
+}
+
+// Whether what was seen under that name still stands there, and says so where it doesn't.
+fn still_stands<R: Files + Eprint>(
+    rt: &R,
+    alloc: Global,
+    name: &Text,
+    path: &str,
+    seen: &Option<Seen>,
+) -> bool {
+    let Some(seen) = seen else {
+        return true;
+    };
+    if seen.name.as_slice() != name.as_slice() {
+        return true;
+    }
+    let stands = match (load_file(rt, alloc, name), &seen.bytes) {
+        (Ok(Some(found)), Some(bytes)) => found.as_slice() == bytes.as_slice(),
+        (Ok(None), None) => true,
+        _ => false,
+    };
+    if !stands {
+        let _ = eprintln!(rt;
+            "fed: {path} was changed by another program meanwhile, and is left as it is"
+        );
+    }
+    stands
 }
 
 // How many names for the new file are tried, where files of these names are there already.
@@ -93,21 +169,51 @@ fn write_down<F: Write + OpenFile + Drop>(mut file: F, bytes: &[u8]) -> io::Resu
     file.sync_all()
 }
 
-impl<'a, R: Files + AllocGlobal> Store for RealStore<'a, R> {
+// Keeps the file where what was seen still stands in its place, under its lock.
+fn replace<R: Files + Eprint>(
+    rt: &R,
+    alloc: Global,
+    name: &Text,
+    bytes: &[u8],
+    seen: &Option<Seen>,
+) -> Option<()> {
+    let path = str::from_utf8(name.as_slice()).ok()?;
+    let mut lock = name.copy(alloc).ok()?;
+    lock.append(b".lock").ok()?;
+    let lock = str::from_utf8(lock.as_slice()).ok()?;
+    if !take(rt, lock) {
+        return None;
+    }
+    let kept = if is_link(rt, path) || !still_stands(rt, alloc, name, path, seen) {
+        None
+    } else {
+        keep_file(rt, alloc, name, bytes)
+    };
+    leave(rt, lock);
+    kept
+}
+
+impl<'a, R: Files + AllocGlobal + Eprint> Store for RealStore<'a, R> {
     ghost files = { λ _. None };
 
     ghost store_faults = { λ store. store.faults };
 
     fn load(&mut self, alloc: Global, name: &Text) -> Result<Option<Text>, StoreFault> {
-        let loaded = load_file(self.rt, alloc, name);
-        if matches!(loaded, Err(StoreFault::Failed)) {
-            self.faults = self.faults.saturating_add(1);
+        match load_file(self.rt, alloc, name) {
+            Ok(bytes) => {
+                self.seen = Some(Seen::of(alloc, name, &bytes)?);
+                Ok(bytes)
+            }
+            Err(StoreFault::Failed) => {
+                self.faults = self.faults.saturating_add(1);
+                Err(StoreFault::Failed)
+            }
+            Err(fault) => Err(fault),
         }
-        loaded
     }
 
     fn keep(&mut self, name: &Text, bytes: &[u8]) -> Result<(), Failed> {
-        match keep_file(self.rt, self.rt.alloc(), name, bytes) {
+        match replace(self.rt, self.rt.alloc(), name, bytes, &self.seen) {
             Some(()) => Ok(()),
             None => {
                 self.faults = self.faults.saturating_add(1);

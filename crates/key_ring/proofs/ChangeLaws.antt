@@ -1,14 +1,11 @@
 -- A change that met no fault leaves a ring.
-use Rattle.std.proofs.Common.{◌≡◌, ◌<◌, ◌≤◌, ℕ, List, [], ◌∷◌, map, length, Bool, true, false, not, Option, Some, None, Result, Ok, Err, refl, sym, ap, ◌∙◌, subst}
+use Rattle.std.proofs.Common.{◌≡◌, ◌<◌, ℕ, List, ◌∷◌, map, length, true, false, Some, None, sym, ap, ◌∙◌, subst}
 use Rattle.fed_base.specs.Moments.{moment_limit}
 use Rattle.key_ring.specs.declared.key.KeyState.{KeyState}
-use Rattle.key_ring.specs.declared.fault.OrderFault.TheVariants.{Exp, NotLive, LastLive, Full}
-use Rattle.key_ring.specs.declared.fault.RingFault.{RingFault}
-use Rattle.key_ring.specs.declared.fault.RingFault.TheVariants.{Known, Unknown, Order}
 use Rattle.key_ring.specs.declared.key.RingKey.{RingKey}
-use Rattle.key_ring.specs.Changes.{Add, Put, fault_of, fault_where, fresh_key, kid_added, may_follow, with_state}
+use Rattle.key_ring.specs.Changes.{Add, Put, fault_of, fresh_key, kid_added, may_follow, with_state}
 use Rattle.key_ring.specs.Rings.{IsRing, IsRingKey, IsTimelyState, Ring, has_key, has_live, key_at, kid_of, most_keys}
-use Rattle.key_ring.proofs.KeepingLaws.{adding-last, putting-last}
+use Rattle.key_ring.proofs.FirstFaults.{adding-last, putting-last}
 use Rattle.key_ring.proofs.RingLaws.{step-ring}
 
 -- ---- a key in another state

@@ -1,9 +1,9 @@
 mod ChangeLaws
-mod FileLaws
+mod FirstFaults
 mod FoundAgain
 mod Gathering
-mod KeepingLaws
 mod OpenLaws
 mod RingForms
 mod RingLaws
 mod SetLaws
+pub mod FileLaws

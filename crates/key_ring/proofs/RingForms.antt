@@ -1,5 +1,5 @@
 -- The tree of a ring has a text.
-use Rattle.std.proofs.Common.{◌≡◌, ◌<◌, ◌≤◌, ◌^◌, ℕ, zero, suc, max, get_or, nat_lt, ℤ, pos, List, [], ◌∷◌, ◌++◌, map, codes, Bool, true, not, refl, sym, ap, ap₂, ◌∙◌, subst, lit≤, arith, rules}
+use Rattle.std.proofs.Common.{◌≡◌, ◌<◌, ◌≤◌, ◌^◌, ℕ, zero, suc, max, get_or, nat_lt, ℤ, pos, List, [], ◌∷◌, ◌++◌, map, codes, true, not, refl, ap, ap₂, ◌∙◌, lit≤, arith, rules}
 use Rattle.std.proofs.lemmas.Bool.{lt-ltb, ltb-true}
 use Rattle.std.proofs.lemmas.Str.{IsUtf8-from_ascii, is_utf8-from_IsUtf8}
 use Rattle.std.specs.List.{AllByRecursion, list_all}

@@ -1,5 +1,5 @@
 -- What changes keep of a ring.
-use Rattle.std.proofs.Common.{◌≡◌, ◌≤◌, ◌<◌, ℕ, zero, suc, List, [], ◌∷◌, ◌++◌, map, find, length, Bool, true, false, not, cond, nat_le, bytes_eq, Option, Some, None, Contains, get_or, refl, sym, ap, ◌∙◌, subst, arith}
+use Rattle.std.proofs.Common.{◌≡◌, ◌≤◌, ◌<◌, ℕ, zero, suc, List, [], ◌∷◌, map, length, Bool, true, false, not, cond, nat_le, bytes_eq, Option, Some, None, Contains, get_or, refl, sym, ap, ◌∙◌, subst, arith}
 use Rattle.std.proofs.lemmas.Bool.{true≢false, leb-false, not-false, or_parts}
 use Rattle.std.proofs.lemmas.List.Elements.{Contains-append_right}
 use Rattle.std.proofs.lemmas.Map.Keys.{IsDistinct-cons, IsDistinct-head, IsDistinct-tail}
@@ -10,7 +10,7 @@ use Rattle.key_ring.specs.declared.key.KeyState.{KeyState}
 use Rattle.key_ring.specs.declared.key.KeyState.TheVariants.{Live, Retired, Revoked}
 use Rattle.key_ring.specs.declared.fault.OrderFault.TheVariants.{Exp, NotLive, LastLive, Full}
 use Rattle.key_ring.specs.declared.fault.RingFault.{RingFault}
-use Rattle.key_ring.specs.declared.fault.RingFault.TheVariants.{Known, Order}
+use Rattle.key_ring.specs.declared.fault.RingFault.TheVariants.{Order}
 use Rattle.key_ring.specs.declared.key.RingKey.{RingKey}
 use Rattle.key_ring.specs.Changes.{AreChanges, Change, Add, Put, IsFit, after, fault_of, fault_of_putting, fault_where, fresh_key, kid_added, may_follow, with_state}
 use Rattle.key_ring.specs.Lasting.{RevokedStay}

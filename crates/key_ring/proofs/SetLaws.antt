@@ -1,6 +1,5 @@
 -- The sets that are published of a ring are sets of keys, and the live one names the signer.
-use Rattle.std.proofs.Common.{◌≡◌, ◌<◌, ◌≤◌, ◌^◌, ℕ, suc, ◌+◌, ◌*◌, ◌/◌, List, [], ◌∷◌, ◌++◌, map, filter, find, length, get_or, take, codes, Bool, true, false, ◌&&◌, ◌||◌, not, cond, nat_lt, bytes_eq, Option, Some, None, option_map, Result, Ok, Err, IfOk, refl, sym, ap, ap₂, ◌∙◌, subst, add-one, arith}
-use Rattle.std.proofs.Math.Seq.{take-suc}
+use Rattle.std.proofs.Common.{◌≡◌, ◌<◌, ◌≤◌, ◌^◌, ℕ, suc, ◌+◌, ◌*◌, ◌/◌, List, [], ◌∷◌, ◌++◌, map, filter, find, length, get_or, take, codes, Bool, true, false, ◌||◌, not, cond, nat_lt, bytes_eq, Option, Some, None, option_map, Result, Ok, Err, IfOk, refl, sym, ap, ap₂, ◌∙◌, subst, arith}
 use Rattle.std.proofs.lemmas.Bool.{cond_both, or_from}
 use Rattle.std.proofs.lemmas.List.{length-map, map-append}
 use Rattle.std.proofs.lemmas.List.Elements.{filter_agree, filter_more}
@@ -14,9 +13,7 @@ use Rattle.base64url.specs.Base64url.{base64url}
 use Rattle.base64url.proofs.Canonical.{is_utf8-base64url, length-base64url}
 use Rattle.fed_base.specs.declared.faults.Memory.{Memory}
 use Rattle.fed_json.specs.declared.tree.Json.{Json, List as ListOf, Object}
-use Rattle.fed_json.specs.declared.tree.Member.{Member}
 use Rattle.fed_json.specs.Forms.{IsWhole, whole}
-use Rattle.fed_json.specs.Members.{text_member}
 use Rattle.fed_json.proofs.Booleans.{both_true}
 use Rattle.fed_json.proofs.Layers.{whole-List, whole-Object}
 use Rattle.jws_form.specs.Header.{algorithm}
@@ -24,7 +21,7 @@ use Rattle.jwk_set.proofs.WrittenKeys.{ascii, whole_text}
 use Rattle.jwk_set.specs.declared.jwk.Jwk.{Jwk}
 use Rattle.jwk_set.specs.declared.jwk.Jwk.TheVariants.{Own}
 use Rattle.jwk_set.specs.Keys.{is_key, key_type}
-use Rattle.jwk_set.specs.KeySets.{are_distinct, distinct_after, is_one_text, key_named, repeats_kid}
+use Rattle.jwk_set.specs.KeySets.{are_distinct, distinct_after, key_named, repeats_kid}
 use Rattle.jwk_set.specs.Thumbprints.{thumbprint_of}
 use Rattle.slh_hash.specs.declared.params.TheConstants.{P128S}
 use Rattle.slh_dsa.specs.Keys.{public_key}
@@ -32,7 +29,6 @@ use Rattle.sealed.specs.Sealing.{signer_name}
 use Rattle.key_ring.specs.declared.key.KeyState.{KeyState}
 use Rattle.key_ring.specs.declared.key.KeyState.TheVariants.{Live, Retired, Revoked}
 use Rattle.key_ring.specs.declared.key.RingKey.{RingKey}
-use Rattle.key_ring.specs.Files.{number_member}
 use Rattle.key_ring.specs.Rings.{IsRing, IsRingKey, IsTimelyState, Ring, is_live, kid_of, live_state, public_of}
 use Rattle.key_ring.specs.Sets.{IsNamedIn, historical_key, historical_keys, is_historical, is_published, own_key, own_set, plain_members, revoked_members, signer_seeds}
 use Rattle.key_ring.proofs.RingForms.{revocation_whole, whole_int}

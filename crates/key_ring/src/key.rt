@@ -16,6 +16,26 @@ pub enum RevokeReason {
     Superseded,
 }
 
+impl RevokeReason {
+    ghost use Rattle.std.specs.Prelude.{◌≡◌};
+    ghost use Rattle.key_ring.specs.Readings.{reason_in};
+
+    /// The reason of a word, `unspecified`, `compromised` or `superseded`, or `None`.
+    pub fn of_word(word: &[u8]) -> Option<RevokeReason>
+        ensures { result ≡ reason_in word.now }
+    {
+        if word == b"unspecified".as_slice() {
+            Some(RevokeReason::Unspecified)
+        } else if word == b"compromised".as_slice() {
+            Some(RevokeReason::Compromised)
+        } else if word == b"superseded".as_slice() {
+            Some(RevokeReason::Superseded)
+        } else {
+            None
+        }
+    }
+}
+
 /// What a key of a ring is for.
 #[derive(Clone, Copy, Debug, PartialEq, Eq, Drop)]
 pub enum KeyState {

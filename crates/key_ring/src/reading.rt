@@ -6,7 +6,7 @@ ghost use Rattle.std.specs.Option.{option_copied};
 ghost use Rattle.fed_base.specs.Moments.{moment_limit};
 ghost use Rattle.fed_json.specs.Trees.{each};
 ghost use Rattle.key_ring.specs.Files.{IsRingFile, ring_tree};
-ghost use Rattle.key_ring.specs.Readings.{if_ordered, key_in, key_of, keys_in, listed_in, moment_at, reason_in, revocation_in, seeds_at, state_at, state_in, state_word};
+ghost use Rattle.key_ring.specs.Readings.{if_ordered, key_in, key_of, keys_in, listed_in, moment_at, revocation_in, seeds_at, state_at, state_in, state_word};
 ghost use Rattle.key_ring.specs.Rings.{HasForm, IsRingKey, IsTimelyState, Ring, has_live, most_keys};
 
 use crate::key::{KeyState, RevokeReason, RingKey, is_live_state};
@@ -221,22 +221,8 @@ fn revocation_in(members: &[Member]) -> Option<KeyState>
     ) else {
         return None;
     };
-    match reason_in(word.as_slice()) {
+    match RevokeReason::of_word(word.as_slice()) {
         Some(reason) => Some(KeyState::Revoked { at, reason }),
         None => None,
-    }
-}
-
-fn reason_in(word: &[u8]) -> Option<RevokeReason>
-    ensures { result ≡ reason_in word.now }
-{
-    if word == b"unspecified".as_slice() {
-        Some(RevokeReason::Unspecified)
-    } else if word == b"compromised".as_slice() {
-        Some(RevokeReason::Compromised)
-    } else if word == b"superseded".as_slice() {
-        Some(RevokeReason::Superseded)
-    } else {
-        None
     }
 }

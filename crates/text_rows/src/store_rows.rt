@@ -4,6 +4,7 @@ use crate::spelling::{cut, number, numbers, word};
 use fed_base::{Memory, Seq, Text};
 use fed_ports::{Clock, MemoryStore, NamedFile, RealClock, RealStore, Store, StoreFault};
 use std::alloc::Global;
+use std::io::Eprint;
 use std::rt::Files;
 use std::time::Clock as SystemClock;
 
@@ -51,7 +52,11 @@ pub fn memory(alloc: Global, given: &str) -> Result<Text, Memory> {
 }
 
 /// The same of a file of that name in the folder where the program runs.
-pub fn real<R: Files + AllocGlobal>(rt: &R, alloc: Global, given: &str) -> Result<Text, Memory> {
+pub fn real<R: Files + AllocGlobal + Eprint>(
+    rt: &R,
+    alloc: Global,
+    given: &str,
+) -> Result<Text, Memory> {
     let name = Text::of(alloc, given.as_bytes())?;
     let mut store = RealStore::new(rt);
     let before = letter(store.load(alloc, &name));

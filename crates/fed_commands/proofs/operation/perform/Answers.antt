@@ -3,6 +3,7 @@ use Rattle.std.specs.Prelude.{IfOk}
 use Rattle.fed_commands.specs.Findings.{IsVerified}
 use Rattle.fed_commands.specs.Operations.{IsPerformed}
 use Rattle.fed_commands.specs.declared.operation.Operation.TheVariants.{Verify}
+use Rattle.fed_commands.proofs.SealingLaws.{sealed_by_signer}
 use Rattle.fed_commands.proofs.operation.perform.Goals as goal
 
 -- src/operation.rt
@@ -11,3 +12,8 @@ returns-in-Verify-clause-performed c =
     let done = subst (λ t. IfOk c.verify.result (IsVerified c.in-Verify.key t)) c.as_slice.ensures c.verify.ensures in
     subst (λ j. IfOk c.verify.result (IsPerformed j c.args.input)) (sym c.in-Verify.is)
     (subst (λ i. IfOk c.verify.result (IsPerformed (Verify c.in-Verify.key) i)) (sym c.in-Some.is) done)
+
+-- src/operation.rt
+pub returns-in-Issue-clause-sealed : goal.returns-in-Issue-clause-sealed
+returns-in-Issue-clause-sealed c = λ ring typ also.
+    sealed_by_signer c.issue.result c.args.operation c.in-Issue.ring ring c.in-Issue.typ typ c.signer.result.now c.in-Issue.is c.signer.ensures c.issue.ensures.sealed also

@@ -1,14 +1,13 @@
 -- The first fault of a change, where it has one.
-use Rattle.std.proofs.Common.{◌≡◌, ◌≤◌, ◌<◌, ℕ, List, map, length, Bool, true, false, not, cond, nat_le, Option, Some, None, Result, Ok, Err, refl, sym, ap, ◌∙◌, subst, arith}
+use Rattle.std.proofs.Common.{◌≡◌, ◌≤◌, ◌<◌, ℕ, List, map, length, Bool, true, false, not, nat_le, Option, Some, None, refl, ap, ◌∙◌}
 use Rattle.std.proofs.lemmas.Bool.{le-leb, lt-leb}
 use Rattle.std.specs.Option.{option_or}
 use Rattle.key_ring.specs.declared.key.KeyState.{KeyState}
-use Rattle.key_ring.specs.declared.fault.OrderFault.{OrderFault}
 use Rattle.key_ring.specs.declared.fault.OrderFault.TheVariants.{Exp, NotLive, LastLive, Full}
 use Rattle.key_ring.specs.declared.fault.RingFault.{RingFault}
-use Rattle.key_ring.specs.declared.fault.RingFault.TheVariants.{Shape, Known, Unknown, Order, StoreFault, Memory}
+use Rattle.key_ring.specs.declared.fault.RingFault.TheVariants.{Known, Unknown, Order}
 use Rattle.key_ring.specs.declared.key.RingKey.{RingKey}
-use Rattle.key_ring.specs.Changes.{Add, Change, Put, after, fault_of, fault_of_putting, fault_where, kid_added, may_follow, with_state}
+use Rattle.key_ring.specs.Changes.{Add, Put, fault_of, fault_of_putting, fault_where, kid_added, may_follow, with_state}
 use Rattle.key_ring.specs.Rings.{Ring, has_key, has_live, key_at, most_keys}
 
 -- ---- the faults of a new key

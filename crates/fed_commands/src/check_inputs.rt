@@ -1,10 +1,10 @@
-// The keys of a trust anchor.
+// What a check is given: the keys of a trust anchor, and the texts of a chain.
 
 ghost use Rattle.std.specs.Prelude.{◌≡◌, IfOk, option_map};
-ghost use Rattle.fed_commands.specs.Checks.{keys_in};
+ghost use Rattle.fed_commands.specs.Checks.{chain_in, keys_in};
 
-use fed_json::{TreeFault, read_tree};
-use fed_ports::Memory;
+use fed_json::{TreeFault, copied_texts, read_tree};
+use fed_ports::{Memory, Seq, Text};
 use jwk_set::{JwkSet, SetFault};
 use std::alloc::Global;
 
@@ -21,5 +21,16 @@ pub fn read_keys(alloc: Global, file: &[u8]) -> Result<Option<JwkSet>, Memory>
         Ok(keys) => Ok(Some(keys)),
         Err(SetFault::Memory) => Err(Memory),
         Err(_) => Ok(None),
+    }
+}
+
+/// The texts of an input that is a JSON list of texts, the leaf's first, or `None` where it is none.
+pub fn read_chain(alloc: Global, input: Text) -> Result<Option<Seq<Text>>, Memory>
+    ensures { IfOk result (λ read. read ≡ chain_in input) }
+{
+    match read_tree(alloc, input.as_slice()) {
+        Ok(tree) => copied_texts(alloc, &tree),
+        Err(TreeFault::Syntax) => Ok(None),
+        Err(TreeFault::Memory) => Err(Memory),
     }
 }
