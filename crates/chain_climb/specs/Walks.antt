@@ -240,13 +240,13 @@ pub record Resumes (way : Route) (bounds : Bounds) (pages : List PageAnswer) (pa
   pub stops : StopsAt reached.stage way bounds pages paths.after reached
 
 -- the steps up to a place are done
-pub record IsAt (leaf anchor : Identifier) (bounds : Bounds) (pages : List PageAnswer) (judges : List Path) (queue : List Path) (rest : Findings → List Step) : Type 0 where
-  pub walked : Walked pages bounds.paths judges (λ found. climb found leaf anchor bounds.depth) rest (from_to [] queue)
+pub record IsAt (way : Route) (bounds : Bounds) (pages : List PageAnswer) (judges queue : List Path) (rest : Findings → List Step) : Type 0 where
+  pub walked : Walked pages bounds.paths judges (λ found. climb found way.leaf way.anchor bounds.depth) rest (from_to [] queue)
 
 -- a place at which a session goes no further
-pub record IsPlace (leaf anchor : Identifier) (bounds : Bounds) (pages : List PageAnswer) (judges : List Path) (queue : List Path) (place : Place) : Type 0 where
-  pub is_at : IsAt leaf anchor bounds pages judges queue (rest_at place.stage leaf anchor bounds.depth queue place)
-  pub stops : StopsAt place.stage (route leaf anchor) bounds pages queue place
+pub record IsPlace (way : Route) (bounds : Bounds) (pages : List PageAnswer) (judges queue : List Path) (place : Place) : Type 0 where
+  pub is_at : IsAt way bounds pages judges queue (rest_at place.stage way.leaf way.anchor bounds.depth queue place)
+  pub stops : StopsAt place.stage way bounds pages queue place
 
 -- the verdict on the path at hand comes last, where it is valid
 abbrev pub with_last : Stage → List Verdict → Path → List Verdict
@@ -266,7 +266,7 @@ pub record IsStanding (s : State) : Type 0 where
   pub earlier : List Verdict
   pub judged : AreJudged earlier judges
   pub verdicts : s.verdicts ≡ with_last s.place.stage earlier (path_at s.queue s.place)
-  pub place : IsPlace s.leaf s.anchor s.bounds s.pages judges s.queue s.place
+  pub place : IsPlace (route s.leaf s.anchor) s.bounds s.pages judges s.queue s.place
   pub calls : s.calls ≡ calls_in s.pages
   pub faults : s.faults ≡ faults_in s.pages
   pub few_calls : s.calls ≤ s.bounds.calls
