@@ -17,7 +17,7 @@ use Rattle.chain_climb.specs.declared.answer.PageAnswer.{PageAnswer}
 use Rattle.chain_climb.specs.Climbs.{Findings, Need, Step, add, configuration_of, last_of, longer, need, page_named, statement_about, through_hint, through_statement, through_superior}
 use Rattle.chain_climb.specs.Facings.{after_config, after_endpoint, after_statement, face_of}
 use Rattle.chain_climb.specs.Sessions.{Extends, IsAnswered, answer_to, finding_in, want_of}
-use Rattle.chain_climb.specs.Walks.{IsKnown, Walked}
+use Rattle.chain_climb.specs.Walks.{IsKnown, Walked, from_to}
 use Rattle.chain_climb.proofs.ClimbLaws.{any-among, false-from, last-append}
 use Rattle.chain_climb.proofs.PathLaws.{last-among}
 use Rattle.chain_climb.proofs.WalkLaws.{walked-need, walked-none, walked-same, walked-then}
@@ -25,7 +25,7 @@ use Rattle.chain_climb.proofs.WalkLaws.{walked-need, walked-none, walked-same, w
 -- the steps stop at the need of a page
 pub record Needs (pages : List PageAnswer) (most : ℕ) (steps : Findings → List Step) (page : Need) : Type 0 where
   pub rest : Findings → List Step
-  pub walked : (paths : List Path) → Walked pages most [] steps (λ found. need page ∷ rest found) paths paths
+  pub walked : (paths : List Path) → Walked pages most [] steps (λ found. need page ∷ rest found) (from_to paths paths)
 
 module _ (pages : List PageAnswer) (most : ℕ) (path : Path) (known : IsKnown pages path) (hint : Identifier) where
   abbrev new_path : List ℕ → Path
@@ -33,32 +33,32 @@ module _ (pages : List PageAnswer) (most : ℕ) (path : Path) (known : IsKnown p
 
   -- what the steps are, by what the hint comes to
   abbrev pub Faces : (Findings → List Step) → Facing → Type 0
-  Faces steps Passed = (paths : List Path) → Walked pages most [] steps (λ found. []) paths paths
+  Faces steps Passed = (paths : List Path) → Walked pages most [] steps (λ found. []) (from_to paths paths)
   Faces steps (Wants want) = (page : Need) × (want ≡ want_of page) × (answer_to pages page ≡ None) × Needs pages most steps page
   Faces steps AllSpent = (page : Need) × (answer_to pages page ≡ Some Spent) × Needs pages most steps page
-  Faces steps (Adds url) = IsKnown pages (new_path url) × ((paths : List Path) → Walked pages most [] steps (λ found. add (new_path url) ∷ []) paths paths)
+  Faces steps (Adds url) = IsKnown pages (new_path url) × ((paths : List Path) → Walked pages most [] steps (λ found. add (new_path url) ∷ []) (from_to paths paths))
 
-  needs_behind : (A B : Findings → List Step) (page : Need) → ((paths : List Path) → Walked pages most [] A B paths paths) → Needs pages most B page → Needs pages most A page
+  needs_behind : (A B : Findings → List Step) (page : Need) → ((paths : List Path) → Walked pages most [] A B (from_to paths paths)) → Needs pages most B page → Needs pages most A page
   needs_behind A B page walk needs = record {
     rest = needs.rest;
     walked = λ paths. walked-then pages most [] [] A B (λ found. need page ∷ needs.rest found) paths paths paths (walk paths) (needs.walked paths);
   }
 
   -- steps that come behind answered pages
-  behind : (A B : Findings → List Step) (facing : Facing) → ((paths : List Path) → Walked pages most [] A B paths paths) → Faces B facing → Faces A facing
+  behind : (A B : Findings → List Step) (facing : Facing) → ((paths : List Path) → Walked pages most [] A B (from_to paths paths)) → Faces B facing → Faces A facing
   behind A B Passed walk faces = λ paths. walked-then pages most [] [] A B (λ found. []) paths paths paths (walk paths) (faces paths)
   behind A B (Wants want) walk faces = (faces.0, faces.1, faces.2, needs_behind A B faces.0 walk faces.3)
   behind A B AllSpent walk faces = (faces.0, faces.1, needs_behind A B faces.0 walk faces.2)
   behind A B (Adds url) walk faces =
       (faces.0, λ paths. walked-then pages most [] [] A B (λ found. add (new_path url) ∷ []) paths paths paths (walk paths) (faces.1 paths))
 
-  same_steps : (A B : Findings → List Step) → ((found : Findings) → Extends found pages → A found ≡ B found) → (paths : List Path) → Walked pages most [] A B paths paths
+  same_steps : (A B : Findings → List Step) → ((found : Findings) → Extends found pages → A found ≡ B found) → (paths : List Path) → Walked pages most [] A B (from_to paths paths)
   same_steps A B same paths = walked-same pages most [] B B A paths paths same (walked-none pages most B paths)
 
   -- after a page that was answered, what it says is found
   after_need : (page : Need) (answer : Report) (rest : Findings → Option Claims → List Step) → answer_to pages page ≡ Some answer → IsAnswered pages page
       → ((found : Findings) → Extends found pages → found page ≡ finding_in answer)
-      → (paths : List Path) → Walked pages most [] (λ found. need page ∷ rest found (found page)) (λ found. rest found (finding_in answer)) paths paths
+      → (paths : List Path) → Walked pages most [] (λ found. need page ∷ rest found (found page)) (λ found. rest found (finding_in answer)) (from_to paths paths)
   after_need page answer rest is answered finds paths =
       walked-then pages most [] [] (λ found. need page ∷ rest found (found page)) (λ found. rest found (found page)) (λ found. rest found (finding_in answer)) paths paths paths
       (walked-need pages most page (λ found. rest found (found page)) paths answered)

@@ -22,7 +22,7 @@ use Rattle.chain_climb.specs.declared.state.State.{State}
 use Rattle.chain_climb.specs.Climbs.{Findings, Need, Step, climb, configuration_of, judge, with_chain}
 use Rattle.chain_climb.specs.Elements.{Among, NoneTwice}
 use Rattle.chain_climb.specs.Sessions.{AreJudged, FitsPage, IsNoChain, IsVerdict, answer_to, answers_page, calls_in, faults_in, first_answers_after, is_call, is_fault, is_same, is_valid_answer, page_of, was_asked}
-use Rattle.chain_climb.specs.Walks.{AllKnown, AreHints, Grows, HasPath, HasTakenPage, HasTakenVerdict, IsBegun, IsReady, IsStanding, LeafReaches, Reaches, Resumes, StopsAt, WaitsForPage, Walked, hint_rest, is_leaf_stop, path_at, path_rest, rest_at, with_last}
+use Rattle.chain_climb.specs.Walks.{AllKnown, AreHints, Grows, HasPath, HasTakenPage, HasTakenVerdict, IsBegun, IsReady, IsStanding, LeafReaches, Reaches, Resumes, StopsAt, WaitsForPage, Walked, from_to, hint_rest, is_leaf_stop, path_at, path_rest, rest_at, route, with_last}
 use Rattle.chain_climb.proofs.NextLaws.{judge_steps}
 use Rattle.chain_climb.proofs.StepLaws.{open-not_found, open_rest, open_stops}
 use Rattle.chain_climb.proofs.WalkLaws.{answer-more, append-nil, known-more, walked-judge, walked-more, walked-none, walked-same, walked-then}
@@ -55,7 +55,7 @@ begun leaf anchor l a bounds pages verdicts queue leaf_is anchor_is no_pages no_
     judged = tt;
     verdicts = no_verdicts;
     place = record {
-      is_at = record { walked = subst (Walked pages bounds.paths [] (λ found. climb found l a bounds.depth) (λ found. climb found l a bounds.depth) []) (sym no_queue) (walked-none pages bounds.paths (λ found. climb found l a bounds.depth) []) };
+      is_at = record { walked = subst (λ q. Walked pages bounds.paths [] (λ found. climb found l a bounds.depth) (λ found. climb found l a bounds.depth) (from_to [] q)) (sym no_queue) (walked-none pages bounds.paths (λ found. climb found l a bounds.depth) []) };
       stops = (no_queue, subst (λ ps. is_leaf_stop (answer_to ps (configuration_of l)) (nat_le bounds.paths 0) ≡ true) (sym no_pages) (no_answer l (nat_le bounds.paths 0)));
     };
     calls = no_calls ∙ ap calls_in (sym no_pages);
@@ -83,19 +83,19 @@ shrink-end now first count grows more less =
 -- ---- from one place to another
 
 module _ (leaf anchor : Identifier) (bounds : Bounds) (pages : List PageAnswer) (before after : List Path) (place reached : Place) where
-  pub resumes-leaf : place.stage ≡ Leaf → before ≡ [] → LeafReaches leaf anchor bounds pages after reached → Resumes leaf anchor bounds pages before after place reached
+  pub resumes-leaf : place.stage ≡ Leaf → before ≡ [] → LeafReaches leaf anchor bounds pages after reached → Resumes (route leaf anchor) bounds pages (from_to before after) place reached
   resumes-leaf stage none reaches = record {
     not_found = reaches.not_found;
-    walked = subst (λ g. Walked pages bounds.paths [] (rest_at g leaf anchor bounds.depth before place) (rest_at reached.stage leaf anchor bounds.depth after reached) before after) (sym stage)
-        (subst (λ q. Walked pages bounds.paths [] (λ found. climb found leaf anchor bounds.depth) (rest_at reached.stage leaf anchor bounds.depth after reached) q after) (sym none) reaches.walked);
+    walked = subst (λ g. Walked pages bounds.paths [] (rest_at g leaf anchor bounds.depth before place) (rest_at reached.stage leaf anchor bounds.depth after reached) (from_to before after)) (sym stage)
+        (subst (λ q. Walked pages bounds.paths [] (λ found. climb found leaf anchor bounds.depth) (rest_at reached.stage leaf anchor bounds.depth after reached) (from_to q after)) (sym none) reaches.walked);
     stops = reaches.stops;
   }
 
-  pub resumes-hint : place.stage ≡ Hint → Reaches anchor bounds pages (hint_rest anchor bounds.depth before (path_at before place) place.hint place.at place.level_end place.left) before after reached
-      → Resumes leaf anchor bounds pages before after place reached
+  pub resumes-hint : place.stage ≡ Hint → Reaches anchor bounds pages (hint_rest anchor bounds.depth before (path_at before place) place.hint place.at place.level_end place.left) (from_to before after) reached
+      → Resumes (route leaf anchor) bounds pages (from_to before after) place reached
   resumes-hint stage reaches = record {
     not_found = open-not_found reached.stage reaches.is_open;
-    walked = subst (λ g. Walked pages bounds.paths [] (rest_at g leaf anchor bounds.depth before place) (rest_at reached.stage leaf anchor bounds.depth after reached) before after) (sym stage)
+    walked = subst (λ g. Walked pages bounds.paths [] (rest_at g leaf anchor bounds.depth before place) (rest_at reached.stage leaf anchor bounds.depth after reached) (from_to before after)) (sym stage)
         (open_rest leaf anchor bounds.depth reached.stage after reached pages bounds.paths (hint_rest anchor bounds.depth before (path_at before place) place.hint place.at place.level_end place.left) before reaches.is_open reaches.walked);
     stops = open_stops leaf anchor bounds reached.stage pages after reached reaches.is_open reaches.stops;
   }
@@ -112,7 +112,7 @@ grown-hints pages x path hints are = record {
 }
 
 pub grown-ready : (stage : Stage) (leaf anchor : Identifier) (bounds : Bounds) (pages : List PageAnswer) (x : PageAnswer) (queue : List Path) (place : Place) → WaitsForPage stage
-    → StopsAt stage leaf anchor bounds pages queue place → IsReady stage (pages ++ x ∷ []) queue place
+    → StopsAt stage (route leaf anchor) bounds pages queue place → IsReady stage (pages ++ x ∷ []) queue place
 grown-ready Leaf leaf anchor bounds pages x queue place waits stops = stops.0
 grown-ready Hint leaf anchor bounds pages x queue place waits stops = (
   stops.0,
@@ -271,7 +271,7 @@ module _ (s : State) (st : IsStanding s) (page : PageAnswer) (waits : WaitsForPa
   pub fault-left : fault ≡ true → s.faults < s.bounds.calls
   fault-left is = let e = call-left (fault-call (was_asked s.pages page.url) page.answer is) in omega (arith, e, st.few_faults)
 
-  pub page-taken : (pages : List PageAnswer) (queue : List Path) (place : Place) (calls faults : ℕ) → pages ≡ s.pages ++ page ∷ [] → answer_to s.pages (page_of page) ≡ None → Resumes s.leaf s.anchor s.bounds pages s.queue queue s.place place
+  pub page-taken : (pages : List PageAnswer) (queue : List Path) (place : Place) (calls faults : ℕ) → pages ≡ s.pages ++ page ∷ [] → answer_to s.pages (page_of page) ≡ None → Resumes (route s.leaf s.anchor) s.bounds pages (from_to s.queue queue) s.place place
       → calls ≡ cond call (s.calls + 1) s.calls → faults ≡ cond fault (s.faults + 1) s.faults
       → HasTakenPage s (record { leaf = s.leaf; anchor = s.anchor; bounds = s.bounds; pages = pages; verdicts = s.verdicts; calls = calls; faults = faults; queue = queue; place = place }) page
   page-taken pages queue place calls faults pages_are new resumes calls_are faults_are = record {
@@ -284,10 +284,10 @@ module _ (s : State) (st : IsStanding s) (page : PageAnswer) (waits : WaitsForPa
         is_at = record {
           walked =
               let whole : Findings → List Step = λ found. climb found s.leaf s.anchor s.bounds.depth in
-              let first : Walked pages s.bounds.paths st.judges whole (rest_at s.place.stage s.leaf s.anchor s.bounds.depth s.queue s.place) [] s.queue =
-              subst (λ ps. Walked ps s.bounds.paths st.judges whole (rest_at s.place.stage s.leaf s.anchor s.bounds.depth s.queue s.place) [] s.queue) (sym pages_are)
+              let first : Walked pages s.bounds.paths st.judges whole (rest_at s.place.stage s.leaf s.anchor s.bounds.depth s.queue s.place) (from_to [] s.queue) =
+              subst (λ ps. Walked ps s.bounds.paths st.judges whole (rest_at s.place.stage s.leaf s.anchor s.bounds.depth s.queue s.place) (from_to [] s.queue)) (sym pages_are)
               (walked-more s.pages page s.bounds.paths st.judges whole (rest_at s.place.stage s.leaf s.anchor s.bounds.depth s.queue s.place) s.queue (st.place.is_at).walked) in
-              subst (λ j. Walked pages s.bounds.paths j whole (rest_at place.stage s.leaf s.anchor s.bounds.depth queue place) [] queue) (append-nil st.judges)
+              subst (λ j. Walked pages s.bounds.paths j whole (rest_at place.stage s.leaf s.anchor s.bounds.depth queue place) (from_to [] queue)) (append-nil st.judges)
               (walked-then pages s.bounds.paths st.judges [] whole (rest_at s.place.stage s.leaf s.anchor s.bounds.depth s.queue s.place) (rest_at place.stage s.leaf s.anchor s.bounds.depth queue place) [] s.queue queue first resumes.walked);
         };
         stops = resumes.stops;
@@ -362,7 +362,7 @@ verdict_is verdict path is valid = let e : record { path = verdict.path; answer 
 
 module _ (s : State) (st : IsStanding s) (stage : s.place.stage ≡ Judge) (verdict : Verdict) (path_is : verdict.path ≡ with_chain (path_at s.queue s.place)) (fits : IsVerdict verdict.answer) where
   verdict_stops : HasPath s.queue s.place × (bytes_eq (Rattle.chain_climb.specs.Climbs.last_of (path_at s.queue s.place)) s.anchor ≡ true)
-  verdict_stops = subst (λ g. StopsAt g s.leaf s.anchor s.bounds s.pages s.queue s.place) stage st.place.stops
+  verdict_stops = subst (λ g. StopsAt g (route s.leaf s.anchor) s.bounds s.pages s.queue s.place) stage st.place.stops
 
   pub verdict-has : HasPath s.queue s.place
   verdict-has = verdict_stops.0
@@ -379,8 +379,8 @@ module _ (s : State) (st : IsStanding s) (stage : s.place.stage ≡ Judge) (verd
   abbrev here : Findings → List Step
   here = path_rest s.anchor s.bounds.depth s.queue s.place.at s.place.level_end s.place.left
 
-  at_path : Walked s.pages s.bounds.paths st.judges whole here [] s.queue
-  at_path = subst (λ g. Walked s.pages s.bounds.paths st.judges whole (rest_at g s.leaf s.anchor s.bounds.depth s.queue s.place) [] s.queue) stage (st.place.is_at).walked
+  at_path : Walked s.pages s.bounds.paths st.judges whole here (from_to [] s.queue)
+  at_path = subst (λ g. Walked s.pages s.bounds.paths st.judges whole (rest_at g s.leaf s.anchor s.bounds.depth s.queue s.place) (from_to [] s.queue)) stage (st.place.is_at).walked
 
   pub verdict-found : (verdicts : List Verdict) (valid : Bool) → valid ≡ is_valid_answer verdict.answer → valid ≡ true → verdicts ≡ s.verdicts ++ verdict ∷ []
       → HasTakenVerdict s
@@ -419,17 +419,17 @@ module _ (s : State) (st : IsStanding s) (stage : s.place.stage ≡ Judge) (verd
   behind = path_rest s.anchor s.bounds.depth s.queue (s.place.at + 1) s.place.level_end s.place.left
 
   pub verdict-passed : (verdicts : List Verdict) (queue : List Path) (place : Place) (valid : Bool) → valid ≡ is_valid_answer verdict.answer → valid ≡ false → verdicts ≡ s.verdicts ++ verdict ∷ []
-      → Reaches s.anchor s.bounds s.pages behind s.queue queue place
+      → Reaches s.anchor s.bounds s.pages behind (from_to s.queue queue) place
       → HasTakenVerdict s (record { leaf = s.leaf; anchor = s.anchor; bounds = s.bounds; pages = s.pages; verdicts = verdicts; calls = s.calls; faults = s.faults; queue = queue; place = place }) verdict
   verdict-passed verdicts queue place valid tested is pushed reaches =
-      let judged_path : Walked s.pages s.bounds.paths (path_at s.queue s.place ∷ []) here behind s.queue s.queue =
+      let judged_path : Walked s.pages s.bounds.paths (path_at s.queue s.place ∷ []) here behind (from_to s.queue s.queue) =
       walked-same s.pages s.bounds.paths (path_at s.queue s.place ∷ []) (λ found. judge (path_at s.queue s.place) ∷ behind found) behind here s.queue s.queue
       (λ found extends. judge_steps s verdict_stops.0 verdict_stops.1 found) (walked-judge s.pages s.bounds.paths (path_at s.queue s.place) behind s.queue) in
-      let passed : Walked s.pages s.bounds.paths (st.judges ++ path_at s.queue s.place ∷ []) whole behind [] s.queue =
+      let passed : Walked s.pages s.bounds.paths (st.judges ++ path_at s.queue s.place ∷ []) whole behind (from_to [] s.queue) =
       walked-then s.pages s.bounds.paths st.judges (path_at s.queue s.place ∷ []) whole here behind [] s.queue s.queue at_path judged_path in
-      let reached : Walked s.pages s.bounds.paths [] behind (rest_at place.stage s.leaf s.anchor s.bounds.depth queue place) s.queue queue =
+      let reached : Walked s.pages s.bounds.paths [] behind (rest_at place.stage s.leaf s.anchor s.bounds.depth queue place) (from_to s.queue queue) =
       open_rest s.leaf s.anchor s.bounds.depth place.stage queue place s.pages s.bounds.paths behind s.queue reaches.is_open reaches.walked in
-      let all : Walked s.pages s.bounds.paths ((st.judges ++ path_at s.queue s.place ∷ []) ++ []) whole (rest_at place.stage s.leaf s.anchor s.bounds.depth queue place) [] queue =
+      let all : Walked s.pages s.bounds.paths ((st.judges ++ path_at s.queue s.place ∷ []) ++ []) whole (rest_at place.stage s.leaf s.anchor s.bounds.depth queue place) (from_to [] queue) =
       walked-then s.pages s.bounds.paths (st.judges ++ path_at s.queue s.place ∷ []) [] whole behind (rest_at place.stage s.leaf s.anchor s.bounds.depth queue place) [] s.queue queue passed reached in
       record {
         standing = record {
@@ -439,7 +439,7 @@ module _ (s : State) (st : IsStanding s) (stage : s.place.stage ≡ Judge) (verd
           verdicts = pushed ∙ ap (λ vs. vs ++ verdict ∷ []) earlier_is ∙ sym (other_last place.stage (st.earlier ++ verdict ∷ []) (path_at queue place) (open-not_found place.stage reaches.is_open));
           place = record {
             is_at = record {
-              walked = subst (λ j. Walked s.pages s.bounds.paths j whole (rest_at place.stage s.leaf s.anchor s.bounds.depth queue place) [] queue) (append-nil (st.judges ++ path_at s.queue s.place ∷ [])) all;
+              walked = subst (λ j. Walked s.pages s.bounds.paths j whole (rest_at place.stage s.leaf s.anchor s.bounds.depth queue place) (from_to [] queue)) (append-nil (st.judges ++ path_at s.queue s.place ∷ [])) all;
             };
             stops = open_stops s.leaf s.anchor s.bounds place.stage s.pages queue place reaches.is_open reaches.stops;
           };

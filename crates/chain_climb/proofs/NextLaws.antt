@@ -21,7 +21,7 @@ use Rattle.chain_climb.specs.declared.state.State.{State}
 use Rattle.chain_climb.specs.Climbs.{Findings, Need, Step, add, added, alone, climb, climb_from, configuration_of, hints_at, judge, last_of, look_at, need, through_hint}
 use Rattle.chain_climb.specs.Facings.{face_of}
 use Rattle.chain_climb.specs.Sessions.{AreJudged, IsBudget, IsNext, IsPlainEnd, Wants, WantsPage, answer_to, calls_in, findings_of, some_policy}
-use Rattle.chain_climb.specs.Walks.{AreHints, Grows, HasPath, IsKnown, IsStanding, StopsAt, StopsAtHint, Walked, end_of, facing_want, hint_at, hint_rest, hints_from, is_leaf_stop, is_stop, leaf_want, level_from, looks, no_path, onward, path_at, path_rest, rest_at, rest_from, search_of, wanted, wanted_at, with_last}
+use Rattle.chain_climb.specs.Walks.{AreHints, Grows, HasPath, IsKnown, IsStanding, StopsAt, StopsAtHint, Walked, end_of, facing_want, from_to, hint_at, hint_rest, hints_from, is_leaf_stop, is_stop, leaf_want, level_from, looks, no_path, onward, path_at, path_rest, rest_at, rest_from, route, search_of, wanted, wanted_at, with_last}
 use Rattle.chain_climb.proofs.FacingLaws.{Faces, hint-faces}
 use Rattle.chain_climb.proofs.StepLaws.{hints-same, hints_here, known-at, level-walk, level_here, look_steps}
 use Rattle.chain_climb.proofs.WalkLaws.{append-nil, extends-self, walked-need, walked-same, walked-then, walked-to, walked-within}
@@ -44,7 +44,7 @@ module _ (s : State) where
   whole found = climb found s.leaf s.anchor s.bounds.depth
 
   abbrev To : List Path → (Findings → List Step) → Type 0
-  To judges rest = Walked s.pages s.bounds.paths judges whole rest [] s.queue
+  To judges rest = Walked s.pages s.bounds.paths judges whole rest (from_to [] s.queue)
 
   next_at : (judges : List Path) (earlier : List Verdict) (want : Want) (rest : Findings → List Step) → To judges rest → AreJudged earlier judges → (left : List Step) → rest (findings_of s.pages) ≡ left
       → ((taken : List Step) → length (added taken) ≡ length s.queue → Wants (search_of s) earlier taken left want) → IsNext (search_of s) want
@@ -100,13 +100,12 @@ module _ (s : State) where
         (λ taken size. subst (λ r. WantsPage (search_of s) taken (configuration_of s.leaf) r (Done (Budget s.calls (length s.queue)))) (sym is) (budget calls taken size))
     next_leaf (Some (Good own origin)) is stop w =
         let none : s.bounds.paths ≤ 0 = le_test s.bounds.paths 0 stop in
-        let passed : Walked s.pages s.bounds.paths [] (λ found. need (configuration_of s.leaf) ∷ leaf_rest found (found (configuration_of s.leaf)))
-        (λ found. add (alone s.leaf) ∷ climb_from found s.anchor s.bounds.depth s.bounds.depth (alone s.leaf ∷ [])) s.queue s.queue =
+        let passed : Walked s.pages s.bounds.paths [] (λ found. need (configuration_of s.leaf) ∷ leaf_rest found (found (configuration_of s.leaf))) (λ found. add (alone s.leaf) ∷ climb_from found s.anchor s.bounds.depth s.bounds.depth (alone s.leaf ∷ [])) (from_to s.queue s.queue) =
         walked-to s.pages s.bounds.paths [] (λ found. need (configuration_of s.leaf) ∷ leaf_rest found (found (configuration_of s.leaf))) (λ found. leaf_rest found (found (configuration_of s.leaf)))
         (λ found. add (alone s.leaf) ∷ climb_from found s.anchor s.bounds.depth s.bounds.depth (alone s.leaf ∷ [])) s.queue s.queue
         (λ found extends. ap (leaf_rest found) (extends.agrees (configuration_of s.leaf) (Good own origin) is tt))
         (walked-need s.pages s.bounds.paths (configuration_of s.leaf) (λ found. leaf_rest found (found (configuration_of s.leaf))) s.queue (Good own origin, is, tt)) in
-        let all : Walked s.pages s.bounds.paths (judges ++ []) whole (λ found. add (alone s.leaf) ∷ climb_from found s.anchor s.bounds.depth s.bounds.depth (alone s.leaf ∷ [])) [] s.queue =
+        let all : Walked s.pages s.bounds.paths (judges ++ []) whole (λ found. add (alone s.leaf) ∷ climb_from found s.anchor s.bounds.depth s.bounds.depth (alone s.leaf ∷ [])) (from_to [] s.queue) =
         walked-then s.pages s.bounds.paths judges [] whole (λ found. need (configuration_of s.leaf) ∷ leaf_rest found (found (configuration_of s.leaf)))
         (λ found. add (alone s.leaf) ∷ climb_from found s.anchor s.bounds.depth s.bounds.depth (alone s.leaf ∷ [])) [] s.queue s.queue (leaf_need w) passed in
         at_add (alone s.leaf) (λ found. climb_from found s.anchor s.bounds.depth s.bounds.depth (alone s.leaf ∷ []))
@@ -127,13 +126,13 @@ module _ (s : State) where
       abbrev others : (Findings → List Step) → Findings → List Step
       others B = rest_from s.anchor s.bounds.depth s.queue (λ found. (B found ++ hints_from path (s.place.hint + 1) found) ++ looks s.anchor s.bounds.depth (level_from s.queue (s.place.at + 1) s.place.level_end) found) s.place.level_end s.place.left
 
-      moved : (B : Findings → List Step) → Walked s.pages s.bounds.paths [] through B s.queue s.queue → To judges (others B)
+      moved : (B : Findings → List Step) → Walked s.pages s.bounds.paths [] through B (from_to s.queue s.queue) → To judges (others B)
       moved B walk =
-          let part : Walked s.pages s.bounds.paths [] (hints_from path s.place.hint) (λ found. B found ++ hints_from path (s.place.hint + 1) found) s.queue s.queue =
+          let part : Walked s.pages s.bounds.paths [] (hints_from path s.place.hint) (λ found. B found ++ hints_from path (s.place.hint + 1) found) (from_to s.queue s.queue) =
           walked-same s.pages s.bounds.paths [] (λ found. through found ++ hints_from path (s.place.hint + 1) found) (λ found. B found ++ hints_from path (s.place.hint + 1) found) (hints_from path s.place.hint) s.queue s.queue
           (hints_here s.pages path hints are s.place.hint hint within (get_or-any hints s.place.hint [] hint within))
           (walked-within s.pages s.bounds.paths [] through B (hints_from path (s.place.hint + 1)) s.queue s.queue walk) in
-          let level : Walked s.pages s.bounds.paths [] (hint_rest s.anchor s.bounds.depth s.queue path s.place.hint s.place.at s.place.level_end s.place.left) (others B) s.queue s.queue =
+          let level : Walked s.pages s.bounds.paths [] (hint_rest s.anchor s.bounds.depth s.queue path s.place.hint s.place.at s.place.level_end s.place.left) (others B) (from_to s.queue s.queue) =
           level-walk s.anchor s.bounds.depth s.pages s.bounds.paths (hints_from path s.place.hint) (λ found. B found ++ hints_from path (s.place.hint + 1) found) s.queue s.queue (s.place.at + 1) s.place.level_end s.place.left has.1
           ([], sym (append-nil s.queue)) part in
           subst (λ j. To j (others B)) (append-nil judges)
@@ -213,7 +212,7 @@ module _ (s : State) where
   hint-at hints are = ap (λ hs. get_or hs s.place.hint []) (hints-same s.pages (path_at s.queue s.place) hints are (findings_of s.pages) (extends-self s.pages))
 
   by_stage : (stage : Stage) (judges : List Path) (earlier : List Verdict) → AreJudged earlier judges → s.verdicts ≡ with_last stage earlier (path_at s.queue s.place) → s.calls ≡ calls_in s.pages
-      → To judges (rest_at stage s.leaf s.anchor s.bounds.depth s.queue s.place) → StopsAt stage s.leaf s.anchor s.bounds s.pages s.queue s.place → IsNext (search_of s) (wanted_at stage s)
+      → To judges (rest_at stage s.leaf s.anchor s.bounds.depth s.queue s.place) → StopsAt stage (route s.leaf s.anchor) s.bounds s.pages s.queue s.place → IsNext (search_of s) (wanted_at stage s)
   by_stage Leaf judges earlier judged verdicts calls w stops = next_leaf judges earlier judged verdicts calls (answer_to s.pages (configuration_of s.leaf)) refl stops.1 w
   by_stage Hint judges earlier judged verdicts calls w stops =
       let at : StopsAtHint s.pages s.bounds.paths s.queue (path_at s.queue s.place) s.place.hint = stops.1 in
@@ -252,8 +251,8 @@ read-at_hand item slice queue at read same less =
     is ∙ get_or-any queue at item no_path less
 
 module _ (s : State) (st : IsStanding s) (stage : s.place.stage ≡ Hint) where
-  hint_stops : StopsAt Hint s.leaf s.anchor s.bounds s.pages s.queue s.place
-  hint_stops = subst (λ g. StopsAt g s.leaf s.anchor s.bounds s.pages s.queue s.place) stage st.place.stops
+  hint_stops : StopsAt Hint (route s.leaf s.anchor) s.bounds s.pages s.queue s.place
+  hint_stops = subst (λ g. StopsAt g (route s.leaf s.anchor) s.bounds s.pages s.queue s.place) stage st.place.stops
 
   pub hint-has : HasPath s.queue s.place
   hint-has = hint_stops.0

@@ -23,7 +23,7 @@ use Rattle.chain_climb.specs.declared.walk.Look.TheVariants.{Passed as PathPasse
 use Rattle.chain_climb.specs.Climbs.{Findings, Need, Step, add, added, alone, climb, climb_from, configuration_of, hints_at, last_of, longer, look_at, need, page_named, through_hint}
 use Rattle.chain_climb.specs.Facings.{face_of}
 use Rattle.chain_climb.specs.Sessions.{Extends, answer_to}
-use Rattle.chain_climb.specs.Walks.{AllKnown, AreHints, Grows, HasPath, HintTried, HintsTried, IsKnown, IsOpen, LeafReaches, LevelLooked, Looked, Reaches, StopsAt, StopsAtHint, Walked, below, hint_rest, hints_from, is_leaf_stop, level_from, looks, no_path, onward, path_at, path_rest, rest_at, rest_from}
+use Rattle.chain_climb.specs.Walks.{AllKnown, AreHints, Grows, HasPath, HintTried, HintsTried, IsKnown, IsOpen, LeafReaches, LevelLooked, Looked, Reaches, StopsAt, StopsAtHint, Walked, below, from_to, hint_rest, hints_from, hints_on, is_leaf_stop, level_from, level_of, looks, no_path, onward, path_at, path_rest, rest_at, rest_from, route}
 use Rattle.chain_climb.proofs.FacingLaws.{Faces, hint-faces}
 use Rattle.chain_climb.proofs.WalkLaws.{append-nil, walked-add, walked-need, walked-none, walked-onward, walked-same, walked-then, walked-to, walked-within}
 
@@ -44,12 +44,12 @@ hints-arm pages path last url text own origin hints some is at same good are = r
 }
 
 module _ (pages : List PageAnswer) (most : ℕ) (path : Path) (known : IsKnown pages path) (hint : Identifier) where
-  pub try_arm-passed : (facing : Facing) (paths : List Path) → facing ≡ face_of pages path hint → facing ≡ Passed → Walked pages most [] (λ found. through_hint found path hint) (λ found. []) paths paths
+  pub try_arm-passed : (facing : Facing) (paths : List Path) → facing ≡ face_of pages path hint → facing ≡ Passed → Walked pages most [] (λ found. through_hint found path hint) (λ found. []) (from_to paths paths)
   try_arm-passed facing paths is passed =
       subst (Faces pages most path known hint (λ found. through_hint found path hint)) (sym is ∙ passed) (hint-faces pages most path known hint) paths
 
   pub try_arm-adds : (facing : Facing) (url : List ℕ) (new : Path) (before after : List Path) → facing ≡ face_of pages path hint → facing ≡ Adds url → new ≡ longer path (page_named hint hint url)
-      → after ≡ before ++ new ∷ [] → length before < most → Walked pages most [] (λ found. through_hint found path hint) (λ found. []) before after
+      → after ≡ before ++ new ∷ [] → length before < most → Walked pages most [] (λ found. through_hint found path hint) (λ found. []) (from_to before after)
   try_arm-adds facing url new before after is adds new_is after_is room =
       let faces = subst (Faces pages most path known hint (λ found. through_hint found path hint)) (sym is ∙ adds) (hint-faces pages most path known hint) in
       walked-then pages most [] [] (λ found. through_hint found path hint) (λ found. add (longer path (page_named hint hint url)) ∷ []) (λ found. []) before before after (faces.1 before)
@@ -70,17 +70,17 @@ module _ (pages : List PageAnswer) (path : Path) (hints : List Identifier) (are 
       ∙ ap (λ hs. through_hint found path h ++ flat_map (through_hint found path) (drop (k + 1) hs)) (sym same)
 
   pub hints-step : (most k : ℕ) (h : Identifier) (before after : List Path) → k < length hints → h ≡ get_or hints k h
-      → Walked pages most [] (λ found. through_hint found path h) (λ found. []) before after → Walked pages most [] (hints_from path k) (hints_from path (k + 1)) before after
+      → Walked pages most [] (λ found. through_hint found path h) (λ found. []) (from_to before after) → Walked pages most [] (hints_from path k) (hints_from path (k + 1)) (from_to before after)
   hints-step most k h before after within is w =
       walked-same pages most [] (λ found. through_hint found path h ++ hints_from path (k + 1) found) (hints_from path (k + 1)) (hints_from path k) before after (hints_here k h within is)
       (walked-within pages most [] (λ found. through_hint found path h) (λ found. []) (hints_from path (k + 1)) before after w)
 
   pub tries_arm-more : (most from k : ℕ) (h : Identifier) (first before after : List Path) (passed : Bool) → k < length hints → h ≡ get_or hints k h → passed ≡ true
-      → HintTried pages most path h before after passed
-      → Walked pages most [] (hints_from path from) (hints_from path k) first before → Walked pages most [] (hints_from path from) (hints_from path (k + 1)) first after
+      → HintTried pages most path h (from_to before after) passed
+      → Walked pages most [] (hints_from path from) (hints_from path k) (from_to first before) → Walked pages most [] (hints_from path from) (hints_from path (k + 1)) (from_to first after)
   tries_arm-more most from k h first before after passed within is passes tried w =
       walked-then pages most [] [] (hints_from path from) (hints_from path k) (hints_from path (k + 1)) first before after w
-      (hints-step most k h before after within is (subst (HintTried pages most path h before after) passes tried))
+      (hints-step most k h before after within is (subst (HintTried pages most path h (from_to before after)) passes tried))
 
   -- behind the last hint nothing is left
   pub hints-end : (k : ℕ) → length hints ≤ k → (found : Findings) → Extends found pages → hints_from path k found ≡ []
@@ -112,9 +112,8 @@ module _ (anchor : Identifier) (depth : ℕ) where
 
   module _ (pages : List PageAnswer) (most : ℕ) where
     -- a part of a path, then the others of its level, and the levels that follow
-    pub level-walk : (A B : Findings → List Step) (before after : List Path) (at level_end left : ℕ) → level_end ≤ length before → Grows before after → Walked pages most [] A B before after
-        → Walked pages most [] (rest_from anchor depth before (λ found. A found ++ looks anchor depth (level_from before at level_end) found) level_end left)
-        (rest_from anchor depth after (λ found. B found ++ looks anchor depth (level_from after at level_end) found) level_end left) before after
+    pub level-walk : (A B : Findings → List Step) (before after : List Path) (at level_end left : ℕ) → level_end ≤ length before → Grows before after → Walked pages most [] A B (from_to before after)
+        → Walked pages most [] (rest_from anchor depth before (λ found. A found ++ looks anchor depth (level_from before at level_end) found) level_end left) (rest_from anchor depth after (λ found. B found ++ looks anchor depth (level_from after at level_end) found) level_end left) (from_to before after)
     level-walk A B before after at level_end left within grows w =
         walked-onward pages most [] anchor depth (λ found. A found ++ looks anchor depth (level_from before at level_end) found) (λ found. B found ++ looks anchor depth (level_from after at level_end) found) before after level_end left within
         (walked-to pages most [] (λ found. A found ++ looks anchor depth (level_from before at level_end) found) (λ found. B found ++ looks anchor depth (level_from before at level_end) found)
@@ -123,9 +122,8 @@ module _ (anchor : Identifier) (depth : ℕ) where
         (walked-within pages most [] A B (looks anchor depth (level_from before at level_end)) before after w))
 
     pub path-walk : (path : Path) (B : Findings → List Step) (before after : List Path) (at level_end left : ℕ) → at < level_end → level_end ≤ length before → path ≡ get_or before at path → Grows before after
-        → Walked pages most [] (λ found. look_at found anchor depth path) B before after
-        → Walked pages most [] (path_rest anchor depth before at level_end left)
-        (rest_from anchor depth after (λ found. B found ++ looks anchor depth (level_from after (at + 1) level_end) found) level_end left) before after
+        → Walked pages most [] (λ found. look_at found anchor depth path) B (from_to before after)
+        → Walked pages most [] (path_rest anchor depth before at level_end left) (rest_from anchor depth after (λ found. B found ++ looks anchor depth (level_from after (at + 1) level_end) found) level_end left) (from_to before after)
     path-walk path B before after at level_end left less within is grows w =
         walked-same pages most [] (rest_from anchor depth before (λ found. look_at found anchor depth path ++ looks anchor depth (level_from before (at + 1) level_end) found) level_end left)
         (rest_from anchor depth after (λ found. B found ++ looks anchor depth (level_from after (at + 1) level_end) found) level_end left) (path_rest anchor depth before at level_end left) before after
@@ -161,7 +159,7 @@ known-at pages paths at path known less is = known path (subst (λ p. Among p pa
 
 module _ (pages : List PageAnswer) (bounds : Bounds) (anchor : Identifier) (from level_end left : ℕ) (first between : List Path) (grows : Grows first between) (within : level_end ≤ length first) where
   abbrev FromPath : List Path → ℕ → Type 0
-  FromPath paths at = Walked pages bounds.paths [] (path_rest anchor bounds.depth first from level_end left) (path_rest anchor bounds.depth paths at level_end left) first paths
+  FromPath paths at = Walked pages bounds.paths [] (path_rest anchor bounds.depth first from level_end left) (path_rest anchor bounds.depth paths at level_end left) (from_to first paths)
 
   within_now : level_end ≤ length between
   within_now = let e = grows-length first between grows in omega (arith, e, within)
@@ -170,15 +168,15 @@ module _ (pages : List PageAnswer) (bounds : Bounds) (anchor : Identifier) (from
     pub level_arm-known : AllKnown pages first → IsKnown pages path
     level_arm-known known = let e = within_now in known-at pages between at path (w.known known) (omega (arith, e, less)) is
 
-    pub level_arm-more : (look : Look) (after : List Path) → look ≡ PathPassed → Looked pages bounds anchor path between after look → Grows between after → FromPath after (at + 1)
+    pub level_arm-more : (look : Look) (after : List Path) → look ≡ PathPassed → Looked pages bounds anchor path (from_to between after) look → Grows between after → FromPath after (at + 1)
     level_arm-more look after passed looked more =
         walked-then pages bounds.paths [] [] (path_rest anchor bounds.depth first from level_end left) (path_rest anchor bounds.depth between at level_end left) (path_rest anchor bounds.depth after (at + 1) level_end left) first between after w
-        (path-walk anchor bounds.depth pages bounds.paths path (λ found. []) between after at level_end left less within_now is more (subst (Looked pages bounds anchor path between after) passed looked))
+        (path-walk anchor bounds.depth pages bounds.paths path (λ found. []) between after at level_end left less within_now is more (subst (Looked pages bounds anchor path (from_to between after)) passed looked))
 
-    pub level_arm-judge : (look : Look) (after : List Path) → look ≡ ToJudge → Looked pages bounds anchor path between after look → Grows between after
-        → Reaches anchor bounds pages (path_rest anchor bounds.depth first from level_end left) first after (record { stage = Judge; at = at; hint = 0; level_end = level_end; left = left })
+    pub level_arm-judge : (look : Look) (after : List Path) → look ≡ ToJudge → Looked pages bounds anchor path (from_to between after) look → Grows between after
+        → Reaches anchor bounds pages (path_rest anchor bounds.depth first from level_end left) (from_to first after) (record { stage = Judge; at = at; hint = 0; level_end = level_end; left = left })
     level_arm-judge look after judges looked more =
-        let here : (after ≡ between) × (bytes_eq (last_of path) anchor ≡ true) = subst (Looked pages bounds anchor path between after) judges looked in
+        let here : (after ≡ between) × (bytes_eq (last_of path) anchor ≡ true) = subst (Looked pages bounds anchor path (from_to between after)) judges looked in
         let longer = grows-length between after more in
         record {
           is_open = tt;
@@ -189,16 +187,16 @@ module _ (pages : List PageAnswer) (bounds : Bounds) (anchor : Identifier) (from
           );
         }
 
-    pub level_arm-hint : (look : Look) (hint : ℕ) (after : List Path) → look ≡ AtHint hint → Looked pages bounds anchor path between after look → Grows between after
-        → Reaches anchor bounds pages (path_rest anchor bounds.depth first from level_end left) first after (record { stage = Hint; at = at; hint = hint; level_end = level_end; left = left })
+    pub level_arm-hint : (look : Look) (hint : ℕ) (after : List Path) → look ≡ AtHint hint → Looked pages bounds anchor path (from_to between after) look → Grows between after
+        → Reaches anchor bounds pages (path_rest anchor bounds.depth first from level_end left) (from_to first after) (record { stage = Hint; at = at; hint = hint; level_end = level_end; left = left })
     level_arm-hint look hint after stands looked more =
-        let here : Walked pages bounds.paths [] (λ found. look_at found anchor bounds.depth path) (hints_from path hint) between after × StopsAtHint pages bounds.paths after path hint =
-        subst (Looked pages bounds anchor path between after) stands looked in
+        let here : Walked pages bounds.paths [] (λ found. look_at found anchor bounds.depth path) (hints_from path hint) (from_to between after) × StopsAtHint pages bounds.paths after path hint =
+        subst (Looked pages bounds anchor path (from_to between after)) stands looked in
         let longer = grows-length between after more in
         let same : path ≡ get_or after at no_path = read-grown between after at path no_path (let e = within_now in omega (arith, e, less)) is more in
         record {
           is_open = tt;
-          walked = subst (λ p. Walked pages bounds.paths [] (path_rest anchor bounds.depth first from level_end left) (hint_rest anchor bounds.depth after p hint at level_end left) first after) same
+          walked = subst (λ p. Walked pages bounds.paths [] (path_rest anchor bounds.depth first from level_end left) (hint_rest anchor bounds.depth after p hint at level_end left) (from_to first after)) same
               (walked-then pages bounds.paths [] [] (path_rest anchor bounds.depth first from level_end left) (path_rest anchor bounds.depth between at level_end left) (hint_rest anchor bounds.depth after path hint at level_end left) first between after w
               (path-walk anchor bounds.depth pages bounds.paths path (hints_from path hint) between after at level_end left less within_now is more here.0));
           stops = (
@@ -241,43 +239,43 @@ module _ (anchor : Identifier) (depth : ℕ) where
 
 module _ (pages : List PageAnswer) (bounds : Bounds) (anchor : Identifier) (steps : Findings → List Step) (first between : List Path) where
   -- a place that is reached from where these steps led
-  pub reaches-then : (B : Findings → List Step) (after : List Path) (place : Place) → Walked pages bounds.paths [] steps B first between → Reaches anchor bounds pages B between after place
-      → Reaches anchor bounds pages steps first after place
+  pub reaches-then : (B : Findings → List Step) (after : List Path) (place : Place) → Walked pages bounds.paths [] steps B (from_to first between) → Reaches anchor bounds pages B (from_to between after) place
+      → Reaches anchor bounds pages steps (from_to first after) place
   reaches-then B after place w reaches = record {
     is_open = reaches.is_open;
     walked = walked-then pages bounds.paths [] [] steps B (rest_at place.stage [] anchor bounds.depth after place) first between after w reaches.walked;
     stops = reaches.stops;
   }
 
-  module _ (from level_end left : ℕ) (w : Walked pages bounds.paths [] steps (path_rest anchor bounds.depth between from level_end left) first between) (after : List Path) (found_place : Option Place)
-      (looked : LevelLooked pages bounds anchor from level_end left between after found_place) where
-    pub levels_arm-some : (place : Place) → found_place ≡ Some place → Reaches anchor bounds pages steps first after place
+  module _ (from level_end left : ℕ) (w : Walked pages bounds.paths [] steps (path_rest anchor bounds.depth between from level_end left) (from_to first between)) (after : List Path) (found_place : Option Place)
+      (looked : LevelLooked pages bounds anchor (level_of from level_end left) (from_to between after) found_place) where
+    pub levels_arm-some : (place : Place) → found_place ≡ Some place → Reaches anchor bounds pages steps (from_to first after) place
     levels_arm-some place is =
-        reaches-then (path_rest anchor bounds.depth between from level_end left) after place w (subst (LevelLooked pages bounds anchor from level_end left between after) is looked)
+        reaches-then (path_rest anchor bounds.depth between from level_end left) after place w (subst (LevelLooked pages bounds anchor (level_of from level_end left) (from_to between after)) is looked)
 
-    passed : found_place ≡ None → Walked pages bounds.paths [] steps (path_rest anchor bounds.depth after level_end level_end left) first after
+    passed : found_place ≡ None → Walked pages bounds.paths [] steps (path_rest anchor bounds.depth after level_end level_end left) (from_to first after)
     passed is =
         walked-then pages bounds.paths [] [] steps (path_rest anchor bounds.depth between from level_end left) (path_rest anchor bounds.depth after level_end level_end left) first between after w
-        (subst (LevelLooked pages bounds anchor from level_end left between after) is looked)
+        (subst (LevelLooked pages bounds anchor (level_of from level_end left) (from_to between after)) is looked)
 
-    pub levels_arm-ended : found_place ≡ None → left ≡ 0 → Reaches anchor bounds pages steps first after (record { stage = Ended; at = 0; hint = 0; level_end = 0; left = 0 })
+    pub levels_arm-ended : found_place ≡ None → left ≡ 0 → Reaches anchor bounds pages steps (from_to first after) (record { stage = Ended; at = 0; hint = 0; level_end = 0; left = 0 })
     levels_arm-ended is none = record {
       is_open = tt;
       walked = walked-to pages bounds.paths [] steps (path_rest anchor bounds.depth after level_end level_end 0) (λ found. []) first after (λ found extends. levels-over anchor bounds.depth after level_end found)
-          (subst (λ n. Walked pages bounds.paths [] steps (path_rest anchor bounds.depth after level_end level_end n) first after) none (passed is));
+          (subst (λ n. Walked pages bounds.paths [] steps (path_rest anchor bounds.depth after level_end level_end n) (from_to first after)) none (passed is));
       stops = tt;
     }
 
-    pub levels_arm-more : found_place ≡ None → (left ≡ 0 → ⊥) → (last : ℕ) → last ≡ length after → Walked pages bounds.paths [] steps (path_rest anchor bounds.depth after level_end last (left - 1)) first after
+    pub levels_arm-more : found_place ≡ None → (left ≡ 0 → ⊥) → (last : ℕ) → last ≡ length after → Walked pages bounds.paths [] steps (path_rest anchor bounds.depth after level_end last (left - 1)) (from_to first after)
     levels_arm-more is some last all =
-        subst (λ n. Walked pages bounds.paths [] steps (path_rest anchor bounds.depth after level_end n (left - 1)) first after) (sym all)
+        subst (λ n. Walked pages bounds.paths [] steps (path_rest anchor bounds.depth after level_end n (left - 1)) (from_to first after)) (sym all)
         (walked-to pages bounds.paths [] steps (path_rest anchor bounds.depth after level_end level_end left) (path_rest anchor bounds.depth after level_end (length after) (left - 1)) first after
         (λ found extends. levels-next anchor bounds.depth after level_end left some found) (passed is))
 
 -- ---- from a hint
 
 module _ (pages : List PageAnswer) (bounds : Bounds) (anchor : Identifier) (place : Place) (before between : List Path) (grows : Grows before between) (at : HasPath before place) (path : Path)
-    (is : path ≡ get_or before place.at path) (hints : List Identifier) (are : AreHints pages path hints) (hint : ℕ) (tried : HintsTried pages bounds.paths path hints place.hint before between hint) where
+    (is : path ≡ get_or before place.at path) (hints : List Identifier) (are : AreHints pages path hints) (hint : ℕ) (tried : HintsTried pages bounds.paths (hints_on path hints) place.hint (from_to before between) hint) where
   abbrev from_here : Path → Findings → List Step
   from_here p = hint_rest anchor bounds.depth before p place.hint place.at place.level_end place.left
 
@@ -288,14 +286,14 @@ module _ (pages : List PageAnswer) (bounds : Bounds) (anchor : Identifier) (plac
   same_path = get_or_read before place.at path less is no_path
 
   pub hint_arm-stop : hint < length hints
-      → Reaches anchor bounds pages (from_here (path_at before place)) before between (record { stage = Hint; at = place.at; hint = hint; level_end = place.level_end; left = place.left })
+      → Reaches anchor bounds pages (from_here (path_at before place)) (from_to before between) (record { stage = Hint; at = place.at; hint = hint; level_end = place.level_end; left = place.left })
   hint_arm-stop short =
       let same : path ≡ get_or between place.at no_path = read-grown before between place.at path no_path less is grows in
       let longer = grows-length before between grows in
       record {
         is_open = tt;
-        walked = subst (λ p. Walked pages bounds.paths [] (from_here (path_at before place)) (hint_rest anchor bounds.depth between p hint place.at place.level_end place.left) before between) same
-            (subst (λ p. Walked pages bounds.paths [] (from_here p) (hint_rest anchor bounds.depth between path hint place.at place.level_end place.left) before between) same_path
+        walked = subst (λ p. Walked pages bounds.paths [] (from_here (path_at before place)) (hint_rest anchor bounds.depth between p hint place.at place.level_end place.left) (from_to before between)) same
+            (subst (λ p. Walked pages bounds.paths [] (from_here p) (hint_rest anchor bounds.depth between path hint place.at place.level_end place.left) (from_to before between)) same_path
             (level-walk anchor bounds.depth pages bounds.paths (hints_from path place.hint) (hints_from path hint) before between (place.at + 1) place.level_end place.left at.1 grows tried.walked));
         stops = (
           (at.0, omega (arith, at.1, longer)),
@@ -304,11 +302,11 @@ module _ (pages : List PageAnswer) (bounds : Bounds) (anchor : Identifier) (plac
       }
 
   pub hint_arm-end : length hints ≤ hint → (after : List Path) (reached : Place)
-      → Reaches anchor bounds pages (path_rest anchor bounds.depth between (place.at + 1) place.level_end place.left) between after reached
-      → Reaches anchor bounds pages (from_here (path_at before place)) before after reached
+      → Reaches anchor bounds pages (path_rest anchor bounds.depth between (place.at + 1) place.level_end place.left) (from_to between after) reached
+      → Reaches anchor bounds pages (from_here (path_at before place)) (from_to before after) reached
   hint_arm-end all after reached reaches =
       reaches-then pages bounds anchor (from_here (path_at before place)) before between (path_rest anchor bounds.depth between (place.at + 1) place.level_end place.left) after reached
-      (subst (λ p. Walked pages bounds.paths [] (from_here p) (path_rest anchor bounds.depth between (place.at + 1) place.level_end place.left) before between) same_path
+      (subst (λ p. Walked pages bounds.paths [] (from_here p) (path_rest anchor bounds.depth between (place.at + 1) place.level_end place.left) (from_to before between)) same_path
       (level-walk anchor bounds.depth pages bounds.paths (hints_from path place.hint) (λ found. []) before between (place.at + 1) place.level_end place.left at.1 grows
       (walked-to pages bounds.paths [] (hints_from path place.hint) (hints_from path hint) (λ found. []) before between (hints-end pages path hints are hint all) tried.walked)))
       reaches
@@ -317,14 +315,14 @@ module _ (pages : List PageAnswer) (bounds : Bounds) (anchor : Identifier) (plac
 
 module _ (leaf anchor : Identifier) (depth : ℕ) where
   pub open_rest : (stage : Stage) (queue : List Path) (place : Place) (pages : List PageAnswer) (most : ℕ) (steps : Findings → List Step) (before : List Path) → IsOpen stage
-      → Walked pages most [] steps (rest_at stage [] anchor depth queue place) before queue → Walked pages most [] steps (rest_at stage leaf anchor depth queue place) before queue
+      → Walked pages most [] steps (rest_at stage [] anchor depth queue place) (from_to before queue) → Walked pages most [] steps (rest_at stage leaf anchor depth queue place) (from_to before queue)
   open_rest Leaf queue place pages most steps before is w = absurd is
   open_rest Hint queue place pages most steps before is w = w
   open_rest Judge queue place pages most steps before is w = w
   open_rest Found queue place pages most steps before is w = absurd is
   open_rest Ended queue place pages most steps before is w = w
 
-pub open_stops : (leaf anchor : Identifier) (bounds : Bounds) (stage : Stage) (pages : List PageAnswer) (queue : List Path) (place : Place) → IsOpen stage → StopsAt stage [] anchor bounds pages queue place → StopsAt stage leaf anchor bounds pages queue place
+pub open_stops : (leaf anchor : Identifier) (bounds : Bounds) (stage : Stage) (pages : List PageAnswer) (queue : List Path) (place : Place) → IsOpen stage → StopsAt stage (route [] anchor) bounds pages queue place → StopsAt stage (route leaf anchor) bounds pages queue place
 open_stops leaf anchor bounds Leaf pages queue place is stops = absurd is
 open_stops leaf anchor bounds Hint pages queue place is stops = stops
 open_stops leaf anchor bounds Judge pages queue place is stops = stops
@@ -343,7 +341,7 @@ module _ (pages : List PageAnswer) (leaf anchor : Identifier) (bounds : Bounds) 
   whole found = climb found leaf anchor bounds.depth
 
   -- from the steps of the whole search to a place
-  pub leaf_reaches : (steps : Findings → List Step) (between after : List Path) (place : Place) → Walked pages bounds.paths [] whole steps [] between → Reaches anchor bounds pages steps between after place
+  pub leaf_reaches : (steps : Findings → List Step) (between after : List Path) (place : Place) → Walked pages bounds.paths [] whole steps (from_to [] between) → Reaches anchor bounds pages steps (from_to between after) place
       → LeafReaches leaf anchor bounds pages after place
   leaf_reaches steps between after place w reaches =
       let all = reaches-then pages bounds anchor whole [] between steps after place w reaches in
@@ -361,7 +359,7 @@ module _ (pages : List PageAnswer) (leaf anchor : Identifier) (bounds : Bounds) 
         → LeafReaches leaf anchor bounds pages queue (record { stage = Leaf; at = 0; hint = 0; level_end = 0; left = 0 })
     leaf_arm-stays o is stop = record {
       not_found = λ e. cc;
-      walked = subst (λ q. Walked pages bounds.paths [] whole whole [] q) (sym none) (walked-none pages bounds.paths whole []);
+      walked = subst (λ q. Walked pages bounds.paths [] whole whole (from_to [] q)) (sym none) (walked-none pages bounds.paths whole []);
       stops = (none, ap (λ r. is_leaf_stop r (nat_le bounds.paths 0)) (at_leaf o is) ∙ stop);
     }
 
@@ -373,7 +371,7 @@ module _ (pages : List PageAnswer) (leaf anchor : Identifier) (bounds : Bounds) 
     whole_steps found = refl
 
     behind_leaf : (answer : Report) → answer_to pages (page_named leaf leaf text) ≡ Some answer → Rattle.chain_climb.specs.Sessions.IsPageAnswer answer
-        → Walked pages bounds.paths [] whole (λ found. leaf_rest found (Rattle.chain_climb.specs.Sessions.finding_in answer)) [] []
+        → Walked pages bounds.paths [] whole (λ found. leaf_rest found (Rattle.chain_climb.specs.Sessions.finding_in answer)) (from_to [] [])
     behind_leaf answer is good =
         let there = at_leaf (Some answer) is in
         walked-same pages bounds.paths [] (λ found. need (configuration_of leaf) ∷ leaf_rest found (found (configuration_of leaf))) (λ found. leaf_rest found (Rattle.chain_climb.specs.Sessions.finding_in answer)) whole [] []
@@ -387,7 +385,7 @@ module _ (pages : List PageAnswer) (leaf anchor : Identifier) (bounds : Bounds) 
         → LeafReaches leaf anchor bounds pages queue (record { stage = Ended; at = 0; hint = 0; level_end = 0; left = 0 })
     leaf_arm-ended answer is good nothing = record {
       not_found = λ e. cc;
-      walked = subst (λ q. Walked pages bounds.paths [] whole (λ found. []) [] q) (sym none)
+      walked = subst (λ q. Walked pages bounds.paths [] whole (λ found. []) (from_to [] q)) (sym none)
           (walked-to pages bounds.paths [] whole (λ found. leaf_rest found (Rattle.chain_climb.specs.Sessions.finding_in answer)) (λ found. []) [] [] (λ found extends. ap (leaf_rest found) nothing) (behind_leaf answer is good));
       stops = tt;
     }
@@ -405,16 +403,16 @@ module _ (pages : List PageAnswer) (leaf anchor : Identifier) (bounds : Bounds) 
       rest_is : (found : Findings) → climb_from found anchor bounds.depth bounds.depth (alone leaf ∷ []) ≡ path_rest anchor bounds.depth (alone leaf ∷ []) 0 1 bounds.depth found
       rest_is found = from-onward anchor bounds.depth bounds.depth (alone leaf ∷ []) found
 
-      pub leaf_arm-goes : (bounds.paths ≡ 0 → ⊥) → (after : List Path) (place : Place) → Reaches anchor bounds pages (path_rest anchor bounds.depth pushed 0 1 bounds.depth) pushed after place
+      pub leaf_arm-goes : (bounds.paths ≡ 0 → ⊥) → (after : List Path) (place : Place) → Reaches anchor bounds pages (path_rest anchor bounds.depth pushed 0 1 bounds.depth) (from_to pushed after) place
           → LeafReaches leaf anchor bounds pages after place
       leaf_arm-goes room after place reaches =
-          let first : Walked pages bounds.paths [] whole (λ found. add (alone leaf) ∷ climb_from found anchor bounds.depth bounds.depth (alone leaf ∷ [])) [] [] = behind_leaf (Good own origin) good tt in
-          let second : Walked pages bounds.paths [] (λ found. add (alone leaf) ∷ climb_from found anchor bounds.depth bounds.depth (alone leaf ∷ [])) (λ found. climb_from found anchor bounds.depth bounds.depth (alone leaf ∷ [])) [] (alone leaf ∷ []) =
+          let first : Walked pages bounds.paths [] whole (λ found. add (alone leaf) ∷ climb_from found anchor bounds.depth bounds.depth (alone leaf ∷ [])) (from_to [] []) = behind_leaf (Good own origin) good tt in
+          let second : Walked pages bounds.paths [] (λ found. add (alone leaf) ∷ climb_from found anchor bounds.depth bounds.depth (alone leaf ∷ [])) (λ found. climb_from found anchor bounds.depth bounds.depth (alone leaf ∷ [])) (from_to [] (alone leaf ∷ [])) =
           walked-add pages bounds.paths (alone leaf) (λ found. climb_from found anchor bounds.depth bounds.depth (alone leaf ∷ [])) [] (alone leaf ∷ []) refl (omega (arith, room)) known_leaf in
           let both = walked-then pages bounds.paths [] [] whole (λ found. add (alone leaf) ∷ climb_from found anchor bounds.depth bounds.depth (alone leaf ∷ [])) (λ found. climb_from found anchor bounds.depth bounds.depth (alone leaf ∷ [])) [] [] (alone leaf ∷ []) first second in
           let w = walked-to pages bounds.paths [] whole (λ found. climb_from found anchor bounds.depth bounds.depth (alone leaf ∷ [])) (path_rest anchor bounds.depth (alone leaf ∷ []) 0 1 bounds.depth) [] (alone leaf ∷ []) (λ found extends. rest_is found) both in
           leaf_reaches (path_rest anchor bounds.depth (alone leaf ∷ []) 0 1 bounds.depth) (alone leaf ∷ []) after place w
-          (subst (λ q. Reaches anchor bounds pages (path_rest anchor bounds.depth q 0 1 bounds.depth) q after place) pushed_alone reaches)
+          (subst (λ q. Reaches anchor bounds pages (path_rest anchor bounds.depth q 0 1 bounds.depth) (from_to q after) place) pushed_alone reaches)
 
 -- a copy of what was read
 pub read-is : (path item : Path) (slice queue : List Path) (at : ℕ) → path ≡ item → item ≡ get_or slice at item → slice ≡ queue → path ≡ get_or queue at path

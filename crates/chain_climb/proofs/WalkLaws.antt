@@ -11,7 +11,7 @@ use Rattle.chain_climb.specs.declared.answer.Report.{Report}
 use Rattle.chain_climb.specs.declared.answer.PageAnswer.{PageAnswer}
 use Rattle.chain_climb.specs.Climbs.{Findings, Need, Step, add, added, added_by, judge, judged, judged_by, need, needed, needed_by}
 use Rattle.chain_climb.specs.Sessions.{Extends, IsAnswered, answer_to, answers_page, finding_in, findings_of}
-use Rattle.chain_climb.specs.Walks.{AllKnown, IsKnown, Walked, below, onward, rest_from}
+use Rattle.chain_climb.specs.Walks.{AllKnown, IsKnown, Walked, below, from_to, onward, rest_from}
 
 pub append-nil : {X : Type 0} (xs : List X) → xs ++ [] ≡ xs
 append-nil [] = refl
@@ -50,7 +50,7 @@ extends-self pages = record { agrees = λ page answer e is. ap (option_and_then 
 -- ---- walks
 
 module _ (pages : List PageAnswer) (most : ℕ) where
-  pub walked-none : (steps : Findings → List Step) (paths : List Path) → Walked pages most [] steps steps paths paths
+  pub walked-none : (steps : Findings → List Step) (paths : List Path) → Walked pages most [] steps steps (from_to paths paths)
   walked-none steps paths = record {
     taken = [];
     is = λ found extends. refl;
@@ -61,8 +61,8 @@ module _ (pages : List PageAnswer) (most : ℕ) where
     known = λ known. known;
   }
 
-  pub walked-then : (j k : List Path) (A B C : Findings → List Step) (before between after : List Path) → Walked pages most j A B before between → Walked pages most k B C between after
-      → Walked pages most (j ++ k) A C before after
+  pub walked-then : (j k : List Path) (A B C : Findings → List Step) (before between after : List Path) → Walked pages most j A B (from_to before between) → Walked pages most k B C (from_to between after)
+      → Walked pages most (j ++ k) A C (from_to before after)
   walked-then j k A B C before between after v w = record {
     taken = v.taken ++ w.taken;
     is = λ found extends. v.is found extends ∙ ap (λ l. v.taken ++ l) (w.is found extends) ∙ sym (append_assoc v.taken w.taken (C found));
@@ -77,7 +77,7 @@ module _ (pages : List PageAnswer) (most : ℕ) where
   }
 
   pub walked-same : (j : List Path) (A B C : Findings → List Step) (before after : List Path) → ((found : Findings) → Extends found pages → C found ≡ A found)
-      → Walked pages most j A B before after → Walked pages most j C B before after
+      → Walked pages most j A B (from_to before after) → Walked pages most j C B (from_to before after)
   walked-same j A B C before after same w = record {
     taken = w.taken;
     is = λ found extends. same found extends ∙ w.is found extends;
@@ -89,7 +89,7 @@ module _ (pages : List PageAnswer) (most : ℕ) where
   }
 
   pub walked-to : (j : List Path) (A B C : Findings → List Step) (before after : List Path) → ((found : Findings) → Extends found pages → B found ≡ C found)
-      → Walked pages most j A B before after → Walked pages most j A C before after
+      → Walked pages most j A B (from_to before after) → Walked pages most j A C (from_to before after)
   walked-to j A B C before after same w = record {
     taken = w.taken;
     is = λ found extends. w.is found extends ∙ ap (λ l. w.taken ++ l) (same found extends);
@@ -101,8 +101,8 @@ module _ (pages : List PageAnswer) (most : ℕ) where
   }
 
   -- with more steps behind
-  pub walked-within : (j : List Path) (A B C : Findings → List Step) (before after : List Path) → Walked pages most j A B before after
-      → Walked pages most j (λ found. A found ++ C found) (λ found. B found ++ C found) before after
+  pub walked-within : (j : List Path) (A B C : Findings → List Step) (before after : List Path) → Walked pages most j A B (from_to before after)
+      → Walked pages most j (λ found. A found ++ C found) (λ found. B found ++ C found) (from_to before after)
   walked-within j A B C before after w = record {
     taken = w.taken;
     is = λ found extends. ap (λ l. l ++ C found) (w.is found extends) ∙ append_assoc w.taken (B found) (C found);
@@ -113,7 +113,7 @@ module _ (pages : List PageAnswer) (most : ℕ) where
     known = w.known;
   }
 
-  pub walked-need : (page : Need) (rest : Findings → List Step) (paths : List Path) → IsAnswered pages page → Walked pages most [] (λ found. need page ∷ rest found) rest paths paths
+  pub walked-need : (page : Need) (rest : Findings → List Step) (paths : List Path) → IsAnswered pages page → Walked pages most [] (λ found. need page ∷ rest found) rest (from_to paths paths)
   walked-need page rest paths answered = record {
     taken = need page ∷ [];
     is = λ found extends. refl;
@@ -124,7 +124,7 @@ module _ (pages : List PageAnswer) (most : ℕ) where
     known = λ known. known;
   }
 
-  pub walked-judge : (path : Path) (rest : Findings → List Step) (paths : List Path) → Walked pages most (path ∷ []) (λ found. judge path ∷ rest found) rest paths paths
+  pub walked-judge : (path : Path) (rest : Findings → List Step) (paths : List Path) → Walked pages most (path ∷ []) (λ found. judge path ∷ rest found) rest (from_to paths paths)
   walked-judge path rest paths = record {
     taken = judge path ∷ [];
     is = λ found extends. refl;
@@ -142,7 +142,7 @@ module _ (pages : List PageAnswer) (most : ℕ) where
   ]
 
   pub walked-add : (path : Path) (rest : Findings → List Step) (before after : List Path) → after ≡ before ++ path ∷ [] → length before < most → IsKnown pages path
-      → Walked pages most [] (λ found. add path ∷ rest found) rest before after
+      → Walked pages most [] (λ found. add path ∷ rest found) rest (from_to before after)
   walked-add path rest before after is room known = record {
     taken = add path ∷ [];
     is = λ found extends. refl;
@@ -163,8 +163,8 @@ module _ (pages : List PageAnswer) (most : ℕ) where
       (ap (λ l. longer ++ l) (filter_map-append added_by taken rest) ∙ sym (append_assoc longer (added taken) (added rest)) ∙ ap (λ l. l ++ added rest) (sym adds))
 
   pub walked-onward : (j : List Path) (anchor : Identifier) (depth : ℕ) (A B : Findings → List Step) (before after : List Path) (level_end left : ℕ) → level_end ≤ length before
-      → Walked pages most j A B before after
-      → Walked pages most j (rest_from anchor depth before A level_end left) (rest_from anchor depth after B level_end left) before after
+      → Walked pages most j A B (from_to before after)
+      → Walked pages most j (rest_from anchor depth before A level_end left) (rest_from anchor depth after B level_end left) (from_to before after)
   walked-onward j anchor depth A B before after level_end left within w = record {
     taken = w.taken;
     is = λ found extends. onward_taken found anchor depth w.taken (B found) (A found) (drop level_end before) (drop level_end after) left (w.is found extends)
@@ -177,8 +177,8 @@ module _ (pages : List PageAnswer) (most : ℕ) where
   }
 
 -- one answer more
-pub walked-more : (pages : List PageAnswer) (x : PageAnswer) (most : ℕ) (j : List Path) (A B : Findings → List Step) (after : List Path) → Walked pages most j A B [] after
-    → Walked (pages ++ x ∷ []) most j A B [] after
+pub walked-more : (pages : List PageAnswer) (x : PageAnswer) (most : ℕ) (j : List Path) (A B : Findings → List Step) (after : List Path) → Walked pages most j A B (from_to [] after)
+    → Walked (pages ++ x ∷ []) most j A B (from_to [] after)
 walked-more pages x most j A B after w = record {
   taken = w.taken;
   is = λ found extends. w.is found (extends-less found pages x extends);

@@ -6,7 +6,6 @@ use Rattle.chain_climb.specs.declared.facing.Facing.{Facing}
 use Rattle.chain_climb.specs.declared.facing.Facing.TheVariants.{Passed, Wants as FacingWants, Spent as AllSpent, Adds}
 use Rattle.chain_climb.specs.declared.answer.Answer.{Answer}
 use Rattle.chain_climb.specs.declared.answer.Report.{Report}
-use Rattle.chain_climb.specs.declared.answer.Verdict.{Verdict}
 use Rattle.chain_climb.specs.declared.want.Want.{Want}
 use Rattle.chain_climb.specs.declared.want.Want.TheVariants.{Config, Superior, Judge as JudgePath}
 use Rattle.chain_climb.specs.declared.place.Stage.{Stage}
@@ -15,7 +14,7 @@ use Rattle.chain_climb.specs.declared.state.State.{State}
 use Rattle.chain_climb.specs.Climbs.{Findings, Need, Step, page_named, through_hint, with_chain}
 use Rattle.chain_climb.specs.Facings.{face_of}
 use Rattle.chain_climb.specs.Sessions.{Takes, TakesPage, answer_to, report_in}
-use Rattle.chain_climb.specs.Walks.{HasTakenPage, HasTakenVerdict, IsGiven, IsStanding, StopsAt, StopsAtHint, WaitsForPage, facing_want, leaf_want, path_at, search_of, wanted, wanted_at}
+use Rattle.chain_climb.specs.Walks.{HasTakenPage, HasTakenVerdict, IsGiven, IsStanding, StopsAt, StopsAtHint, WaitsForPage, facing_want, leaf_want, path_at, route, search_of, wanted, wanted_at}
 use Rattle.chain_climb.proofs.FacingLaws.{Faces, hint-faces}
 use Rattle.chain_climb.proofs.NextLaws.{hint-at}
 
@@ -60,7 +59,7 @@ module _ (s : State) where
   hint_judges at AllSpent faces path is = cc is
   hint_judges at (Adds url) faces path is = cc is
 
-  judges_at : (stage : Stage) (path : Path) → StopsAt stage s.leaf s.anchor s.bounds s.pages s.queue s.place → wanted_at stage s ≡ JudgePath path → (stage ≡ Judge) × (path ≡ with_chain (path_at s.queue s.place))
+  judges_at : (stage : Stage) (path : Path) → StopsAt stage (route s.leaf s.anchor) s.bounds s.pages s.queue s.place → wanted_at stage s ≡ JudgePath path → (stage ≡ Judge) × (path ≡ with_chain (path_at s.queue s.place))
   judges_at Leaf path stops is = absurd (leaf_judges (answer_to s.pages (Rattle.chain_climb.specs.Climbs.configuration_of s.leaf)) path is)
   judges_at Hint path stops is =
       let at : StopsAtHint s.pages s.bounds.paths s.queue (path_at s.queue s.place) s.place.hint = stops.1 in

@@ -40,15 +40,23 @@ pub record IsKnown (pages : List PageAnswer) (path : Path) : Type 0 where
 abbrev pub AllKnown : List PageAnswer → List Path → Type 0
 AllKnown pages paths = (path : Path) → Among path paths → IsKnown pages path
 
+-- the paths that were made, before and after
+pub record Growth : Type 0 where
+  pub before : List Path
+  pub after : List Path
+
+abbrev pub from_to : List Path → List Path → Growth
+from_to before after = record { before = before; after = after }
+
 -- from these steps to the rest of them, whatever is found later: the pages between were answered, these paths were judged, and the others added
-pub record Walked (pages : List PageAnswer) (most : ℕ) (judges : List Path) (steps rest : Findings → List Step) (before after : List Path) : Type 0 where
+pub record Walked (pages : List PageAnswer) (most : ℕ) (judges : List Path) (steps rest : Findings → List Step) (paths : Growth) : Type 0 where
   pub taken : List Step
   pub is : (found : Findings) → Extends found pages → steps found ≡ taken ++ rest found
   pub answered : (page : Need) → Among page (needed taken) → IsAnswered pages page
   pub judgement : judged taken ≡ judges
-  pub adds : after ≡ before ++ added taken
-  pub room : length before ≤ most → length after ≤ most
-  pub known : AllKnown pages before → AllKnown pages after
+  pub adds : paths.after ≡ paths.before ++ added taken
+  pub room : length paths.before ≤ most → length paths.after ≤ most
+  pub known : AllKnown pages paths.before → AllKnown pages paths.after
 
 -- the second list has more behind the first
 abbrev pub Grows : {X : Type 0} → List X → List X → Type 0
@@ -134,36 +142,52 @@ pub record StopsAtHint (pages : List PageAnswer) (most : ℕ) (queue : List Path
   pub within : at < length hints
   pub stops : is_stop (face_of pages path (slice_index_or hints at [])) (nat_le most (length queue)) ≡ true
 
+-- from which leaf to which anchor a search goes
+pub record Route : Type 0 where
+  pub leaf : Identifier
+  pub anchor : Identifier
+
+abbrev pub route : Identifier → Identifier → Route
+route leaf anchor = record { leaf = leaf; anchor = anchor }
+
 -- why a session goes no further at a place
-abbrev pub StopsAt : Stage → Identifier → Identifier → Bounds → List PageAnswer → List Path → Place → Type 0
-StopsAt Leaf leaf anchor bounds pages queue place =
-    (queue ≡ []) × (is_leaf_stop (answer_to pages (configuration_of leaf)) (nat_le bounds.paths 0) ≡ true)
-StopsAt Hint leaf anchor bounds pages queue place = HasPath queue place × StopsAtHint pages bounds.paths queue (path_at queue place) place.hint
-StopsAt Judge leaf anchor bounds pages queue place = HasPath queue place × (bytes_eq (last_of (path_at queue place)) anchor ≡ true)
-StopsAt Found leaf anchor bounds pages queue place = HasPath queue place × (bytes_eq (last_of (path_at queue place)) anchor ≡ true)
-StopsAt Ended leaf anchor bounds pages queue place = Unit {0}
+abbrev pub StopsAt : Stage → Route → Bounds → List PageAnswer → List Path → Place → Type 0
+StopsAt Leaf way bounds pages queue place =
+    (queue ≡ []) × (is_leaf_stop (answer_to pages (configuration_of way.leaf)) (nat_le bounds.paths 0) ≡ true)
+StopsAt Hint way bounds pages queue place = HasPath queue place × StopsAtHint pages bounds.paths queue (path_at queue place) place.hint
+StopsAt Judge way bounds pages queue place = HasPath queue place × (bytes_eq (last_of (path_at queue place)) way.anchor ≡ true)
+StopsAt Found way bounds pages queue place = HasPath queue place × (bytes_eq (last_of (path_at queue place)) way.anchor ≡ true)
+StopsAt Ended way bounds pages queue place = Unit {0}
 
 -- a hint at hand, or the end of the hints
 abbrev pub HasHint : List PageAnswer → Path → ℕ → Type 0
 HasHint pages path hint = (hints : List Identifier) × AreHints pages path hints × (hint ≤ length hints)
 
 -- what came of one hint
-abbrev pub HintTried : List PageAnswer → ℕ → Path → Identifier → List Path → List Path → Bool → Type 0
-HintTried pages most path hint before after true = Walked pages most [] (λ found. through_hint found path hint) (λ found. []) before after
-HintTried pages most path hint before after false = (after ≡ before) × (is_stop (face_of pages path hint) (nat_le most (length before)) ≡ true)
+abbrev pub HintTried : List PageAnswer → ℕ → Path → Identifier → Growth → Bool → Type 0
+HintTried pages most path hint paths true = Walked pages most [] (λ found. through_hint found path hint) (λ found. []) paths
+HintTried pages most path hint paths false = (paths.after ≡ paths.before) × (is_stop (face_of pages path hint) (nat_le most (length paths.before)) ≡ true)
+
+-- a path, and the hints of its last entity
+pub record Hinted : Type 0 where
+  pub path : Path
+  pub hints : List Identifier
+
+abbrev pub hints_on : Path → List Identifier → Hinted
+hints_on path hints = record { path = path; hints = hints }
 
 -- what came of the hints from one on: those before the answer are passed
-pub record HintsTried (pages : List PageAnswer) (most : ℕ) (path : Path) (hints : List Identifier) (from : ℕ) (before after : List Path) (at : ℕ) : Type 0 where
-  pub within : at ≤ length hints
-  pub walked : Walked pages most [] (hints_from path from) (hints_from path at) before after
-  pub stops : at < length hints → is_stop (face_of pages path (slice_index_or hints at [])) (nat_le most (length after)) ≡ true
+pub record HintsTried (pages : List PageAnswer) (most : ℕ) (tried : Hinted) (from : ℕ) (paths : Growth) (at : ℕ) : Type 0 where
+  pub within : at ≤ length tried.hints
+  pub walked : Walked pages most [] (hints_from tried.path from) (hints_from tried.path at) paths
+  pub stops : at < length tried.hints → is_stop (face_of pages tried.path (slice_index_or tried.hints at [])) (nat_le most (length paths.after)) ≡ true
 
 -- what came of one path
-abbrev pub Looked : List PageAnswer → Bounds → Identifier → Path → List Path → List Path → Look → Type 0
-Looked pages bounds anchor path before after PathPassed = Walked pages bounds.paths [] (λ found. look_at found anchor bounds.depth path) (λ found. []) before after
-Looked pages bounds anchor path before after ToJudge = (after ≡ before) × (bytes_eq (last_of path) anchor ≡ true)
-Looked pages bounds anchor path before after (AtHint at) =
-    Walked pages bounds.paths [] (λ found. look_at found anchor bounds.depth path) (hints_from path at) before after × StopsAtHint pages bounds.paths after path at
+abbrev pub Looked : List PageAnswer → Bounds → Identifier → Path → Growth → Look → Type 0
+Looked pages bounds anchor path paths PathPassed = Walked pages bounds.paths [] (λ found. look_at found anchor bounds.depth path) (λ found. []) paths
+Looked pages bounds anchor path paths ToJudge = (paths.after ≡ paths.before) × (bytes_eq (last_of path) anchor ≡ true)
+Looked pages bounds anchor path paths (AtHint at) =
+    Walked pages bounds.paths [] (λ found. look_at found anchor bounds.depth path) (hints_from path at) paths × StopsAtHint pages bounds.paths paths.after path at
 
 -- a place behind the leaf's configuration, with no path found
 abbrev pub IsOpen : Stage → Type 0
@@ -174,23 +198,32 @@ IsOpen Found = ⊥
 IsOpen Ended = Unit {0}
 
 -- these steps lead to a place at which a session goes no further
-pub record Reaches (anchor : Identifier) (bounds : Bounds) (pages : List PageAnswer) (steps : Findings → List Step) (before after : List Path) (place : Place) : Type 0 where
+pub record Reaches (anchor : Identifier) (bounds : Bounds) (pages : List PageAnswer) (steps : Findings → List Step) (paths : Growth) (place : Place) : Type 0 where
   pub is_open : IsOpen place.stage
-  pub walked : Walked pages bounds.paths [] steps (rest_at place.stage [] anchor bounds.depth after place) before after
-  pub stops : StopsAt place.stage [] anchor bounds pages after place
+  pub walked : Walked pages bounds.paths [] steps (rest_at place.stage [] anchor bounds.depth paths.after place) paths
+  pub stops : StopsAt place.stage (route [] anchor) bounds pages paths.after place
+
+-- the paths of a level from one on, up to its end, and how many levels follow
+pub record Level : Type 0 where
+  pub first : ℕ
+  pub end : ℕ
+  pub left : ℕ
+
+abbrev pub level_of : ℕ → ℕ → ℕ → Level
+level_of first end left = record { first = first; end = end; left = left }
 
 -- what came of a level
-abbrev pub LevelLooked : List PageAnswer → Bounds → Identifier → ℕ → ℕ → ℕ → List Path → List Path → Option Place → Type 0
-LevelLooked pages bounds anchor from level_end left before after None =
-    Walked pages bounds.paths [] (path_rest anchor bounds.depth before from level_end left) (path_rest anchor bounds.depth after level_end level_end left) before after
-LevelLooked pages bounds anchor from level_end left before after (Some place) =
-    Reaches anchor bounds pages (path_rest anchor bounds.depth before from level_end left) before after place
+abbrev pub LevelLooked : List PageAnswer → Bounds → Identifier → Level → Growth → Option Place → Type 0
+LevelLooked pages bounds anchor level paths None =
+    Walked pages bounds.paths [] (path_rest anchor bounds.depth paths.before level.first level.end level.left) (path_rest anchor bounds.depth paths.after level.end level.end level.left) paths
+LevelLooked pages bounds anchor level paths (Some place) =
+    Reaches anchor bounds pages (path_rest anchor bounds.depth paths.before level.first level.end level.left) paths place
 
 -- what came of the leaf's configuration
 pub record LeafReaches (leaf anchor : Identifier) (bounds : Bounds) (pages : List PageAnswer) (after : List Path) (place : Place) : Type 0 where
   pub not_found : place.stage ≢ Found
-  pub walked : Walked pages bounds.paths [] (λ found. climb found leaf anchor bounds.depth) (rest_at place.stage leaf anchor bounds.depth after place) [] after
-  pub stops : StopsAt place.stage leaf anchor bounds pages after place
+  pub walked : Walked pages bounds.paths [] (λ found. climb found leaf anchor bounds.depth) (rest_at place.stage leaf anchor bounds.depth after place) (from_to [] after)
+  pub stops : StopsAt place.stage (route leaf anchor) bounds pages after place
 
 -- a place at which a page was wanted
 abbrev pub IsReady : Stage → List PageAnswer → List Path → Place → Type 0
@@ -201,19 +234,19 @@ IsReady Found pages queue place = ⊥
 IsReady Ended pages queue place = ⊥
 
 -- a place leads to another
-pub record Resumes (leaf anchor : Identifier) (bounds : Bounds) (pages : List PageAnswer) (before after : List Path) (place reached : Place) : Type 0 where
+pub record Resumes (way : Route) (bounds : Bounds) (pages : List PageAnswer) (paths : Growth) (place reached : Place) : Type 0 where
   pub not_found : reached.stage ≢ Found
-  pub walked : Walked pages bounds.paths [] (rest_at place.stage leaf anchor bounds.depth before place) (rest_at reached.stage leaf anchor bounds.depth after reached) before after
-  pub stops : StopsAt reached.stage leaf anchor bounds pages after reached
+  pub walked : Walked pages bounds.paths [] (rest_at place.stage way.leaf way.anchor bounds.depth paths.before place) (rest_at reached.stage way.leaf way.anchor bounds.depth paths.after reached) paths
+  pub stops : StopsAt reached.stage way bounds pages paths.after reached
 
 -- the steps up to a place are done
-pub record IsAt (leaf anchor : Identifier) (bounds : Bounds) (pages : List PageAnswer) (judges : List Path) (queue : List Path) (rest : Findings → List Step) : Type 0 where
-  pub walked : Walked pages bounds.paths judges (λ found. climb found leaf anchor bounds.depth) rest [] queue
+pub record IsAt (way : Route) (bounds : Bounds) (pages : List PageAnswer) (judges queue : List Path) (rest : Findings → List Step) : Type 0 where
+  pub walked : Walked pages bounds.paths judges (λ found. climb found way.leaf way.anchor bounds.depth) rest (from_to [] queue)
 
 -- a place at which a session goes no further
-pub record IsPlace (leaf anchor : Identifier) (bounds : Bounds) (pages : List PageAnswer) (judges : List Path) (queue : List Path) (place : Place) : Type 0 where
-  pub is_at : IsAt leaf anchor bounds pages judges queue (rest_at place.stage leaf anchor bounds.depth queue place)
-  pub stops : StopsAt place.stage leaf anchor bounds pages queue place
+pub record IsPlace (way : Route) (bounds : Bounds) (pages : List PageAnswer) (judges queue : List Path) (place : Place) : Type 0 where
+  pub is_at : IsAt way bounds pages judges queue (rest_at place.stage way.leaf way.anchor bounds.depth queue place)
+  pub stops : StopsAt place.stage way bounds pages queue place
 
 -- the verdict on the path at hand comes last, where it is valid
 abbrev pub with_last : Stage → List Verdict → Path → List Verdict
@@ -233,7 +266,7 @@ pub record IsStanding (s : State) : Type 0 where
   pub earlier : List Verdict
   pub judged : AreJudged earlier judges
   pub verdicts : s.verdicts ≡ with_last s.place.stage earlier (path_at s.queue s.place)
-  pub place : IsPlace s.leaf s.anchor s.bounds s.pages judges s.queue s.place
+  pub place : IsPlace (route s.leaf s.anchor) s.bounds s.pages judges s.queue s.place
   pub calls : s.calls ≡ calls_in s.pages
   pub faults : s.faults ≡ faults_in s.pages
   pub few_calls : s.calls ≤ s.bounds.calls

@@ -1,7 +1,7 @@
 // How a search goes on: as far as its answers reach.
 
 ghost use Rattle.std.specs.Prelude.{◌≡◌, ◌<◌, ◌≤◌, ◌+◌, [], length, take, IfOk};
-ghost use Rattle.chain_climb.specs.Walks.{AllKnown, AreHints, Grows, HasPath, HasHint, HintTried, HintsTried, IsKnown, IsReady, LeafReaches, LevelLooked, Looked, Reaches, Resumes, hint_rest, path_at, path_rest};
+ghost use Rattle.chain_climb.specs.Walks.{AllKnown, AreHints, Grows, HasHint, HasPath, HintTried, HintsTried, IsKnown, IsReady, LeafReaches, LevelLooked, Looked, Reaches, Resumes, from_to, hint_rest, hints_on, level_of, path_at, path_rest, route};
 
 use crate::answer::{PageAnswer, Report};
 use crate::facing::{Facing, face};
@@ -51,7 +51,7 @@ fn try_hint(
     queue: &mut Seq<Path>,
 ) -> Result<bool, Memory>
     requires { IsKnown pages.now path.now }
-    ensures tried { IfOk result (λ passed. HintTried pages.now most path.now hint.now queue.old queue.new passed) }
+    ensures tried { IfOk result (λ passed. HintTried pages.now most path.now hint.now (from_to queue.old queue.new) passed) }
     ensures grows { Grows queue.old queue.new }
 {
     match face(alloc, pages, path, hint)? {
@@ -81,7 +81,7 @@ fn try_hints(
 ) -> Result<usize, Memory>
     requires are { AreHints pages.now path.now hints.now }
     requires within { from ≤ length hints.now }
-    ensures tried { IfOk result (λ at. HintsTried pages.now most path.now hints.now from queue.old queue.new at) }
+    ensures tried { IfOk result (λ at. HintsTried pages.now most (hints_on path.now hints.now) from (from_to queue.old queue.new) at) }
     ensures grows { Grows queue.old queue.new }
 {
     for at in from..hints.len() {
@@ -102,7 +102,7 @@ fn look_at_path(
     queue: &mut Seq<Path>,
 ) -> Result<Look, Memory>
     requires { IsKnown pages.now path.now }
-    ensures looked { IfOk result (λ look. Looked pages.now bounds anchor.now path.now queue.old queue.new look) }
+    ensures looked { IfOk result (λ look. Looked pages.now bounds anchor.now path.now (from_to queue.old queue.new) look) }
     ensures grows { Grows queue.old queue.new }
 {
     if *path.last() == *anchor {
@@ -134,7 +134,7 @@ fn look_level(
     requires known { AllKnown pages.now queue.old }
     requires from { from ≤ level_end }
     requires within { level_end ≤ length queue.old }
-    ensures looked { IfOk result (λ place. LevelLooked pages.now bounds anchor.now from level_end left queue.old queue.new place) }
+    ensures looked { IfOk result (λ place. LevelLooked pages.now bounds anchor.now (level_of from level_end left) (from_to queue.old queue.new) place) }
     ensures grows { Grows queue.old queue.new }
 {
     for at in from..level_end {
@@ -175,7 +175,7 @@ fn look_levels(
     requires known { AllKnown pages.now queue.old }
     requires from { from ≤ level_end }
     requires within { level_end ≤ length queue.old }
-    ensures reached { IfOk result (Reaches anchor.now bounds pages.now (path_rest anchor.now bounds.depth queue.old from level_end left) queue.old queue.new) }
+    ensures reached { IfOk result (Reaches anchor.now bounds pages.now (path_rest anchor.now bounds.depth queue.old from level_end left) (from_to queue.old queue.new)) }
     ensures grows { Grows queue.old queue.new }
 {
     let mut first = from;
@@ -211,7 +211,7 @@ pub fn go_on_behind(
 ) -> Result<Place, Memory>
     requires known { AllKnown pages.now queue.old }
     requires at { HasPath queue.old place }
-    ensures reached { IfOk result (Reaches anchor.now bounds pages.now (path_rest anchor.now bounds.depth queue.old (place.at + 1) place.level_end place.left) queue.old queue.new) }
+    ensures reached { IfOk result (Reaches anchor.now bounds pages.now (path_rest anchor.now bounds.depth queue.old (place.at + 1) place.level_end place.left) (from_to queue.old queue.new)) }
     ensures grows { Grows queue.old queue.new }
 {
     look_levels(
@@ -238,7 +238,7 @@ pub fn go_on_from_hint(
     requires known { AllKnown pages.now queue.old }
     requires at { HasPath queue.old place }
     requires hint { HasHint pages.now (path_at queue.old place) place.hint }
-    ensures reached { IfOk result (Reaches anchor.now bounds pages.now (hint_rest anchor.now bounds.depth queue.old (path_at queue.old place) place.hint place.at place.level_end place.left) queue.old queue.new) }
+    ensures reached { IfOk result (Reaches anchor.now bounds pages.now (hint_rest anchor.now bounds.depth queue.old (path_at queue.old place) place.hint place.at place.level_end place.left) (from_to queue.old queue.new)) }
     ensures grows { Grows queue.old queue.new }
 {
     let path = queue.as_slice()[place.at].copy(alloc)?;
@@ -317,7 +317,7 @@ pub fn go_on(
 ) -> Result<Place, Memory>
     requires known { AllKnown pages.now queue.old }
     requires ready { IsReady place.stage pages.now queue.old place }
-    ensures resumed { IfOk result (Resumes leaf.now anchor.now bounds pages.now queue.old queue.new place) }
+    ensures resumed { IfOk result (Resumes (route leaf.now anchor.now) bounds pages.now (from_to queue.old queue.new) place) }
     ensures grows { Grows queue.old queue.new }
 {
     match place.stage {
