@@ -36,8 +36,8 @@ module _ {S V Q T W U : Type 0} where
   opened_book commons = opened commons.nine
 
   -- the pass is of these objects: it has seen a legal list of each, from empty parts and the opened book on
-  abbrev pub IsPassOf : SharedCommons (Group (KeptTable S V (Snapshot Part) Q) (KeptTable T W (Snapshot Book) U)) → Group (PassSeat S Part ShelfCall ShelfReply) (PassSeat T Book BookCall BookReply) → Type 0
-  IsPassOf commons pass = AreOf ShelfStep [] BookStep commons.nine pass
+  abbrev pub IsPassOfAll : SharedCommons (Group (KeptTable S V (Snapshot Part) Q) (KeptTable T W (Snapshot Book) U)) → Group (PassSeat S Part ShelfCall ShelfReply) (PassSeat T Book BookCall BookReply) → Type 0
+  IsPassOfAll commons pass = AreOf ShelfStep [] BookStep commons.nine pass
 
 -- the one Purge on a part, where the numbers that were dropped from the first parts on are these
 abbrev pub purge_at : ℕ → List ℕ → ℕ → List (ShelfCall × ShelfReply)

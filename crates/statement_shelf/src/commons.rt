@@ -47,12 +47,12 @@ impl Commons {
     ghost use Rattle.statement_shelf.specs.Shelf.{ShelfStep};
     ghost use Rattle.statement_shelf.specs.declared.calls.ShelfCall.TheVariants.{Purge};
     ghost use Rattle.statement_shelf.specs.declared.calls.ShelfReply.TheVariants.{Dropped};
-    ghost use Rattle.statement_shelf.specs.Passes.{ArePurged, IsPassOf, IsPurgeOfSome, IsPurgeOfAll, IsShelfCall, IsWornCall, IsWornPart, opened_book};
+    ghost use Rattle.statement_shelf.specs.Passes.{ArePurged, IsPassOfAll, IsPurgeOfSome, IsPurgeOfAll, IsShelfCall, IsWornCall, IsWornPart, opened_book};
 
     /// Empty parts and the book of these anchors at epoch 0, with a pass that has seen nothing and is alone.
     pub fn new(alloc: Global, anchors: Seq<AnchorKeys>) -> Result<(Commons, FedPass), Memory>
         ensures opened { IfOk result (λ r. opened_book r.0 ≡ opened_with anchors) }
-        ensures of { IfOk result (λ r. IsPassOf r.0 r.1) }
+        ensures of { IfOk result (λ r. IsPassOfAll r.0 r.1) }
         ensures unused { IfOk result (λ r. IsUnused r.1) }
         ensures whole { IfOk result (λ r. OwnsEach r.1) }
     {
@@ -69,9 +69,9 @@ impl Commons {
         at: usize,
         moment: u64,
     ) -> Result<u64, Worn>
-        requires of { IsPassOf self.now pass.old }
+        requires of { IsPassOfAll self.now pass.old }
         requires at { at < 8 }
-        ensures of { IsPassOf self.now pass.new }
+        ensures of { IsPassOfAll self.now pass.new }
         ensures whole { OwnsEach pass.old → OwnsEach pass.new }
         ensures told { IfOk result (λ n. AddsOnPart (known pass.old) at ((Purge moment, Dropped n) ∷ []) (known pass.new)) }
         ensures few { IfOk result (λ n. n ≤ 32) }
@@ -95,8 +95,8 @@ impl Commons {
         pass: &mut FedPass,
         moment: u64,
     ) -> Result<ShelfReply, Worn>
-        requires { IsPassOf self.now pass.old }
-        ensures of { IsPassOf self.now pass.new }
+        requires { IsPassOfAll self.now pass.old }
+        ensures of { IsPassOfAll self.now pass.new }
         ensures whole { OwnsEach pass.old → OwnsEach pass.new }
         ensures told { IfOk result (λ r. IsShelfCall (Purge moment) r (known pass.old) (known pass.new)) }
         ensures worn { IfErr result (λ e. (e.count ≡ call_limit) × IsPurgeOfSome moment (known pass.old) (known pass.new)) }
@@ -118,8 +118,8 @@ impl Commons {
         pass: &mut FedPass,
         call: ShelfCall,
     ) -> Result<ShelfReply, Worn>
-        requires { IsPassOf self.now pass.old }
-        ensures of { IsPassOf self.now pass.new }
+        requires { IsPassOfAll self.now pass.old }
+        ensures of { IsPassOfAll self.now pass.new }
         ensures whole { OwnsEach pass.old → OwnsEach pass.new }
         ensures told { IfOk result (λ r. IsShelfCall call r (known pass.old) (known pass.new)) }
         ensures worn { IfErr result (λ e. (e.count ≡ call_limit) × IsWornCall call (known pass.old) (known pass.new)) }
@@ -145,8 +145,8 @@ impl Commons {
         pass: &mut FedPass,
         call: BookCall,
     ) -> Result<BookReply, Worn>
-        requires { IsPassOf self.now pass.old }
-        ensures of { IsPassOf self.now pass.new }
+        requires { IsPassOfAll self.now pass.old }
+        ensures of { IsPassOfAll self.now pass.new }
         ensures whole { OwnsEach pass.old → OwnsEach pass.new }
         ensures told { IfOk result (λ r. AddsOnBook (known pass.old) ((call, r) ∷ []) (known pass.new)) }
         ensures worn { IfErr result (λ e. (e.count ≡ call_limit) × AddsOnBook (known pass.old) [] (known pass.new) × (length (known pass.new).book.seen ≡ call_limit)) }
@@ -157,10 +157,10 @@ impl Commons {
     /// A pass that has seen what this one has seen, and made no call. After `Memory` this one has seen the same and made the same calls,
     /// but need not be alone any more.
     pub fn split<R>(&self, rt: &R, alloc: Global, pass: &mut FedPass) -> Result<FedPass, Memory>
-        requires { IsPassOf self.now pass.old }
-        ensures of { IsPassOf self.now pass.new }
+        requires { IsPassOfAll self.now pass.old }
+        ensures of { IsPassOfAll self.now pass.new }
         ensures same { IsSame (known pass.old) (known pass.new) }
-        ensures of_result { IfOk result (λ r. IsPassOf self.now r) }
+        ensures of_result { IfOk result (λ r. IsPassOfAll self.now r) }
         ensures untaken { IfOk result (λ r. IsUntaken (known pass.old) (known r)) }
     {
         self.nine.split(rt, alloc, pass)
@@ -168,9 +168,9 @@ impl Commons {
 
     /// Takes in what another pass has seen, and its calls.
     pub fn join<R>(&self, rt: &R, pass: &mut FedPass, other: FedPass)
-        requires pass { IsPassOf self.now pass.old }
-        requires other { IsPassOf self.now other }
-        ensures of { IsPassOf self.now pass.new }
+        requires pass { IsPassOfAll self.now pass.old }
+        requires other { IsPassOfAll self.now other }
+        ensures of { IsPassOfAll self.now pass.new }
         ensures joined { AreJoined (known pass.old) (known other) (known pass.new) }
     {
         self.nine.join(rt, pass, other);
@@ -179,7 +179,7 @@ impl Commons {
     /// What a pass has seen of each part and of the book is legal: each call was answered as the plain list answers it there, from the
     /// empty part and the opened book on.
     pub fn is_history(&self, _pass: &FedPass)
-        requires { IsPassOf self.now _pass.now }
+        requires { IsPassOfAll self.now _pass.now }
         ensures { IsHistory ShelfStep [] BookStep (opened_book self.now) (known _pass.now) }
     {
         self.nine.is_history(_pass);

@@ -16,7 +16,7 @@ use std::marker::Model;
 use turn_log::{Opening, Sequential};
 
 /// A part of the cache of statements as a plain list of entries, the most recently used first. It does what
-/// [`ShelfPart`](crate::ShelfPart) does, in more time, and stands for comparison.
+/// [`ShelfPart`](crate::ShelfPart) does, and stands for comparison.
 #[derive(Drop)]
 pub struct PlainPart {
     // It has room for one entry more than it keeps.

@@ -4,4 +4,4 @@ use Rattle.statement_shelf.proofs.part.ShelfPart.purge.Goals as goal
 
 pub loop-self-preserved-in-loop-self : goal.loop-self-preserved-in-loop-self
 loop-self-preserved-in-loop-self c =
-    (purge-more c.self.inside.entries.entries c.loop-self.self-inside.entries.entries c.pop_lru.new.self.entries c.args.moment c.loop-self.invariant.0 (search rules) (search rules), search rules, search rules)
+    (purge-more c.self.inside.entries.entries c.loop-self.self-inside.entries.entries _ c.args.moment c.loop-self.invariant.0 (search rules) (search rules), search rules, search rules)

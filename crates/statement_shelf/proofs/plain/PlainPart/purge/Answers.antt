@@ -4,4 +4,4 @@ use Rattle.statement_shelf.proofs.plain.PlainPart.purge.Goals as goal
 
 pub loop-self-preserved-in-loop-self : goal.loop-self-preserved-in-loop-self
 loop-self-preserved-in-loop-self c =
-    (purge-more c.self.inside.entries.items c.loop-self.self-inside.entries.items c.pop.new.self.items c.args.moment c.loop-self.invariant.0 (search rules) (search rules), search rules, search rules)
+    (purge-more c.self.inside.entries.items c.loop-self.self-inside.entries.items _ c.args.moment c.loop-self.invariant.0 (search rules) (search rules), search rules, search rules)
