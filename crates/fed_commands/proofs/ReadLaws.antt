@@ -8,7 +8,7 @@ use Rattle.fed_ports.specs.declared.store.StoreFault.TheVariants.{TooLong}
 use Rattle.fed_commands.specs.Answers.{named, IsNamed, IsTextRead}
 use Rattle.fed_ports.specs.Inputs.{EndsAs}
 use Rattle.fed_commands.specs.Streams.{without_line_end}
-use Rattle.fed_commands.specs.declared.command.Command.{Command}
+use Rattle.fed_words.specs.declared.command.Command.{Command}
 use Rattle.fed_ports.specs.declared.input.ReadEnd.TheVariants as end
 use Rattle.fed_commands.proofs.StreamLaws.{begins}
 

@@ -22,13 +22,13 @@ use Rattle.fed_commands.specs.Findings.{status_of, line_of}
 use Rattle.fed_commands.specs.Replies.{plain, bad_input, refused}
 use Rattle.fed_commands.specs.Checks.{IsChecked, chain_in, keys_in}
 use Rattle.fed_commands.specs.Operations.{IsFileOf, IsPrepared, IsCheckPrepared, IsKeygenPrepared, IsPerformed, IsOutcome, IsRingFound, IsRingPrepared, issue_prepared, rotate_prepared}
-use Rattle.fed_commands.specs.declared.act.Act.{Act}
-use Rattle.fed_commands.specs.declared.act.Act.TheVariants.{Add, Retire, Revoke}
-use Rattle.fed_commands.specs.declared.command.Command.{Command}
-use Rattle.fed_commands.specs.declared.command.Command.TheVariants.{Verify, Keygen, Issue, Rotate, Check, Help, Version, Faulty}
+use Rattle.fed_words.specs.declared.act.Act.{Act}
+use Rattle.fed_words.specs.declared.act.Act.TheVariants.{Add, Retire, Revoke}
+use Rattle.fed_words.specs.declared.command.Command.{Command}
+use Rattle.fed_words.specs.declared.command.Command.TheVariants.{Verify, Keygen, Issue, Rotate, Check, Help, Version, Faulty}
 use Rattle.fed_commands.specs.declared.help.TheConstants.{HELP, VERSION}
 use Rattle.fed_commands.specs.declared.reply.Reply.{Reply}
-use Rattle.fed_commands.specs.declared.text_type.TextType.{TextType}
+use Rattle.fed_words.specs.declared.text_type.TextType.{TextType}
 use Rattle.fed_commands.specs.declared.operation.File.{File}
 use Rattle.fed_commands.specs.declared.operation.File.TheVariants.{Whole}
 use Rattle.fed_commands.specs.declared.operation.Operation.{Operation}

@@ -9,10 +9,10 @@ use Rattle.fed_commands.specs.Answers.{IsEnded, IsNamed, Output}
 use Rattle.fed_commands.specs.Replies.{bad_input}
 use Rattle.fed_commands.specs.Sealings.{IsSealedBySigner, IsSealedReply, IsSealedFrom, RepliesSealed, IssuesSealed}
 use Rattle.fed_commands.specs.Operations.{IsPrepared, IsRingFound, issue_prepared}
-use Rattle.fed_commands.specs.declared.command.Command.{Command}
-use Rattle.fed_commands.specs.declared.command.Command.TheVariants.{Issue}
+use Rattle.fed_words.specs.declared.command.Command.{Command}
+use Rattle.fed_words.specs.declared.command.Command.TheVariants.{Issue}
 use Rattle.fed_commands.specs.declared.reply.Reply.{Reply}
-use Rattle.fed_commands.specs.declared.text_type.TextType.{TextType}
+use Rattle.fed_words.specs.declared.text_type.TextType.{TextType}
 use Rattle.fed_commands.specs.declared.operation.Operation.{Operation}
 use Rattle.fed_commands.specs.declared.operation.Operation.TheVariants as operation
 use Rattle.fed_commands.specs.declared.operation.Prepared.TheVariants.{Answered, WantsInput}

@@ -7,7 +7,7 @@ use Rattle.fed_ports.specs.Stores.{Files}
 use Rattle.fed_commands.specs.Answers.{Answers, IsEnded, IsMomentFor, IsReached, Outside, Output, Readings, Stands, StopsAs, Tells, UsesClock, stop_status}
 use Rattle.fed_commands.specs.declared.answer.Stop.{Stop}
 use Rattle.fed_commands.specs.declared.answer.Stop.TheVariants.{Source, Store, Memory}
-use Rattle.fed_commands.specs.declared.command.Command.{Command}
+use Rattle.fed_words.specs.declared.command.Command.{Command}
 use Rattle.fed_commands.specs.declared.reply.Reply.{Reply}
 use Rattle.fed_commands.proofs.ReplyLaws.{reached_once, reply_small}
 

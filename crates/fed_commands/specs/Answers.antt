@@ -8,9 +8,9 @@ use Rattle.fed_ports.specs.Times.{Told}
 use Rattle.fed_base.specs.declared.faults.Failed.{Failed}
 use Rattle.fed_commands.specs.declared.answer.Stop.{Stop}
 use Rattle.fed_commands.specs.declared.answer.Stop.TheVariants.{Source, Store, Memory}
-use Rattle.fed_commands.specs.declared.act.Act.TheVariants.{Retire, Revoke}
-use Rattle.fed_commands.specs.declared.command.Command.{Command}
-use Rattle.fed_commands.specs.declared.command.Command.TheVariants.{Keygen, Issue, Rotate, Check, Help, Version, Faulty}
+use Rattle.fed_words.specs.declared.act.Act.TheVariants.{Retire, Revoke}
+use Rattle.fed_words.specs.declared.command.Command.{Command}
+use Rattle.fed_words.specs.declared.command.Command.TheVariants.{Keygen, Issue, Rotate, Check, Help, Version, Faulty}
 use Rattle.fed_commands.specs.declared.reply.Reply.{Reply}
 use Rattle.fed_commands.specs.declared.operation.Prepared.{Prepared}
 use Rattle.fed_commands.specs.declared.operation.Prepared.TheVariants.{Answered, WantsInput}

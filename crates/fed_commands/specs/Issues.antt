@@ -1,6 +1,6 @@
 -- What `issue` makes of claims (OpenID Federation 1.0 sections 3 and 7).
-use Rattle.std.specs.Prelude.{ℕ, List, [], ◌∷◌, ◌++◌, length, codes, nat_lt, Bool, not, Option, Some, None, is_some, is_ok, bytes_eq, if◌then◌else◌}
-use Rattle.entity_statement.specs.Table.{claims_of_tree, statement_type}
+use Rattle.std.specs.Prelude.{ℕ, List, [], ◌∷◌, ◌++◌, length, codes, nat_lt, Bool, not, Option, Some, None, is_some, is_ok, if◌then◌else◌}
+use Rattle.entity_statement.specs.Table.{claims_of_tree}
 use Rattle.fed_json.specs.declared.tree.Json.{Json}
 use Rattle.fed_json.specs.Compact.{compact}
 use Rattle.fed_json.specs.Forms.{whole}
@@ -8,24 +8,11 @@ use Rattle.fed_json.specs.Reading.{tree_in}
 use Rattle.fed_json.specs.Trees.{as_object}
 use Rattle.sealed.specs.Sealing.{sealed_text}
 use Rattle.fed_commands.specs.Replies.{plain, bad_input, refused}
-use Rattle.trust_mark.specs.Claims.{delegation_of_tree, delegation_type_name, mark_of_tree, mark_type_name}
+use Rattle.trust_mark.specs.Claims.{delegation_of_tree, mark_of_tree}
 use Rattle.fed_commands.specs.declared.reply.Reply.{Reply}
-use Rattle.fed_commands.specs.declared.text_type.TextType.{TextType}
-use Rattle.fed_commands.specs.declared.text_type.TextType.TheVariants.{Statement, Mark, Delegation}
-
--- the header's `typ` of each type of text (sections 3.1.1, 7.1 and 7.2.1)
-abbrev pub type_name : TextType → List ℕ
-type_name Statement = statement_type
-type_name Mark = mark_type_name
-type_name Delegation = delegation_type_name
-
--- the type that a `typ` names
-abbrev pub type_of : List ℕ → Option TextType
-type_of word =
-    if bytes_eq word statement_type then Some Statement
-    else (if bytes_eq word mark_type_name then Some Mark
-    else (if bytes_eq word delegation_type_name then Some Delegation
-    else None))
+use Rattle.fed_words.specs.TextTypes.{type_name}
+use Rattle.fed_words.specs.declared.text_type.TextType.{TextType}
+use Rattle.fed_words.specs.declared.text_type.TextType.TheVariants.{Statement, Mark, Delegation}
 
 -- the claims are those of a text of the type (sections 3.1.1, 7.1 and 7.2.1)
 abbrev pub claims_read : TextType → Json → Bool

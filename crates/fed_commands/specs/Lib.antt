@@ -1,13 +1,10 @@
-pub mod Acts
 pub mod Answers
 pub mod Checks
-pub mod Commands
 pub mod Configurations
 pub mod Findings
 pub mod Issues
 pub mod Keygens
 pub mod Operations
-pub mod Options
 pub mod Replies
 pub mod Rotations
 pub mod Sealings

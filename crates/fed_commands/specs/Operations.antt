@@ -5,10 +5,10 @@ use Rattle.key_ring.specs.Changes.{retire_key, revoke_key}
 use Rattle.key_ring.specs.Files.{Opens}
 use Rattle.key_ring.specs.Rings.{Ring}
 use Rattle.key_ring.specs.Sets.{signer_seeds}
-use Rattle.fed_commands.specs.declared.act.Act.{Act}
-use Rattle.fed_commands.specs.declared.act.Act.TheVariants.{Add, Retire, Revoke}
-use Rattle.fed_commands.specs.declared.command.Command.{Command}
-use Rattle.fed_commands.specs.declared.command.Command.TheVariants.{Verify, Keygen, Issue, Rotate, Check, Help, Version, Faulty}
+use Rattle.fed_words.specs.declared.act.Act.{Act}
+use Rattle.fed_words.specs.declared.act.Act.TheVariants.{Add, Retire, Revoke}
+use Rattle.fed_words.specs.declared.command.Command.{Command}
+use Rattle.fed_words.specs.declared.command.Command.TheVariants.{Verify, Keygen, Issue, Rotate, Check, Help, Version, Faulty}
 use Rattle.fed_commands.specs.declared.help.TheConstants.{HELP, VERSION}
 use Rattle.fed_commands.specs.declared.reply.Reply.{Reply}
 use Rattle.fed_commands.specs.declared.operation.File.{File}
@@ -16,7 +16,7 @@ use Rattle.fed_commands.specs.declared.operation.File.TheVariants.{Absent, TooLo
 use Rattle.fed_commands.specs.declared.operation.Operation.{Operation}
 use Rattle.fed_commands.specs.declared.operation.Operation.TheVariants as operation
 use Rattle.fed_commands.specs.declared.operation.Prepared.{Prepared}
-use Rattle.fed_commands.specs.declared.text_type.TextType.{TextType}
+use Rattle.fed_words.specs.declared.text_type.TextType.{TextType}
 use Rattle.fed_commands.specs.declared.operation.Prepared.TheVariants.{Answered, WantsInput}
 use Rattle.fed_commands.specs.Checks.{IsChecked, chain_in, keys_in}
 use Rattle.fed_commands.specs.Findings.{IsVerified}

@@ -5,10 +5,10 @@ use Rattle.fed_ports.specs.Stores.{Files, IsFile}
 use Rattle.key_ring.specs.Rings.{Ring}
 use Rattle.key_ring.specs.Sets.{signer_seeds}
 use Rattle.sealed.specs.Sealing.{IsSealedFor}
-use Rattle.fed_commands.specs.declared.command.Command.{Command}
-use Rattle.fed_commands.specs.declared.command.Command.TheVariants.{Issue}
+use Rattle.fed_words.specs.declared.command.Command.{Command}
+use Rattle.fed_words.specs.declared.command.Command.TheVariants.{Issue}
 use Rattle.fed_commands.specs.declared.reply.Reply.{Reply}
-use Rattle.fed_commands.specs.declared.text_type.TextType.{TextType}
+use Rattle.fed_words.specs.declared.text_type.TextType.{TextType}
 use Rattle.fed_commands.specs.Operations.{IsOpened}
 
 -- a line is a text that each set seals in which the key of these seeds stands under its thumbprint (RFC 7638), up to 262,144 bytes,

@@ -7,11 +7,11 @@ ghost use Rattle.fed_commands.specs.Answers.{named, text_of, wants_input, MayBe,
 ghost use Rattle.fed_commands.specs.Sealings.{RepliesSealed};
 ghost use Rattle.fed_commands.specs.Operations.{IsFileOf};
 
-use crate::command::Command;
 use crate::input::without_line_end;
 use crate::operation::{File, Prepared, perform, prepare};
 use crate::reply::Reply;
 use fed_ports::{Failed, Memory, ReadEnd, Source, Store, StoreFault, Text, read_all};
+use fed_words::Command;
 use std::alloc::Global;
 
 /// Why there is no reply.

@@ -12,10 +12,10 @@ ghost use Rattle.fed_commands.specs.Issues.{claims_read, issue_reply, of_object}
 ghost use Rattle.fed_commands.specs.Sealings.{IsSealedReply};
 
 use crate::reply::{Reply, plain};
-use crate::text_type::TextType;
 use entity_statement::{Statement, StatementFault};
 use fed_json::{Json, TreeFault, is_whole, read_tree, write_tree};
 use fed_ports::{Memory, Text};
+use fed_words::TextType;
 use sealed::seal_payload;
 use slh_dsa::KeyPair;
 use std::alloc::Global;

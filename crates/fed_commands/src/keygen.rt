@@ -3,10 +3,10 @@
 ghost use Rattle.std.specs.Prelude.{◌≡◌, IfOk};
 ghost use Rattle.fed_commands.specs.Keygens.{keygen_reply, public_line};
 
-use crate::moment::Moment;
 use crate::reply::{Reply, plain};
 use fed_json::write_tree;
 use fed_ports::{Memory, Text};
+use fed_words::Moment;
 use hex::FromHex;
 use jwk_set::{Jwk, thumbprint, write_key};
 use key_ring::{RingFault, first_file};

@@ -5,23 +5,18 @@
 //! `fed` makes the real outside and calls it.
 #![tactic(auto)]
 
-mod act;
 mod answer;
 mod check;
 mod check_inputs;
 mod check_lines;
-mod command;
 mod help;
 mod input;
 mod issue;
 mod keygen;
-mod moment;
 mod operation;
-mod options;
 mod output;
 mod reply;
 mod rotate;
-mod text_type;
 mod top;
 mod verify;
 mod verify_finding;

@@ -5,9 +5,9 @@ ghost use Rattle.std.specs.Option.{option_copied};
 ghost use Rattle.key_ring.specs.Changes.{add_key, kid_added, retire_key, revoke_key};
 ghost use Rattle.fed_commands.specs.Rotations.{IsRefusedAs, add_reply, change_reply};
 
-use crate::moment::Moment;
 use crate::reply::{Reply, plain};
 use fed_ports::{Memory, MemoryStore, Seq, Text};
+use fed_words::Moment;
 use hex::FromHex;
 use key_ring::{KeyRing, RevokeReason, RingFault};
 use std::alloc::Global;

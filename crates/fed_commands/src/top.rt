@@ -2,14 +2,14 @@
 
 ghost use Rattle.std.specs.Prelude.{◌≡◌, ◌≤◌, None, false};
 ghost use Rattle.fed_commands.specs.Answers.{Answers, Tells, UsesClock, IsEnded, IsMomentFor, named, reads_clock, stop_status, wants_input};
-ghost use Rattle.fed_commands.specs.Commands.{command_of};
+ghost use Rattle.fed_words.specs.Commands.{command_of};
 ghost use Rattle.fed_commands.specs.Sealings.{IssuesSealed};
 
 use crate::answer::{Stop, keep, reply_to};
-use crate::command::{Command, read_command};
 use crate::output::write_all;
 use crate::reply::Reply;
 use fed_ports::{Clock, Seq, Sink, Source, Store, Text};
+use fed_words::{Command, read_command};
 use std::alloc::Global;
 
 /// Does all that the program does, and answers its exit status.

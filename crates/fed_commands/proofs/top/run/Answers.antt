@@ -1,6 +1,6 @@
 use Rattle.std.proofs.Common.{◌≡◌, ◌∙◌, None, false, ap, subst}
 use Rattle.fed_commands.specs.Answers.{Answers, IsEnded, Output, Readings, UsesClock, named, reads_clock, wants_input}
-use Rattle.fed_commands.specs.Commands.{command_of}
+use Rattle.fed_words.specs.Commands.{command_of}
 use Rattle.fed_commands.specs.Sealings.{IssuesSealed}
 use Rattle.fed_commands.proofs.ReplyLaws.{reached_at}
 use Rattle.fed_commands.proofs.SealingLaws.{ended_sealed}

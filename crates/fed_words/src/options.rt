@@ -3,10 +3,10 @@
 ghost use Rattle.std.specs.Prelude.{◌≡◌, ◌<◌, IfSome};
 ghost use Rattle.std.specs.Option.{option_copied};
 ghost use Rattle.fed_base.specs.Moments.{moment_limit};
-ghost use Rattle.fed_commands.specs.Options.{option_in, number_after, number_of, moment_in};
+ghost use Rattle.fed_words.specs.Options.{option_in, number_after, number_of, moment_in};
 
 use crate::moment::Moment;
-use fed_ports::{MOMENT_LIMIT, Text};
+use fed_base::{MOMENT_LIMIT, Text};
 
 /// The value behind the first option of that name, where the words are pairs of an option and its value.
 #[tactic(auto, unfolding(crate::specs::Options::option_in))]

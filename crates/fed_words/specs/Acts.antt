@@ -3,9 +3,9 @@ use Rattle.std.specs.Prelude.{ℕ, List, ◌==◌, length, codes, bytes_eq, Opti
 use Rattle.std.specs.Option.{option_and_then}
 use Rattle.key_ring.specs.Readings.{reason_in}
 use Rattle.key_ring.specs.declared.key.RevokeReason.{RevokeReason}
-use Rattle.fed_commands.specs.Options.{option_in, moment_in}
-use Rattle.fed_commands.specs.declared.act.Act.{Act}
-use Rattle.fed_commands.specs.declared.act.Act.TheVariants.{Add, Retire, Revoke}
+use Rattle.fed_words.specs.Options.{option_in, moment_in}
+use Rattle.fed_words.specs.declared.act.Act.{Act}
+use Rattle.fed_words.specs.declared.act.Act.TheVariants.{Add, Retire, Revoke}
 
 -- the change, where both moments are there
 abbrev pub add_with : Option ℕ → Option ℕ → Option Act

@@ -2,9 +2,9 @@
 
 ghost use Rattle.std.specs.Prelude.{◌≡◌, IfOk, codes};
 ghost use Rattle.std.specs.Option.{option_and_then};
-ghost use Rattle.fed_commands.specs.Issues.{type_of};
-ghost use Rattle.fed_commands.specs.Options.{option_in};
-ghost use Rattle.fed_commands.specs.Commands.{command_of, verb_of, verify_of, keygen_of, issue_of, rotate_of, check_of, flag_of};
+ghost use Rattle.fed_words.specs.TextTypes.{type_of};
+ghost use Rattle.fed_words.specs.Options.{option_in};
+ghost use Rattle.fed_words.specs.Commands.{command_of, verb_of, verify_of, keygen_of, issue_of, rotate_of, check_of, flag_of};
 
 use crate::act::{Act, read_act};
 use crate::moment::Moment;
@@ -12,7 +12,7 @@ use crate::options::{moment_in, option_in};
 use crate::text_type::TextType;
 use base64url::decode_32;
 use entity_id::EntityId;
-use fed_ports::{Duplicate, Memory, Text};
+use fed_base::{Duplicate, Memory, Text};
 use std::alloc::Global;
 
 /// What the words ask for.

@@ -3,13 +3,13 @@ use Rattle.std.specs.Prelude.{ℕ, List, [], ◌∷◌, ◌==◌, ◌&&◌, ◌|
 use Rattle.std.specs.Option.{option_and_then}
 use Rattle.base64url.specs.Base64url.{decoded_32}
 use Rattle.entity_id.specs.Identifiers.{identifier_of}
-use Rattle.fed_commands.specs.Acts.{act_in}
-use Rattle.fed_commands.specs.Issues.{type_of}
-use Rattle.fed_commands.specs.Options.{option_in, moment_in}
-use Rattle.fed_commands.specs.declared.act.Act.{Act}
-use Rattle.fed_commands.specs.declared.command.Command.{Command}
-use Rattle.fed_commands.specs.declared.text_type.TextType.{TextType}
-use Rattle.fed_commands.specs.declared.command.Command.TheVariants.{Verify, Keygen, Issue, Rotate, Check, Help, Version, Faulty}
+use Rattle.fed_words.specs.Acts.{act_in}
+use Rattle.fed_words.specs.TextTypes.{type_of}
+use Rattle.fed_words.specs.Options.{option_in, moment_in}
+use Rattle.fed_words.specs.declared.act.Act.{Act}
+use Rattle.fed_words.specs.declared.command.Command.{Command}
+use Rattle.fed_words.specs.declared.text_type.TextType.{TextType}
+use Rattle.fed_words.specs.declared.command.Command.TheVariants.{Verify, Keygen, Issue, Rotate, Check, Help, Version, Faulty}
 
 -- a flag stands alone
 unfoldable pub flag_of : List ℕ → List (List ℕ) → Command

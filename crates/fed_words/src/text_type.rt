@@ -2,10 +2,10 @@
 
 ghost use Rattle.std.specs.Prelude.{◌≡◌, IfOk};
 ghost use Rattle.std.specs.Str.{IsUtf8};
-ghost use Rattle.fed_commands.specs.Issues.{type_name, type_of};
+ghost use Rattle.fed_words.specs.TextTypes.{type_name, type_of};
 
 use entity_statement::STATEMENT_TYPE;
-use fed_ports::{Memory, Text};
+use fed_base::{Memory, Text};
 use std::alloc::Global;
 use trust_mark::{DELEGATION_TYPE, MARK_TYPE};
 

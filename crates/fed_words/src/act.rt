@@ -1,11 +1,11 @@
 // Changes of a ring among the words.
 
 ghost use Rattle.std.specs.Prelude.{◌≡◌, IfOk};
-ghost use Rattle.fed_commands.specs.Acts.{act_in, act_named, add_in, reason_at, retire_in, revoke_in};
+ghost use Rattle.fed_words.specs.Acts.{act_in, act_named, add_in, reason_at, retire_in, revoke_in};
 
 use crate::moment::Moment;
 use crate::options::{moment_in, option_in};
-use fed_ports::{Duplicate, Memory, Text};
+use fed_base::{Duplicate, Memory, Text};
 use key_ring::RevokeReason;
 use std::alloc::Global;
 

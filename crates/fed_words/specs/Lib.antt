@@ -1,0 +1,4 @@
+pub mod Acts
+pub mod Commands
+pub mod Options
+pub mod TextTypes
