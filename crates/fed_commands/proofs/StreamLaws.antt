@@ -3,7 +3,8 @@ use Rattle.std.proofs.Common.{◌≡◌, ◌≤◌, ℕ, List, ◌++◌, length,
 use Rattle.std.specs.Prelude.{Option}
 use Rattle.std.proofs.lemmas.Grind.{common_steps}
 use Rattle.fed_commands.specs.Answers.{MayBe}
-use Rattle.fed_ports.specs.Inputs.{Gave, AtEnd}
+use Rattle.fed_ports.specs.Inputs.{AtEnd}
+use Rattle.fed_ports.specs.Lists.{Gave}
 
 -- an input that begins with the bytes
 pub begins : (old new : Option (List ℕ)) (bytes : List ℕ) → Gave old bytes new → (input : List ℕ) × MayBe old input × (length bytes ≤ length input)

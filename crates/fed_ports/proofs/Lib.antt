@@ -1,3 +1,6 @@
+pub mod ConnectionLaws
+pub mod ExchangeLaws
 pub mod FileLaws
 pub mod KeptLaws
+pub mod PageLaws
 pub mod Readings

@@ -1,13 +1,10 @@
 -- Reading a source to its end.
-use Rattle.std.specs.Prelude.{◌≡◌, ◌≤◌, ◌<◌, ℕ, List, [], ◌++◌, length, Option, option_map, IfSome}
+use Rattle.std.specs.Prelude.{◌≡◌, ◌≤◌, ◌<◌, ℕ, List, [], length, Option, IfSome}
 use Rattle.fed_base.specs.Counts.{Rose}
+use Rattle.fed_ports.specs.Lists.{Gave}
 use Rattle.fed_ports.specs.Stores.{file_limit}
 use Rattle.fed_ports.specs.declared.input.ReadEnd.{ReadEnd}
 use Rattle.fed_ports.specs.declared.input.ReadEnd.TheVariants.{Failed, TooLong, Memory}
-
--- these bytes were taken from the source, where it tells what it had left
-abbrev pub Gave : Option (List ℕ) → List ℕ → Option (List ℕ) → Type 0
-Gave old bytes new = old ≡ option_map (λ rest. bytes ++ rest) new
 
 -- nothing is left, where that is told
 abbrev pub AtEnd : Option (List ℕ) → Type 0

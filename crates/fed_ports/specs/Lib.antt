@@ -1,11 +1,17 @@
 pub mod Bytes
 pub mod Causes
+pub mod Exchanges
 pub mod Inputs
 pub mod KeptFiles
+pub mod Lists
 pub mod MemoryClocks
+pub mod MemoryLinks
+pub mod MemoryNetworks
+pub mod MemoryPeers
 pub mod MemoryStores
 pub mod MemoryStreams
 pub mod NamedFiles
 pub mod Plans
 pub mod Stores
 pub mod Times
+pub mod Webs

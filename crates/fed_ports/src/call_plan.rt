@@ -44,4 +44,18 @@ impl CallPlan {
         self.made = call.saturating_add(1);
         self.room <= call || self.failing.contains(&call)
     }
+
+    /// The number of calls for which there is room in all.
+    pub fn room(&self) -> u64
+        ensures { result ≡ (plan_of self.now).room }
+    {
+        self.room
+    }
+
+    /// The same plan before its first call.
+    pub fn again(&self, alloc: Global) -> Result<CallPlan, Memory>
+        ensures { IfOk result (λ plan. plan_of plan ≡ record { failing = (plan_of self.now).failing; room = (plan_of self.now).room; made = 0 }) }
+    {
+        CallPlan::new(alloc, self.failing.as_slice(), self.room)
+    }
 }

@@ -8,32 +8,58 @@
 //! The texts, lists, errors and ledgers of the base are given again here under their names.
 #![tactic(auto)]
 
+mod address;
 mod call_plan;
 mod clock;
 mod input;
 mod kept_file;
+mod link;
 mod memory_clock;
+mod memory_connection;
+mod memory_connections;
+mod memory_link;
+mod memory_network;
+mod memory_peer;
 mod memory_sink;
 mod memory_source;
 mod memory_store;
 mod named_file;
+mod named_page;
+mod network;
+mod noted;
+mod page;
+mod peer;
 mod real;
 mod real_clock;
+mod real_network;
+mod real_peer;
 mod real_store;
 mod sink;
 mod source;
 mod store;
+mod timed;
 
+pub use address::{Address, listen_address};
 pub use clock::Clock;
 pub use fed_base::{Duplicate, Failed, Ledger, MOMENT_LIMIT, Memory, Plain, Seq, Steps, Text};
 pub use input::{ReadEnd, read_all};
+pub use link::{Link, LinkFault};
 pub use memory_clock::MemoryClock;
+pub use memory_link::MemoryLink;
+pub use memory_network::MemoryNetwork;
+pub use memory_peer::MemoryPeer;
 pub use memory_sink::MemorySink;
 pub use memory_source::MemorySource;
 pub use memory_store::MemoryStore;
 pub use named_file::NamedFile;
+pub use named_page::NamedPage;
+pub use network::Network;
+pub use page::Page;
+pub use peer::Peer;
 pub use real::{RealSink, RealSource};
 pub use real_clock::RealClock;
+pub use real_network::RealNetwork;
+pub use real_peer::RealPeer;
 pub use real_store::RealStore;
 pub use sink::Sink;
 pub use source::Source;

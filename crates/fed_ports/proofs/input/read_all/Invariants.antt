@@ -1,5 +1,5 @@
 use Rattle.std.proofs.Common.{◌≡◌, ◌-◌, length}
-use Rattle.fed_ports.specs.Inputs.{Gave}
+use Rattle.fed_ports.specs.Lists.{Gave}
 use Rattle.fed_ports.proofs.input.read_all.Given as goal
 
 abbrev pub invariant-pieces : goal.invariant-pieces

@@ -1,0 +1,96 @@
+// What the log says of one connection.
+
+use std::str;
+
+// How many bytes of a request are kept for the log.
+const KEPT: usize = 256;
+
+// How many bytes of an answer there are up to the end of its status, as in `HTTP/1.1 200`.
+const STATUS_END: usize = 12;
+
+/// The beginning of the request's first line, that of the answer's, and how many bytes were given.
+#[derive(Drop)]
+pub struct Noted {
+    request: [u8; KEPT],
+    kept: usize,
+    ended: bool,
+    answer: [u8; STATUS_END],
+    given: u64,
+}
+
+// A byte as the log shows it: an ASCII letter, digit or sign as it is, and any other as a question mark.
+fn shown(byte: u8) -> u8 {
+    if byte == b' ' || byte.is_ascii_graphic() {
+        byte
+    } else {
+        b'?'
+    }
+}
+
+// The text before that sign and the text behind it, or the whole text.
+fn cut(text: &str, sign: char) -> (&str, &str) {
+    text.split_once(sign).unwrap_or((text, ""))
+}
+
+// The text, or a dash where it is empty.
+fn or_dash(text: &str) -> &str {
+    if text.is_empty() { "-" } else { text }
+}
+
+impl Noted {
+    /// Nothing was read or given yet.
+    pub fn new() -> Noted {
+        Noted {
+            request: [0; KEPT],
+            kept: 0,
+            ended: false,
+            answer: [b' '; STATUS_END],
+            given: 0,
+        }
+    }
+
+    /// Notes what was read, up to the end of the first line.
+    pub fn read(&mut self, bytes: &[u8]) {
+        for byte in bytes {
+            if *byte == b'\r' || *byte == b'\n' {
+                self.ended = true;
+            }
+            if self.ended || self.kept >= KEPT {
+                return;
+            }
+            self.request[self.kept] = shown(*byte);
+            self.kept += 1;
+        }
+    }
+
+    /// Notes what was given.
+    pub fn given(&mut self, bytes: &[u8]) {
+        for byte in bytes {
+            if self.given < STATUS_END as u64 {
+                self.answer[self.given as usize] = shown(*byte);
+            }
+            self.given = self.given.saturating_add(1);
+        }
+    }
+
+    /// The method and the path, each a dash where there is none. The path ends before its query.
+    pub fn request(&self) -> (&str, &str) {
+        let text = str::from_utf8(self.request.get(..self.kept).unwrap_or(&[])).unwrap_or("");
+        let (method, rest) = cut(text, ' ');
+        let (target, _) = cut(rest, ' ');
+        let (path, _) = cut(target, '?');
+        (or_dash(method), or_dash(path))
+    }
+
+    /// The status of the answer, or a dash.
+    pub fn status(&self) -> &str {
+        let text = str::from_utf8(&self.answer).unwrap_or("");
+        let (_, status) = cut(text, ' ');
+        or_dash(status.trim_ascii())
+    }
+
+    /// How many bytes were given.
+    pub fn bytes(&self) -> u64 {
+        self.given
+    }
+}

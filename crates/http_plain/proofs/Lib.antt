@@ -1,0 +1,10 @@
+pub mod Appending
+pub mod ChunkPages
+pub mod Chunking
+pub mod Ends
+pub mod Exchanging
+pub mod Showing
+pub mod Sizes
+pub mod Takings
+pub mod Texts
+pub mod WebUrls

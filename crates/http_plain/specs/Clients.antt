@@ -1,0 +1,58 @@
+-- A client's one exchange for a URL (RFC 9110 section 7, RFC 9112 section 3).
+use Rattle.std.specs.Prelude.{◌≡◌, ℕ, ◌||◌, Bool, false, List, [], ◌∷◌, ◌++◌, codes, bytes_eq, cond, Option, Some, None, option_map, if◌then◌else◌}
+use Rattle.std.specs.Result.{result_ok}
+use Rattle.std.specs.Str.{is_utf8}
+use Rattle.fed_base.specs.Values.{◌>>=◌}
+use Rattle.fed_ports.specs.declared.address.Address.{Address}
+use Rattle.fed_ports.specs.declared.page.Page.{Page}
+use Rattle.fed_ports.specs.Exchanges.{Exchange}
+use Rattle.url.specs.declared.slicing.Position.TheVariants.{BeforeHost, AfterPort, BeforePath, AfterQuery}
+use Rattle.url.specs.Host.{host_text}
+use Rattle.url.specs.Parser.{parse_url}
+use Rattle.url.specs.Parts.{Parts, nonempty_host, text_between}
+use Rattle.http_plain.specs.declared.route.Route.{Route}
+use Rattle.http_plain.specs.Pages.{IsPage}
+use Rattle.http_plain.specs.Responses.{crlf}
+
+-- the scheme is one of the web (RFC 9110 section 4.2)
+abbrev pub is_web : Parts → Bool
+is_web url = bytes_eq url.scheme (codes "http") || bytes_eq url.scheme (codes "https")
+
+-- the URL that the text is (URL Standard section 4.4), where it is one of the web
+unfoldable pub url_in : List ℕ → Option Parts
+url_in text = cond (is_utf8 text) (result_ok (parse_url None text) >>= λ url. cond (is_web url) (Some url) None) None
+
+-- the address of the first route to that host
+unfoldable pub route_to : List Route → List ℕ → Option Address
+route_to [] host = None
+route_to (r ∷ rs) host = if bytes_eq r.host host then Some r.to else route_to rs host
+
+-- the address for a URL, by its host as a text without the port
+unfoldable pub address_of : List Route → Parts → Option Address
+address_of routes url = option_map host_text (nonempty_host url) >>= route_to routes
+
+-- the URL is none of the web, or no route has its host
+abbrev pub HasNoRoute : List Route → List ℕ → Type 0
+HasNoRoute routes text = (url_in text >>= address_of routes) ≡ None
+
+-- the message that asks for a URL: its path and query, and its host with the port that the URL keeps (RFC 9112 sections 3.2 and 9.6)
+unfoldable pub get_text : List ℕ → List ℕ → List ℕ
+get_text target host =
+    codes "GET " ++ target ++ codes " HTTP/1.1" ++ crlf
+    ++ codes "Host: " ++ host ++ crlf
+    ++ codes "Accept: */*" ++ crlf
+    ++ codes "Connection: close" ++ crlf
+    ++ crlf
+
+abbrev pub message_of : Parts → List ℕ
+message_of url = get_text (text_between url BeforePath AfterQuery) (text_between url BeforeHost AfterPort)
+
+-- the page of a URL by the routes and one exchange: it went to the URL's address, its sent bytes are the whole message, it didn't fail,
+-- and what was received, with the end where it came, fixes the page
+pub record ClientPage (text : List ℕ) (routes : List Route) (x : Exchange) (p : Page) : Type 0 where
+  pub url : Parts
+  pub reads : url_in text ≡ Some url
+  pub address : address_of routes url ≡ Some x.to
+  pub message : x.sent ≡ message_of url
+  pub steady : x.failed ≡ false
+  pub page : IsPage x.received x.ended p

@@ -1,0 +1,15 @@
+pub mod Chunks
+pub mod Clients
+pub mod ExchangeLaws
+pub mod Fields
+pub mod FlowLaws
+pub mod Flows
+pub mod Heads
+pub mod Links
+pub mod Pages
+pub mod Plans
+pub mod Readings
+pub mod Requests
+pub mod Responses
+pub mod Shown
+pub mod Writings

@@ -1,0 +1,26 @@
+-- What came shows a page.
+use Rattle.std.specs.Prelude.{◌≤◌, ◌<◌, ℕ, Bool, List, ◌++◌, drop, length}
+use Rattle.fed_ports.specs.declared.page.Page.{Page}
+use Rattle.http_plain.specs.declared.form.Form.{Form}
+use Rattle.http_plain.specs.Heads.{head_limit}
+use Rattle.http_plain.specs.Pages.{IsPage, IsBodyPage}
+
+-- what came is that page
+pub record Shows (flow : List ℕ → Bool → Type 0) (p : Page) : Type 0 where
+  pub got : List ℕ
+  pub ended : Bool
+  pub came : flow got ended
+  pub page : IsPage got ended p
+
+-- with what came behind a text, the page of the body behind its first bytes is this
+pub record ShowsBody (flow : List ℕ → Bool → Type 0) (text : List ℕ) (len : ℕ) (form : Form) (p : Page) : Type 0 where
+  pub got : List ℕ
+  pub ended : Bool
+  pub came : flow got ended
+  pub page : IsBodyPage form (drop len (text ++ got)) ended p
+
+-- a text begins with a head of that length, and there is a buffer for what comes behind it
+pub record HasHead (buffer text : List ℕ) (len : ℕ) : Type 0 where
+  pub room : 0 < length buffer
+  pub inside : len ≤ length text
+  pub small : len ≤ head_limit

@@ -1,0 +1,50 @@
+// One exchange over a connection.
+
+ghost use Rattle.std.specs.Prelude.{◌≡◌, IfOk, OnOk};
+ghost use Rattle.fed_ports.specs.Causes.{HasCause};
+ghost use Rattle.fed_ports.specs.Exchanges.{Changed, with_sent};
+ghost use Rattle.http_plain.specs.Flows.{BreakCause};
+ghost use Rattle.http_plain.specs.Links.{AddsExchange, Answers};
+
+use crate::inflow::Break;
+use crate::networks::Wire;
+use crate::page::read_page;
+use fed_ports::{Address, Failed, Page};
+use std::alloc::Global;
+
+// Sends the whole message.
+fn send_all<T, W: Wire<T>>(net: &mut T, message: &[u8]) -> Result<(), Failed>
+    requires { W.ready net.old }
+    ensures open { W.ready net.new }
+    ensures told { OnOk result (Changed (W.told net.old) (with_sent message.now) (W.told net.new)) }
+    ensures cause { HasCause (W.in_faults net.old) (W.in_faults net.new) result }
+{
+    let mut at = 0;
+    while at < message.len() {
+        at += W::send(net, &message[at..])?;
+    }
+    Ok(())
+}
+
+// Sends a message to an address, and reads the page that comes.
+pub(crate) fn exchange<T, W: Wire<T>>(
+    alloc: Global,
+    net: &mut T,
+    to: &Address,
+    message: &[u8],
+) -> Result<Page, Break>
+    ensures page { IfOk result (λ page. AddsExchange (W.told net.old) (W.told net.new) (λ x. Answers x to.now message.now page)) }
+    ensures shut { W.ready net.new → ⊥ }
+    ensures cause { BreakCause (W.in_faults net.old) (W.in_faults net.new) result }
+{
+    if W::open(net, to).is_err() {
+        return Err(Break::Failed);
+    }
+    if send_all::<T, W>(net, message).is_err() {
+        W::shut(net);
+        return Err(Break::Failed);
+    }
+    let page = read_page::<T, W>(alloc, net);
+    W::shut(net);
+    page
+}

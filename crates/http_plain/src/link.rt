@@ -1,0 +1,75 @@
+// A link over a network.
+
+ghost use Rattle.std.specs.Prelude.{◌≡◌, ◌⊎◌, None, IfOk};
+ghost use Rattle.fed_base.specs.Counts.{next_count};
+ghost use Rattle.fed_ports.specs.Webs.{HasLinkCause, Serves};
+ghost use Rattle.http_plain.specs.Links.{Gets, link_calls, link_network, link_routes};
+
+use crate::exchange::exchange;
+use crate::inflow::Break;
+use crate::networks::Connection;
+use crate::route::Route;
+use crate::target::target_of;
+use fed_ports::{Link, LinkFault, Network, Page, Seq, Text};
+use std::alloc::Global;
+
+/// A client of HTTP/1.1 (RFC 9110, RFC 9112), as a link: each call opens a connection, sends one GET, reads its answer and shuts the
+/// connection. It keeps no page.
+#[derive(Drop)]
+pub struct HttpLink<N> {
+    net: N,
+    routes: Seq<Route>,
+    calls: u64,
+}
+
+impl<N: Network> HttpLink<N> {
+    /// A link over that network. A host is reached by the first route to it, and by none where there is none.
+    pub fn new(net: N, routes: Seq<Route>) -> HttpLink<N>
+        ensures network { link_network result ≡ net }
+        ensures routes { link_routes result ≡ routes }
+        ensures calls { link_calls result ≡ 0 }
+    {
+        HttpLink {
+            net,
+            routes,
+            calls: 0,
+        }
+    }
+
+    /// The network that the link holds.
+    pub fn into_net(self) -> N
+        ensures { result ≡ link_network self }
+    {
+        self.net
+    }
+}
+
+impl<N: Network> Link for HttpLink<N> {
+    ghost calls = { λ link. link.calls };
+
+    ghost link_faults = { λ link. N.faults link.net };
+
+    ghost web = { λ _. None };
+
+    /// The page of a URL. The connection is shut before every answer that follows an open.
+    fn get(&mut self, alloc: Global, url: &Text) -> Result<Page, LinkFault>
+        ensures calls { link_calls self.new ≡ next_count (link_calls self.old) }
+        ensures routes { link_routes self.new ≡ link_routes self.old }
+        ensures cause { HasLinkCause (N.faults (link_network self.old)) (N.faults (link_network self.new)) result }
+        // The page is that of the URL, the routes and the one exchange of this call; without a route nothing is opened.
+        ensures page { IfOk result (λ page. Gets (link_routes self.old) url.now (N.exchanges (link_network self.old)) (N.exchanges (link_network self.new)) page) }
+        // No connection is open afterwards, or the network is as it was.
+        ensures shut { (N.is_open (link_network self.new) → ⊥) ⊎ (link_network self.new ≡ link_network self.old) }
+    {
+        self.calls = self.calls.saturating_add(1);
+        let target = target_of(alloc, self.routes.as_slice(), url.as_slice())?;
+        let Some(target) = target else {
+            return Ok(Page::NoRoute);
+        };
+        match exchange::<N, Connection>(alloc, &mut self.net, &target.to, target.message.as_bytes()) {
+            Ok(page) => Ok(page),
+            Err(Break::Failed) => Err(LinkFault::Failed),
+            Err(Break::Memory) => Err(LinkFault::Memory),
+        }
+    }
+}

@@ -1,0 +1,76 @@
+// A network as a client uses it: one connection, which is opened, sent to, read from and shut.
+
+ghost use Rattle.std.specs.Prelude.{◌≡◌, ◌≤◌, ◌<◌, ◌∷◌, ℕ, Bool, List, [], Option, length, take, IfOk, OnOk, OnErr};
+ghost use Rattle.fed_ports.specs.Causes.{HasCause};
+ghost use Rattle.fed_ports.specs.Exchanges.{Exchange, Changed, fresh, with_received, with_sent};
+ghost use Rattle.fed_ports.specs.Lists.{Added};
+
+use crate::inflow::Inflow;
+use fed_ports::{Address, Failed, Network};
+
+// How a connection of a network is used. It is a trait of its own, without the bound `Send`, since a method of an `impl` passes no such
+// bound on.
+pub(crate) trait Wire<T>: Inflow<T> {
+    ghost told: { T → Option (List Exchange) };
+
+    fn open(net: &mut T, to: &Address) -> Result<(), Failed>
+        ensures open { OnOk result (Self.ready net.new) }
+        ensures none { OnErr result (Self.ready net.new → ⊥) }
+        ensures added { OnOk result (Added (told net.old) (fresh to.now ∷ []) (told net.new)) }
+        ensures cause { HasCause (Self.in_faults net.old) (Self.in_faults net.new) result };
+
+    fn send(net: &mut T, piece: &[u8]) -> Result<usize, Failed>
+        requires open { Self.ready net.old }
+        requires piece { 0 < length piece.now }
+        ensures open { Self.ready net.new }
+        ensures within { IfOk result (λ n. (1 ≤ n) × (n ≤ length piece.now)) }
+        ensures sent { IfOk result (λ n. Changed (told net.old) (with_sent (take n piece.now)) (told net.new)) }
+        ensures cause { HasCause (Self.in_faults net.old) (Self.in_faults net.new) result };
+
+    fn shut(net: &mut T)
+        requires { Self.ready net.old }
+        ensures none { Self.ready net.new → ⊥ }
+        ensures told { told net.new ≡ told net.old }
+        ensures faults { Self.in_faults net.new ≡ Self.in_faults net.old };
+
+    // What comes is received.
+    ghost shows: { (a b : T) (x : List ℕ) (e : Bool) → Self.Inflow.came a b x e → Changed (told a) (with_received x e) (told b) };
+}
+
+// The connection of a network.
+pub(crate) struct Connection;
+
+impl<N: Network> Inflow<N> for Connection {
+    ghost use Rattle.http_plain.specs.ExchangeLaws.{received_none, received_on};
+
+    ghost came = { λ a b x e. Changed (N.exchanges a) (with_received x e) (N.exchanges b) };
+    ghost few = { λ _ _ _. Unit {0} };
+    ghost in_faults = { λ a. N.faults a };
+    ghost ready = { λ a. N.is_open a };
+    ghost came_none = { λ a. received_none (N.exchanges a) };
+    ghost came_on = { λ a b c x y e p q. received_on (N.exchanges a) (N.exchanges b) (N.exchanges c) x y e p q };
+    ghost few_came = { λ _ _ _ _ _ _ _. tt };
+    ghost few_on = { λ _ _ _ _ _ _ _ _ _. tt };
+
+    fn more(from: &mut N, into: &mut [u8]) -> Result<usize, Failed> {
+        from.receive(into)
+    }
+}
+
+impl<N: Network> Wire<N> for Connection {
+    ghost told = { λ net. N.exchanges net };
+
+    ghost shows = { λ _ _ _ _ changed. changed };
+
+    fn open(net: &mut N, to: &Address) -> Result<(), Failed> {
+        net.open(to)
+    }
+
+    fn send(net: &mut N, piece: &[u8]) -> Result<usize, Failed> {
+        net.send(piece)
+    }
+
+    fn shut(net: &mut N) {
+        net.shut();
+    }
+}
