@@ -1,5 +1,7 @@
 // Rows on configurations.
 
+ghost use Rattle.fed_json.specs.Forms.{IsWellFormed};
+
 use fed_base::{Memory, Text};
 use fed_json::{Json, TreeFault, read_tree};
 use node_config::{ConfigFault, NodeConfig, ResolverConfig};
@@ -14,7 +16,9 @@ pub(crate) fn config(alloc: Global, text: &str) -> Result<Text, Memory> {
     }
 }
 
-fn read(alloc: Global, tree: &Json) -> Result<Text, Memory> {
+fn read(alloc: Global, tree: &Json) -> Result<Text, Memory>
+    requires { IsWellFormed tree.now }
+{
     match NodeConfig::read(alloc, tree) {
         Ok(node) => summary(alloc, &node),
         Err(ConfigFault::Shape(member)) => {

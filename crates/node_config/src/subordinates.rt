@@ -34,7 +34,8 @@ pub struct SubordinateConfig {
     pub listing: Listing,
 }
 
-/// What the statement about a subordinate claims of it beside its keys, as it is configured (OpenID Federation 1.0 sections 3.1.1 and 3.1.3).
+/// What the statement about a subordinate claims of it beside its keys, as it is configured (OpenID Federation 1.0 sections 3.1.1 and
+/// 3.1.3).
 #[derive(Drop)]
 pub struct ClaimsAbout {
     pub metadata: Option<Json>,
