@@ -34,7 +34,12 @@ fn read(alloc: Global, tree: &Json) -> Result<Text, Memory>
 fn summary(alloc: Global, node: &NodeConfig) -> Result<Text, Memory> {
     let mut told = Text::of(alloc, node.id.text())?;
     number(alloc, &mut told, b" lifetime ", node.lifetime)?;
-    number(alloc, &mut told, b" subordinates ", node.subordinates.len() as u64)?;
+    number(
+        alloc,
+        &mut told,
+        b" subordinates ",
+        node.subordinates.len() as u64,
+    )?;
     number(alloc, &mut told, b" revoked ", node.revoked.len() as u64)?;
     if let Some(resolver) = &node.resolver {
         resolves(alloc, &mut told, resolver)?;

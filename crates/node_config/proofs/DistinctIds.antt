@@ -50,6 +50,7 @@ repeated (x ∷ ids) rest id among = by_first (bytes_eq id x) refl (repeated ids
     both_false : (a b : Bool) → b ≡ false → (a && b) ≡ false
     both_false true b is = is
     both_false false b is = refl
+
     by_first : (b : Bool) → bytes_eq id x ≡ b → (list_any (bytes_eq id) ids ≡ true → all_differ (ids ++ id ∷ rest) ≡ false) → (b || list_any (bytes_eq id) ids) ≡ true → (not (list_any (bytes_eq x) (ids ++ id ∷ rest)) && all_differ (ids ++ id ∷ rest)) ≡ false
     by_first true is later among =
         let here : list_any (bytes_eq x) (ids ++ id ∷ rest) ≡ true =
@@ -89,6 +90,7 @@ module _ {T : Type 0} (id_of : T → Identifier) where
     where
       flipped : (a b : Identifier) → bytes_eq a b ≡ bytes_eq b a
       flipped a b = sym (bytes_eq-back (bytes_eq a b) a b refl)
+
       as_or : (a b : Bool) → cond a true b ≡ (b || (a || false))
       as_or true true = refl
       as_or true false = refl

@@ -59,11 +59,7 @@ pub(crate) fn identifier_at(
 }
 
 /// A key set that must be there.
-pub(crate) fn keys_at(
-    alloc: Global,
-    members: &[Member],
-    name: &[u8],
-) -> Result<JwkSet, FormFault>
+pub(crate) fn keys_at(alloc: Global, members: &[Member], name: &[u8]) -> Result<JwkSet, FormFault>
     requires { IsTrue (members_well_formed members.now) }
     ensures { ReadsBy (λ set. set.keys) result (member_in name.now keys_of members.now) }
 {

@@ -49,11 +49,7 @@ pub(crate) fn number(
 }
 
 /// The texts of a list that may be absent.
-pub(crate) fn texts(
-    alloc: Global,
-    members: &[Member],
-    name: &[u8],
-) -> Result<Seq<Text>, FormFault>
+pub(crate) fn texts(alloc: Global, members: &[Member], name: &[u8]) -> Result<Seq<Text>, FormFault>
     ensures { Reads result (possible_list name.now texts_of members.now) }
 {
     let Some(tree) = find(members, name) else {

@@ -87,7 +87,11 @@ pub(crate) fn further_in(
 fn id_in(alloc: Global, members: &[Member]) -> Result<EntityId, ConfigFault>
     ensures { Gives result (member_or_name (codes "entity_id") (needed (codes "entity_id") identifier_of members.now)) }
 {
-    member(alloc, b"entity_id", identifier_at(alloc, members, b"entity_id"))
+    member(
+        alloc,
+        b"entity_id",
+        identifier_at(alloc, members, b"entity_id"),
+    )
 }
 
 // The member `ring`: the name of the file of its keys.
@@ -101,7 +105,11 @@ fn ring_in(alloc: Global, members: &[Member]) -> Result<Text, ConfigFault>
 fn lifetime_in(alloc: Global, members: &[Member]) -> Result<u64, ConfigFault>
     ensures { Gives result (member_or_name (codes "lifetime") (needed (codes "lifetime") (number_within 60 31536000) members.now)) }
 {
-    member(alloc, b"lifetime", number(members, b"lifetime", 60, 31_536_000))
+    member(
+        alloc,
+        b"lifetime",
+        number(members, b"lifetime", 60, 31_536_000),
+    )
 }
 
 /// The claims of its own configuration.
@@ -133,7 +141,11 @@ fn subordinates_in(
     requires { IsTrue (members_well_formed members.now) }
     ensures { GivesBy (map told_subordinate) result (member_or_name (codes "subordinates") (possible_list (codes "subordinates") (subordinates_of node.now) members.now)) }
 {
-    member(alloc, b"subordinates", subordinates_at(alloc, members, node))
+    member(
+        alloc,
+        b"subordinates",
+        subordinates_at(alloc, members, node),
+    )
 }
 
 fn subordinates_at(
@@ -154,14 +166,15 @@ fn subordinates_at(
 fn revoked_in(alloc: Global, members: &[Member]) -> Result<Seq<Text>, ConfigFault>
     ensures { Gives result (member_or_name (codes "revoked_marks") (possible_list (codes "revoked_marks") texts_of members.now)) }
 {
-    member(alloc, b"revoked_marks", texts(alloc, members, b"revoked_marks"))
+    member(
+        alloc,
+        b"revoked_marks",
+        texts(alloc, members, b"revoked_marks"),
+    )
 }
 
 // The member `resolver`.
-fn resolver_in(
-    alloc: Global,
-    members: &[Member],
-) -> Result<Option<ResolverConfig>, ConfigFault>
+fn resolver_in(alloc: Global, members: &[Member]) -> Result<Option<ResolverConfig>, ConfigFault>
     requires { IsTrue (members_well_formed members.now) }
     ensures { GivesBy (option_map told_resolver) result (member_or_name (codes "resolver") (possible (codes "resolver") resolver_of members.now)) }
 {
