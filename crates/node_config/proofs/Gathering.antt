@@ -1,5 +1,6 @@
 -- What a loop has gathered from the first parts of a list.
-use Rattle.std.proofs.Common.{◌≡◌, ◌<◌, ℕ, suc, ◌+◌, List, [], ◌∷◌, ◌++◌, length, map, drop, get_or, Option, Some, None, option_map, Err, refl, sym, ap, ◌∙◌, drop-cons, add-one, append_assoc}
+use Rattle.std.proofs.Common.{◌≡◌, ◌<◌, ℕ, suc, ◌+◌, List, [], ◌∷◌, ◌++◌, length, map, drop, get_or, Option, Some, None, option_map, Err, refl, sym, ap, ◌∙◌, subst, drop-cons, add-one, append_assoc}
+use Rattle.std.specs.List.{AllByRecursion}
 use Rattle.std.specs.Option.{option_and_then}
 use Rattle.std.proofs.lemmas.List.{map-append}
 use Rattle.fed_json.specs.Trees.{each}
@@ -43,3 +44,11 @@ module _ {A X Y : Type 0} (form : A → Option Y) (view : X → Y) where
       → part ≡ get_or parts k part → ReadsBy view (Err fault) (form part) → ReadsBy (map view) (Err fault) (each form parts)
   gathered_fault Shape parts done k part gathered within at none = gathered_none parts done k part gathered within at none
   gathered_fault Memory parts done k part gathered within at none = tt
+
+pushed : {X : Type 0} (P : X → Type 0) (xs : List X) (x : X) → AllByRecursion P xs → P x → AllByRecursion P (xs ++ x ∷ [])
+pushed P [] x all last = (last, tt)
+pushed P (y ∷ ys) x all last = (all.0, pushed P ys x all.1 last)
+
+-- a fact of each item of a list, and of one more
+pub all_pushed : {X : Type 0} (P : X → Type 0) (xs more : List X) (x : X) → AllByRecursion P xs → P x → more ≡ xs ++ x ∷ [] → AllByRecursion P more
+all_pushed P xs more x all last made = subst (AllByRecursion P) (sym made) (pushed P xs x all last)

@@ -4,5 +4,6 @@ pub mod Configurations
 pub mod Forms
 pub mod Nodes
 pub mod Resolvers
+pub mod Stated
 pub mod Subordinates
 pub mod Told

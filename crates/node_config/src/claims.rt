@@ -6,6 +6,7 @@ ghost use Rattle.fed_json.specs.Forms.{IsWellFormed, members_well_formed};
 ghost use Rattle.chain_limits.specs.Reading.{constraints_of};
 ghost use Rattle.entity_statement.specs.Table.{is_operator};
 ghost use Rattle.node_config.specs.Answers.{Gives, Reads};
+ghost use Rattle.node_config.specs.Stated.{IsStated, MayState};
 ghost use Rattle.policy_merge.specs.Shapes.{policy_shape};
 ghost use Rattle.node_config.specs.Configurations.{own_claim as claim_or_name};
 ghost use Rattle.node_config.specs.Forms.{are_operators, claim_in as claim_at, claim_name, claim_of, has_form};
@@ -58,7 +59,8 @@ pub(crate) fn own_claim(
     claim: Claim,
 ) -> Result<Option<Json>, ConfigFault>
     requires { IsTrue (members_well_formed members.now) }
-    ensures { Gives result (claim_or_name claim members.now) }
+    ensures claim { Gives result (claim_or_name claim members.now) }
+    ensures stated { IfOk result (MayState claim) }
 {
     member(alloc, claim.name(), claim_in(alloc, members, claim))
 }
@@ -70,7 +72,8 @@ pub(crate) fn claim_in(
     claim: Claim,
 ) -> Result<Option<Json>, FormFault>
     requires { IsTrue (members_well_formed members.now) }
-    ensures { Reads result (claim_at claim members.now) }
+    ensures claim { Reads result (claim_at claim members.now) }
+    ensures stated { IfOk result (MayState claim) }
 {
     match find(members, claim.name()) {
         Some(tree) => Ok(Some(claim_of(alloc, tree, claim)?)),
@@ -82,7 +85,8 @@ pub(crate) fn claim_in(
 #[tactic(auto, unfolding(crate::specs::Forms::claim_of))]
 fn claim_of(alloc: Global, tree: &Json, claim: Claim) -> Result<Json, FormFault>
     requires { IsWellFormed tree.now }
-    ensures { Reads result (claim_of claim tree.now) }
+    ensures claim { Reads result (claim_of claim tree.now) }
+    ensures stated { IfOk result (IsStated claim) }
 {
     if has_form(alloc, tree, claim)? && is_whole(tree) {
         Ok(tree.copy(alloc)?)

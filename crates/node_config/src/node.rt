@@ -1,9 +1,11 @@
 // A node's configuration.
 
-ghost use Rattle.std.specs.Prelude.{◌≡◌, IsTrue};
+ghost use Rattle.std.specs.Prelude.{◌≡◌, IfOk, IsTrue};
+ghost use Rattle.std.specs.List.{AllByRecursion};
 ghost use Rattle.fed_json.specs.Forms.{IsWellFormed, members_well_formed};
 ghost use Rattle.node_config.specs.Answers.{GivesBy};
 ghost use Rattle.node_config.specs.Configurations.{configuration_in, settings_in};
+ghost use Rattle.node_config.specs.Stated.{AreOwn, IsSubordinate};
 ghost use Rattle.node_config.specs.Told.{told};
 
 use crate::fault::ConfigFault;
@@ -39,6 +41,8 @@ impl NodeConfig {
     pub fn read(alloc: Global, config: &Json) -> Result<NodeConfig, ConfigFault>
         requires { IsWellFormed config.now }
         ensures exact { GivesBy told result (configuration_in config.now) }
+        ensures own { IfOk result (λ node. AreOwn node.claims) }
+        ensures about { IfOk result (λ node. AllByRecursion IsSubordinate node.subordinates) }
     {
         match config {
             Json::Object(members) => settings_in(alloc, members.as_slice()),
@@ -50,7 +54,9 @@ impl NodeConfig {
 #[tactic(auto, unfolding(crate::specs::Configurations::settings_in))]
 fn settings_in(alloc: Global, members: &[Member]) -> Result<NodeConfig, ConfigFault>
     requires { IsTrue (members_well_formed members.now) }
-    ensures { GivesBy told result (settings_in members.now) }
+    ensures exact { GivesBy told result (settings_in members.now) }
+    ensures own { IfOk result (λ node. AreOwn node.claims) }
+    ensures about { IfOk result (λ node. AllByRecursion IsSubordinate node.subordinates) }
 {
     let basics = basics_in(alloc, members)?;
     let claims = own_claims_in(alloc, members)?;

@@ -1,6 +1,7 @@
 // The members of a configuration, one by one.
 
-ghost use Rattle.std.specs.Prelude.{◌≡◌, IsTrue, codes, map, option_map};
+ghost use Rattle.std.specs.Prelude.{◌≡◌, IfOk, IsTrue, codes, map, option_map};
+ghost use Rattle.std.specs.List.{AllByRecursion};
 ghost use Rattle.fed_json.specs.Forms.{members_well_formed};
 ghost use Rattle.fed_json.specs.Trees.{as_text, texts_of};
 ghost use Rattle.entity_statement.specs.Forms.{identifier as identifier_of};
@@ -9,6 +10,7 @@ ghost use Rattle.node_config.specs.Configurations.{basics_in, further_in, member
 ghost use Rattle.node_config.specs.Forms.{needed, number_within, possible, possible_list};
 ghost use Rattle.node_config.specs.Resolvers.{resolver_of};
 ghost use Rattle.node_config.specs.Subordinates.{subordinates_of};
+ghost use Rattle.node_config.specs.Stated.{AreOwn, IsSubordinate};
 ghost use Rattle.node_config.specs.Told.{told_further, told_resolver, told_subordinate};
 
 use crate::claims::{Claim, own_claim};
@@ -71,7 +73,8 @@ pub(crate) fn further_in(
     node: &EntityId,
 ) -> Result<FurtherConfig, ConfigFault>
     requires { IsTrue (members_well_formed members.now) }
-    ensures { GivesBy told_further result (further_in node.now members.now) }
+    ensures further { GivesBy told_further result (further_in node.now members.now) }
+    ensures stated { IfOk result (λ further. AllByRecursion IsSubordinate further.subordinates) }
 {
     let subordinates = subordinates_in(alloc, members, node)?;
     let revoked = revoked_in(alloc, members)?;
@@ -116,7 +119,8 @@ fn lifetime_in(alloc: Global, members: &[Member]) -> Result<u64, ConfigFault>
 #[tactic(auto, unfolding(crate::specs::Configurations::own_claims_in))]
 pub(crate) fn own_claims_in(alloc: Global, members: &[Member]) -> Result<OwnClaims, ConfigFault>
     requires { IsTrue (members_well_formed members.now) }
-    ensures { Gives result (own_claims_in members.now) }
+    ensures claims { Gives result (own_claims_in members.now) }
+    ensures stated { IfOk result AreOwn }
 {
     let metadata = own_claim(alloc, members, Claim::Metadata)?;
     let hints = own_claim(alloc, members, Claim::AuthorityHints)?;
@@ -139,7 +143,8 @@ fn subordinates_in(
     node: &EntityId,
 ) -> Result<Seq<SubordinateConfig>, ConfigFault>
     requires { IsTrue (members_well_formed members.now) }
-    ensures { GivesBy (map told_subordinate) result (member_or_name (codes "subordinates") (possible_list (codes "subordinates") (subordinates_of node.now) members.now)) }
+    ensures list { GivesBy (map told_subordinate) result (member_or_name (codes "subordinates") (possible_list (codes "subordinates") (subordinates_of node.now) members.now)) }
+    ensures stated { IfOk result (AllByRecursion IsSubordinate) }
 {
     member(
         alloc,
@@ -154,7 +159,8 @@ fn subordinates_at(
     node: &EntityId,
 ) -> Result<Seq<SubordinateConfig>, FormFault>
     requires { IsTrue (members_well_formed members.now) }
-    ensures { ReadsBy (map told_subordinate) result (possible_list (codes "subordinates") (subordinates_of node.now) members.now) }
+    ensures list { ReadsBy (map told_subordinate) result (possible_list (codes "subordinates") (subordinates_of node.now) members.now) }
+    ensures stated { IfOk result (AllByRecursion IsSubordinate) }
 {
     match find(members, b"subordinates") {
         Some(tree) => read_subordinates(alloc, node, tree),

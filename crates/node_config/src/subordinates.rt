@@ -1,11 +1,12 @@
 // The entities of which the node is a superior.
 
 ghost use Rattle.std.specs.Prelude.{◌≡◌, ◌&&◌, IfOk, IsTrue, bytes_eq, codes, map, option_map, length, nat_le, not, unwrap_or, false};
-ghost use Rattle.std.specs.List.{list_all, list_any};
+ghost use Rattle.std.specs.List.{AllByRecursion, list_all, list_any};
 ghost use Rattle.fed_json.specs.Forms.{IsWellFormed, members_well_formed, well_formed};
 ghost use Rattle.fed_json.specs.Trees.{each};
 ghost use Rattle.node_config.specs.Answers.{Reads, ReadsBy};
 ghost use Rattle.node_config.specs.Forms.{possible};
+ghost use Rattle.node_config.specs.Stated.{AreAbout, IsSubordinate};
 ghost use Rattle.node_config.specs.Subordinates.{are_subordinates, claims_about_in, listing_in, subordinate_in, subordinate_of, subordinates_of};
 ghost use Rattle.node_config.specs.Told.{told_subordinate};
 ghost use Rattle.policy_merge.specs.Shapes.{as_truth};
@@ -73,7 +74,8 @@ pub(crate) fn read_subordinates(
     tree: &Json,
 ) -> Result<Seq<SubordinateConfig>, FormFault>
     requires { IsWellFormed tree.now }
-    ensures { ReadsBy (map told_subordinate) result (subordinates_of node.now tree.now) }
+    ensures list { ReadsBy (map told_subordinate) result (subordinates_of node.now tree.now) }
+    ensures stated { IfOk result (AllByRecursion IsSubordinate) }
 {
     let Json::List(items) = tree else {
         return Err(FormFault::Shape);
@@ -116,7 +118,8 @@ fn has_entity(list: &[SubordinateConfig], id: &EntityId) -> bool
 
 fn each_subordinate(alloc: Global, items: &[Json]) -> Result<Seq<SubordinateConfig>, FormFault>
     requires { IsTrue (list_all well_formed items.now) }
-    ensures { ReadsBy (map told_subordinate) result (each subordinate_of items.now) }
+    ensures list { ReadsBy (map told_subordinate) result (each subordinate_of items.now) }
+    ensures stated { IfOk result (AllByRecursion IsSubordinate) }
 {
     let mut list = Seq::new(alloc);
     for item in items {
@@ -128,7 +131,8 @@ fn each_subordinate(alloc: Global, items: &[Json]) -> Result<Seq<SubordinateConf
 #[tactic(auto, unfolding(crate::specs::Subordinates::subordinate_of))]
 fn read_subordinate(alloc: Global, tree: &Json) -> Result<SubordinateConfig, FormFault>
     requires { IsWellFormed tree.now }
-    ensures { ReadsBy told_subordinate result (subordinate_of tree.now) }
+    ensures subordinate { ReadsBy told_subordinate result (subordinate_of tree.now) }
+    ensures stated { IfOk result IsSubordinate }
 {
     match tree {
         Json::Object(members) => subordinate_in(alloc, members.as_slice()),
@@ -139,7 +143,8 @@ fn read_subordinate(alloc: Global, tree: &Json) -> Result<SubordinateConfig, For
 #[tactic(auto, unfolding(crate::specs::Subordinates::subordinate_in))]
 fn subordinate_in(alloc: Global, members: &[Member]) -> Result<SubordinateConfig, FormFault>
     requires { IsTrue (members_well_formed members.now) }
-    ensures { ReadsBy told_subordinate result (subordinate_in members.now) }
+    ensures subordinate { ReadsBy told_subordinate result (subordinate_in members.now) }
+    ensures stated { IfOk result IsSubordinate }
 {
     let entity = entity_in(alloc, members)?;
     let claims = claims_about_in(alloc, members)?;
@@ -155,7 +160,8 @@ fn subordinate_in(alloc: Global, members: &[Member]) -> Result<SubordinateConfig
 #[tactic(auto, unfolding(crate::specs::Subordinates::claims_about_in))]
 fn claims_about_in(alloc: Global, members: &[Member]) -> Result<ClaimsAbout, FormFault>
     requires { IsTrue (members_well_formed members.now) }
-    ensures { Reads result (claims_about_in members.now) }
+    ensures claims { Reads result (claims_about_in members.now) }
+    ensures stated { IfOk result AreAbout }
 {
     let metadata = claim_in(alloc, members, Claim::Metadata)?;
     let policy = claim_in(alloc, members, Claim::MetadataPolicy)?;
