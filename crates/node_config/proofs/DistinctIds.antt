@@ -1,5 +1,5 @@
 -- Identifiers that a loop has seen, and those that differ.
-use Rattle.std.proofs.Common.{◌≡◌, ◌<◌, ℕ, suc, ◌+◌, List, [], ◌∷◌, ◌++◌, length, map, take, drop, get_or, Bool, true, false, ◌||◌, ◌&&◌, not, cond, bytes_eq, nat_cmp, Ordering, Bor, refl, sym, ap, ap₂, ◌∙◌, take-suc, drop-cons, add-one, append_assoc}
+use Rattle.std.proofs.Common.{◌≡◌, ◌<◌, ℕ, suc, ◌+◌, List, [], ◌∷◌, ◌++◌, length, map, take, drop, get_or, Bool, true, false, ◌||◌, ◌&&◌, not, cond, bytes_eq, nat_cmp, Ordering, Bor, refl, sym, ap, ap₂, ◌∙◌, take-suc, drop-cons, add-one}
 use Rattle.std.specs.BTreeSet.{BTreeSet, contains}
 use Rattle.std.specs.Cmp.Lexicographic.{slice_cmp}
 use Rattle.std.specs.List.{list_any}

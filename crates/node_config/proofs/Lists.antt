@@ -7,7 +7,7 @@ use Rattle.entity_statement.specs.Forms.{all_differ}
 use Rattle.node_config.specs.declared.entities.AnchorPart.{AnchorPart}
 use Rattle.node_config.specs.declared.subordinates.SubordinateConfig.{SubordinateConfig}
 use Rattle.node_config.specs.Nodes.{entity_id, subordinate_id}
-use Rattle.node_config.specs.Subordinates.{are_anchors, are_below, are_subordinates, is_anchor_count}
+use Rattle.node_config.specs.Subordinates.{are_anchors, are_subordinates, is_anchor_count}
 use Rattle.node_config.specs.Told.{told_entity, told_subordinate}
 
 lengths : {A B : Type 0} (f : A → B) (xs : List A) → length (map f xs) ≡ length xs

@@ -1,10 +1,9 @@
 -- The settings where the members behind the claims aren't of their form.
-use Rattle.std.proofs.Common.{◌≡◌, List, Result, Ok, Err, refl, sym, ap, ◌∙◌, subst}
+use Rattle.std.proofs.Common.{◌≡◌, List, Ok, Err, ap, ◌∙◌}
 use Rattle.fed_base.specs.Answers.{◌>>=◌}
 use Rattle.fed_json.specs.declared.tree.Member.{Member}
 use Rattle.node_config.specs.declared.fault.ConfigFault.{ConfigFault}
 use Rattle.node_config.specs.declared.fault.ConfigFault.TheVariants.{Shape, Memory}
-use Rattle.node_config.specs.declared.node.NodeConfig.{NodeConfig}
 use Rattle.node_config.specs.declared.settings.Basics.{Basics}
 use Rattle.node_config.specs.declared.settings.OwnClaims.{OwnClaims}
 use Rattle.node_config.specs.Answers.{GivesBy}

@@ -1,5 +1,5 @@
 -- Addresses as texts: four whole numbers below 256 in decimal digits, without leading zeros, with full stops between them.
-use Rattle.std.specs.Prelude.{ℕ, ◌+◌, ◌-◌, ◌*◌, ◌==◌, List, [], ◌∷◌, ◌++◌, length, nat_le, nat_lt, Bool, ◌&&◌, Option, Some, None, option_map, if◌then◌else◌}
+use Rattle.std.specs.Prelude.{ℕ, ◌+◌, ◌-◌, ◌*◌, ◌==◌, List, [], ◌∷◌, ◌++◌, length, nat_le, nat_lt, ◌&&◌, Option, Some, None, option_map, if◌then◌else◌}
 use Rattle.std.specs.Option.{option_map_or}
 use Rattle.fed_base.specs.Values.{◌>>=◌}
 use Rattle.node_config.specs.declared.addresses.Progress.{Progress}

@@ -1,6 +1,5 @@
-use Rattle.std.proofs.Common.{rules, sym, ap, ◌∙◌, not, ◌≡◌, true, false}
-use Rattle.std.specs.BTreeSet.{contains}
-use Rattle.node_config.proofs.DistinctIds.{key_cmp, negated, seen_again, seen_more}
+use Rattle.std.proofs.Common.{rules, sym, ◌∙◌, true, false}
+use Rattle.node_config.proofs.DistinctIds.{negated, seen_again, seen_more}
 use Rattle.node_config.proofs.distinct.all_differ.Goals as goal
 
 pub returns-then-not-added : goal.returns-then-not-added

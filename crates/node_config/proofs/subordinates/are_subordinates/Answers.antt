@@ -1,7 +1,5 @@
-use Rattle.std.proofs.Common.{◌≡◌, ◌&&◌, rules, IfOk, Bool, true, map, not, nat_le, length, bytes_eq, sym, ap, ◌∙◌, rules}
-use Rattle.std.specs.List.{list_any}
-use Rattle.node_config.specs.declared.subordinates.SubordinateConfig.{SubordinateConfig}
-use Rattle.node_config.proofs.Lists.{differ_of, subordinates_are}
+use Rattle.std.proofs.Common.{sym, ◌∙◌}
+use Rattle.node_config.proofs.Lists.{differ_of}
 use Rattle.node_config.proofs.subordinates.are_subordinates.Goals as goal
 
 pub returns-then-are_below : goal.returns-then-are_below
