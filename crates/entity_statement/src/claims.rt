@@ -8,7 +8,7 @@ ghost use Rattle.entity_statement.specs.Forms.{identifier, moment};
 ghost use Rattle.entity_statement.specs.Table.{Gives, GivesBy, all_understood, constraints_in, critical, formed, hints_in, is_operator, key_set, mark_issuers_in, mark_owners_in, marks_in, metadata_in, optional, policy_crit_in, policy_in, required};
 
 use crate::fault::StatementFault;
-use crate::forms::{hints, identifier, moment};
+use crate::forms::{identifier, moment, read_hints};
 use crate::marks::{Issuers, MarkEntry, Owner, read_issuers, read_marks, read_owners};
 use crate::table::{formed, in_place, required};
 use chain_limits::{Constraints, LimitShape};
@@ -86,7 +86,7 @@ pub(crate) fn hints_in(
         return Ok(Seq::new(alloc));
     };
     in_place(alloc, b"authority_hints", own)?;
-    let ids = hints(alloc, tree)?;
+    let ids = read_hints(alloc, tree)?;
     formed(alloc, b"authority_hints", ids)
 }
 
@@ -155,7 +155,8 @@ fn all_operators(alloc: Global, names: &[Text]) -> Result<(), StatementFault>
     Ok(())
 }
 
-fn is_operator(name: &[u8]) -> bool
+/// Whether it is the name of an operator of metadata policies (section 6.1.3.1).
+pub fn is_operator(name: &[u8]) -> bool
     ensures { result ≡ is_operator name.now }
 {
     OPERATORS

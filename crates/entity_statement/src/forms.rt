@@ -15,7 +15,7 @@ const MAX_HINTS: usize = 32;
 
 /// The identifier that the text is.
 #[tactic(auto, unfolding(crate::specs::Forms::identifier))]
-pub(crate) fn identifier(alloc: Global, tree: &Json) -> Result<Option<EntityId>, Memory>
+pub fn identifier(alloc: Global, tree: &Json) -> Result<Option<EntityId>, Memory>
     ensures { IfOk result (λ id. id ≡ identifier tree.now) }
 {
     match tree {
@@ -34,7 +34,7 @@ pub(crate) fn moment(tree: &Json) -> Option<u64>
 
 /// The identifiers of a list of 1 to 32, each once, at its first place.
 #[tactic(auto, unfolding(crate::specs::Forms::hints_of))]
-pub(crate) fn hints(alloc: Global, tree: &Json) -> Result<Option<Seq<EntityId>>, Memory>
+pub fn read_hints(alloc: Global, tree: &Json) -> Result<Option<Seq<EntityId>>, Memory>
     ensures { IfOk result (λ hints. hints ≡ hints_of tree.now) }
 {
     match tree {

@@ -73,7 +73,7 @@ impl Duplicate for Owner {
 
 /// The marks of a list of objects with the texts `trust_mark_type` and `trust_mark`.
 #[tactic(auto, unfolding(crate::specs::Forms::marks_of))]
-pub(crate) fn read_marks(alloc: Global, tree: &Json) -> Result<Option<Seq<MarkEntry>>, Memory>
+pub fn read_marks(alloc: Global, tree: &Json) -> Result<Option<Seq<MarkEntry>>, Memory>
     ensures { IfOk result (λ marks. marks ≡ marks_of tree.now) }
 {
     match tree {
@@ -116,7 +116,7 @@ fn mark(alloc: Global, tree: &Json) -> Result<Option<MarkEntry>, Memory>
 
 /// The issuers of an object from type to a list of texts.
 #[tactic(auto, unfolding(crate::specs::Forms::issuers_of))]
-pub(crate) fn read_issuers(alloc: Global, tree: &Json) -> Result<Option<Seq<Issuers>>, Memory>
+pub fn read_issuers(alloc: Global, tree: &Json) -> Result<Option<Seq<Issuers>>, Memory>
     ensures { IfOk result (λ issuers. issuers ≡ issuers_of tree.now) }
 {
     match tree {
@@ -151,7 +151,7 @@ fn issuers_of_type(alloc: Global, member: &Member) -> Result<Option<Issuers>, Me
 
 /// The owners of an object from type to an object with `sub` and `jwks`.
 #[tactic(auto, unfolding(crate::specs::Forms::owners_of))]
-pub(crate) fn read_owners(alloc: Global, tree: &Json) -> Result<Option<Seq<Owner>>, Memory>
+pub fn read_owners(alloc: Global, tree: &Json) -> Result<Option<Seq<Owner>>, Memory>
     requires { IsWellFormed tree.now }
     ensures { IfOk result (λ owners. option_map (map told_owner) owners ≡ owners_of tree.now) }
 {

@@ -1,0 +1,4 @@
+mod DistinctIds
+mod Gathering
+mod Lists
+mod SettingsLaws
