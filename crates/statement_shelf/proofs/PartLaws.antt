@@ -3,7 +3,7 @@ use Rattle.std.proofs.Common.{◌≡◌, ◌≤◌, ◌+◌, ℕ, Bool, true, fa
 use Rattle.std.specs.Prelude.{bytes_eq}
 use Rattle.std.specs.Map.{lookup_entry}
 use Rattle.std.proofs.lemmas.List.{take_all}
-use Rattle.fed_json.proofs.Order.{equal-bytes_eq}
+use Rattle.fed_json.proofs.Order.{bytes_eq-itself, equal-bytes_eq}
 use Rattle.lru.specs.LruCache.{LruCache, promoted, put_entries}
 use Rattle.statement_shelf.specs.Entries.{Entry, Part, entry_at, without, written, max_entries, put_first}
 
@@ -43,22 +43,18 @@ module _ (url : List ℕ) where
   length-without [] e h = cc
   length-without (p ∷ part) e h = shorter_by (bytes_eq url p.0) p part e h (length-without part e)
 
-  -- ---- an entry that is written is found
-
-  renewed_by : (b : Bool) (p : List ℕ × Entry) (part : Part) (e w : Entry) → bytes_eq url p.0 ≡ b → cond b (Some p.1) (entry_at url part) ≡ Some e
-      → (entry_at url part ≡ Some e → (entry_at url (written url w part) ≡ Some w) × (without url (written url w part) ≡ without url part))
-      → (entry_at url (cond b ((p.0, w) ∷ part) (p ∷ written url w part)) ≡ Some w) × (without url (cond b ((p.0, w) ∷ part) (p ∷ written url w part)) ≡ cond b part (p ∷ without url part))
-  renewed_by true p part e w same h rest = (rw same refl, rw same refl)
-  renewed_by false p part e w same h rest = let r = rest h in (rw same r.0, rw same (ap (λ q. p ∷ q) r.1))
-
-  pub renewed : (part : Part) (e w : Entry) → entry_at url part ≡ Some e → (entry_at url (written url w part) ≡ Some w) × (without url (written url w part) ≡ without url part)
-  renewed [] e w h = cc
-  renewed (p ∷ part) e w h = renewed_by (bytes_eq url p.0) p part e w refl h (renewed part e w)
-
   -- ---- an entry that is looked at comes first
 
   pub promoted-first : (part : Part) (e : Entry) → entry_at url part ≡ Some e → promoted (bytes_eq url) part ≡ (url, e) ∷ without url part
   promoted-first part e h = rw (found part e h) refl
+
+  written_by : (b : Bool) (part : Part) (e w : Entry) → bytes_eq url url ≡ b → b ≡ true → cond b ((url, w) ∷ part) ((url, e) ∷ written url w part) ≡ (url, w) ∷ part
+  written_by true part e w same is = refl
+  written_by false part e w same is = cc is
+
+  -- and is written in its place
+  pub written-first : (part : Part) (e w : Entry) → written url w ((url, e) ∷ part) ≡ (url, w) ∷ part
+  written-first part e w = written_by (bytes_eq url url) part e w refl (bytes_eq-itself url)
 
   -- ---- an entry that is put comes first
 

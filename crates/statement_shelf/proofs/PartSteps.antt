@@ -1,5 +1,5 @@
 -- What the calls of a part reply and leave.
-use Rattle.std.proofs.Common.{◌≡◌, ◌≤◌, ◌<◌, ℕ, List, ◌∷◌, length, take, Some, None, sym, ap, ◌∙◌, subst, arith}
+use Rattle.std.proofs.Common.{◌≡◌, ◌≤◌, ◌<◌, ℕ, List, ◌∷◌, length, take, Some, None, refl, sym, ap, ◌∙◌, subst, arith}
 use Rattle.std.specs.Prelude.{bytes_eq}
 use Rattle.std.specs.Map.{set_value}
 use Rattle.std.proofs.lemmas.List.{take_all}
@@ -13,7 +13,7 @@ use Rattle.statement_shelf.specs.declared.calls.Proven.{Proven}
 use Rattle.statement_shelf.specs.declared.calls.ShelfCall.TheVariants.{Look, Prove}
 use Rattle.statement_shelf.specs.declared.calls.ShelfReply.TheVariants.{Hit, Done, Gone}
 use Rattle.statement_shelf.proofs.KeyLaws.{short}
-use Rattle.statement_shelf.proofs.PartLaws.{length-without, promoted-first, put-first, renewed}
+use Rattle.statement_shelf.proofs.PartLaws.{length-without, promoted-first, put-first, written-first}
 
 -- ---- Look
 
@@ -38,18 +38,18 @@ pub put-done : (url text : List ℕ) (until : ℕ) (now : Part) (old : LruCache 
     → e ≡ unproved text until → new ≡ put_entries bytes_eq old url e → new ≡ put_first url (unproved text until) now
 put-done url text until now old new e view cap size fresh is = is ∙ put-first url old e cap size ∙ ap (λ x. put_first url x old.entries) fresh ∙ ap (put_first url (unproved text until)) (sym view)
 
-pub renew-fits : (url : List ℕ) (old new : Part) (e w : Entry) → length old ≤ max_entries → entry_at url old ≡ Some e → new ≡ promoted (bytes_eq url) (set_value (bytes_eq url) old w) → length new ≤ max_entries
+pub renew-fits : (url : List ℕ) (old new : Part) (e w : Entry) → length old ≤ max_entries → entry_at url old ≡ Some e → new ≡ set_value (bytes_eq url) (promoted (bytes_eq url) old) w → length new ≤ max_entries
 renew-fits url old new e w size found is =
-    look-fits url (set_value (bytes_eq url) old w) new w (subst (λ n. n ≤ max_entries) (sym (length-set_value (bytes_eq url) old w)) size) (renewed url old e w found).0 is
+    let kept : length (promoted (bytes_eq url) old) ≤ max_entries = look-fits url old (promoted (bytes_eq url) old) e size found refl in
+    subst (λ n. n ≤ max_entries) (sym (ap length is ∙ length-set_value (bytes_eq url) (promoted (bytes_eq url) old) w)) kept
 
 pub renew-done : (url text : List ℕ) (until : ℕ) (now old new : Part) (e w : Entry) → now ≡ old → length old ≤ max_entries → entry_at url old ≡ Some e → w ≡ unproved text until
-    → new ≡ promoted (bytes_eq url) (set_value (bytes_eq url) old w) → new ≡ put_first url (unproved text until) now
+    → new ≡ set_value (bytes_eq url) (promoted (bytes_eq url) old) w → new ≡ put_first url (unproved text until) now
 unfolding put_first
 renew-done url text until now old new e w view size found fresh is =
-    let written = renewed url old e w found in
     let shorter = length-without url old e found in
     let all : take 31 (without url old) ≡ without url old = take_all 31 (without url old) (omega (arith, shorter, size)) in
-    is ∙ promoted-first url (set_value (bytes_eq url) old w) w written.0 ∙ ap (λ q. (url, w) ∷ q) written.1 ∙ ap (λ x. (url, x) ∷ without url old) fresh
+    is ∙ ap (λ p. set_value (bytes_eq url) p w) (promoted-first url old e found) ∙ written-first url (without url old) e w ∙ ap (λ x. (url, x) ∷ without url old) fresh
     ∙ ap (λ q. (url, unproved text until) ∷ q) (sym all) ∙ ap (λ p. take 32 ((url, unproved text until) ∷ without url p)) (sym view)
 
 -- ---- Prove

@@ -1,5 +1,5 @@
 -- The book of trust anchors as a plain list with one epoch, and what each call replies and leaves (OpenID Federation 1.0 section 11.1).
-use Rattle.std.specs.Prelude.{◌≡◌, ◌≢◌, ◌<◌, ◌⊎◌, ◌+◌, ℕ, List, [], ◌∷◌, bytes_eq, AllPairs, Option, Some, None, IsSome, cond}
+use Rattle.std.specs.Prelude.{◌≡◌, ◌≢◌, ◌<◌, ◌⊎◌, ◌+◌, ℕ, List, [], ◌∷◌, bytes_eq, Option, Some, None, IsSome, cond}
 use Rattle.jwk_set.specs.declared.set.JwkSet.{JwkSet}
 use Rattle.statement_shelf.specs.declared.calls.AnchorKeys.{AnchorKeys}
 use Rattle.statement_shelf.specs.declared.calls.BookCall.{BookCall}
@@ -29,10 +29,6 @@ keys_of anchor (a ∷ anchors) = cond (bytes_eq a.anchor anchor) (Some a.keys) (
 abbrev pub with_keys : List ℕ → JwkSet → List AnchorKeys → List AnchorKeys
 with_keys anchor keys [] = []
 with_keys anchor keys (a ∷ anchors) = cond (bytes_eq a.anchor anchor) (record { anchor = anchor; keys = keys } ∷ anchors) (a ∷ with_keys anchor keys anchors)
-
--- the anchors are all different
-abbrev pub AllDiffer : List AnchorKeys → Type 0
-AllDiffer anchors = AllPairs (λ (a b : AnchorKeys). a.anchor ≢ b.anchor) anchors
 
 -- a rotation from this epoch comes too late, or no epoch is left
 abbrev pub IsBehind : Book → ℕ → Type 0

@@ -61,11 +61,10 @@ impl ShelfPart {
         ensures { ShelfStep self.old (Put url text until) result self.new }
     {
         let url = Address::of(url);
-        let Some(entry) = self.entries.peek_mut(&url) else {
+        let Some(entry) = self.entries.get_mut(&url) else {
             return self.add(alloc, url, text, until);
         };
         entry.renew(text, until);
-        self.entries.promote(&url);
         ShelfReply::Done
     }
 
