@@ -8,8 +8,8 @@ use fed_ports::MemorySink;
 use http_plain::{Media, Response, WriteEnd, write_response};
 use std::alloc::Global;
 
-// The status that the word says.
-fn status(word: &str) -> u16
+/// The status that the word says.
+pub(crate) fn status(word: &str) -> u16
     ensures { HasReason result }
 {
     match word {

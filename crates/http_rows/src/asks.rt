@@ -27,8 +27,8 @@ fn add_request(alloc: Global, out: &mut Text, request: &Request) -> Result<(), M
     Ok(())
 }
 
-// What reading answers.
-fn told(alloc: Global, answer: Result<Incoming, ReadEnd>) -> Result<Text, Memory> {
+/// What reading answers.
+pub(crate) fn told(alloc: Global, answer: Result<Incoming, ReadEnd>) -> Result<Text, Memory> {
     let mut out = Text::new(alloc);
     match answer {
         Ok(Incoming::Asked(request)) => add_request(alloc, &mut out, &request)?,

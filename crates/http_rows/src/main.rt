@@ -4,6 +4,7 @@
 //! with what was answered. A line that begins with `#` tells what the rows behind it are about, and is written as it stands.
 #![tactic(auto)]
 
+mod adapters;
 mod answers;
 mod asks;
 mod pages;
@@ -27,6 +28,8 @@ fn answer(alloc: Global, row: &str) -> Result<Text, Memory> {
         "ends" => pages::cut_short(alloc, given),
         "lost" => pages::lost(alloc, given),
         "sent" => pages::sent(alloc, given),
+        "peer" => adapters::peer(alloc, given),
+        "link" => adapters::linked(alloc, given),
         _ => Text::of(alloc, b"no such row"),
     }
 }

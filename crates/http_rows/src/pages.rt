@@ -44,8 +44,8 @@ fn add_page(alloc: Global, out: &mut Text, page: &Page) -> Result<(), Memory> {
     }
 }
 
-// Adds what a call answers.
-fn add_answer(
+/// Adds what a call answers.
+pub(crate) fn add_answer(
     alloc: Global,
     out: &mut Text,
     answer: Result<Page, LinkFault>,
