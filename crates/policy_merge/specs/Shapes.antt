@@ -32,6 +32,13 @@ as_default tree = if is_null tree then None else Some tree
 abbrev pub at : {X : Type 0} → (Json → Option X) → Operator → List Member → Option (Option X)
 at shape operator members = optional shape (find (operator_name operator) members)
 
+-- two parts, where both are there
+abbrev pub both : {X Y : Type 0} → Option X → Option Y → Option (X × Y)
+both o p = do
+  x ← o
+  y ← p
+  Some (x, y)
+
 -- the operators of a parameter; other members of the object are left unread
 abbrev pub operators_of : List Member → Option Operators
 operators_of members = do

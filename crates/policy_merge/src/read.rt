@@ -4,7 +4,7 @@ ghost use Rattle.std.specs.Prelude.{◌≡◌, Option, Some};
 ghost use Rattle.std.specs.Option.{option_copied};
 ghost use Rattle.fed_json.specs.Trees.{as_list, find as value_at};
 ghost use Rattle.fed_json.specs.declared.tree.Json.{Json as Tree};
-ghost use Rattle.policy_merge.specs.Shapes.{Reads, at, as_default, as_truth, operators_shape, operators_of, table_of, table_shape};
+ghost use Rattle.policy_merge.specs.Shapes.{Reads, at, as_default, as_truth, both, operators_shape, operators_of, table_of, table_shape};
 ghost use Rattle.policy_merge.specs.Names.{operator_name};
 
 use crate::fault::PolicyShape;
@@ -64,15 +64,51 @@ impl FromTree for Operators {
 fn operators(alloc: Global, members: &[Member]) -> Result<Operators, PolicyShape>
     ensures { Reads result (operators_of members.now) }
 {
+    let (value, add) = value_and_add(alloc, members)?;
+    let (default, one_of) = default_and_one_of(alloc, members)?;
+    let (subset_of, superset_of) = subset_of_and_superset_of(alloc, members)?;
     Ok(Operators {
-        value: value(alloc, members)?,
-        add: list(alloc, members, Operator::Add)?,
-        default: default(alloc, members)?,
-        one_of: list(alloc, members, Operator::OneOf)?,
-        subset_of: list(alloc, members, Operator::SubsetOf)?,
-        superset_of: list(alloc, members, Operator::SupersetOf)?,
+        value,
+        add,
+        default,
+        one_of,
+        subset_of,
+        superset_of,
         essential: essential(members)?,
     })
+}
+
+fn value_and_add(
+    alloc: Global,
+    members: &[Member],
+) -> Result<(Option<Json>, Option<Seq<Json>>), PolicyShape>
+    ensures { Reads result (both (at Some Operator.Value members.now) (at as_list Operator.Add members.now)) }
+{
+    let value = value(alloc, members)?;
+    let add = list(alloc, members, Operator::Add)?;
+    Ok((value, add))
+}
+
+fn default_and_one_of(
+    alloc: Global,
+    members: &[Member],
+) -> Result<(Option<Json>, Option<Seq<Json>>), PolicyShape>
+    ensures { Reads result (both (at as_default Operator.Default members.now) (at as_list Operator.OneOf members.now)) }
+{
+    let default = default(alloc, members)?;
+    let one_of = list(alloc, members, Operator::OneOf)?;
+    Ok((default, one_of))
+}
+
+fn subset_of_and_superset_of(
+    alloc: Global,
+    members: &[Member],
+) -> Result<(Option<Seq<Json>>, Option<Seq<Json>>), PolicyShape>
+    ensures { Reads result (both (at as_list Operator.SubsetOf members.now) (at as_list Operator.SupersetOf members.now)) }
+{
+    let subset_of = list(alloc, members, Operator::SubsetOf)?;
+    let superset_of = list(alloc, members, Operator::SupersetOf)?;
+    Ok((subset_of, superset_of))
 }
 
 fn given<'a>(members: &'a [Member], operator: Operator) -> Option<&'a Json>

@@ -1,9 +1,8 @@
-use Rattle.std.proofs.Common.{◌≡◌, ap, ◌∙◌, rules}
+use Rattle.std.proofs.Common.{Some, sym, ap, ◌∙◌, subst, rules}
 use Rattle.std.proofs.lemmas.Str.{is_utf8-from_IsUtf8}
-use Rattle.fed_json.specs.declared.tree.Json.{Object}
 use Rattle.fed_json.specs.Forms.{whole}
-use Rattle.sealed.specs.Sealing.{header_of}
-use Rattle.sealed.proofs.Headers.{header_whole}
+use Rattle.jws_form.specs.Header.{IsHeader}
+use Rattle.sealed.proofs.Headers.{header_names, header_whole}
 use Rattle.sealed.proofs.sealing.header.Goals as goal
 
 pub returns-clause-tree : goal.returns-clause-tree
@@ -11,5 +10,8 @@ returns-clause-tree c = search rules
 
 pub returns-clause-whole : goal.returns-clause-whole
 returns-clause-whole c =
-    let is : Object c.push-3.new.self ≡ header_of c.args.kid.now c.args.typ.now = search rules in
-    ap whole is ∙ header_whole c.args.kid.now c.args.typ.now (is_utf8-from_IsUtf8 _ c.requires.kid) (is_utf8-from_IsUtf8 _ c.requires.typ)
+    ap whole (returns-clause-tree c) ∙ header_whole c.args.kid.now c.args.typ.now (is_utf8-from_IsUtf8 _ c.requires.kid) (is_utf8-from_IsUtf8 _ c.requires.typ)
+
+pub returns-clause-names : goal.returns-clause-names
+returns-clause-names c =
+    subst (λ tree. IsHeader tree (Some c.args.typ.now) (Some c.args.kid.now)) (sym (returns-clause-tree c)) (header_names c.args.kid.now c.args.typ.now)
