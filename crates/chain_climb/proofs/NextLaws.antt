@@ -46,12 +46,16 @@ module _ (s : State) where
   abbrev To : List Path → (Findings → List Step) → Type 0
   To judges rest = Walked s.pages s.bounds.paths judges whole rest (from_to [] s.queue)
 
+  -- it is wanted by the next step, and the steps before it add the paths of the queue
+  abbrev pub Made : Want → Type 0
+  Made want = (next : IsNext (search_of s) want) × (length (added next.taken) ≡ length s.queue)
+
   next_at : (judges : List Path) (earlier : List Verdict) (want : Want) (rest : Findings → List Step) → To judges rest → AreJudged earlier judges → (left : List Step) → rest (findings_of s.pages) ≡ left
-      → ((taken : List Step) → length (added taken) ≡ length s.queue → Wants (search_of s) earlier taken left want) → IsNext (search_of s) want
+      → ((taken : List Step) → length (added taken) ≡ length s.queue → Wants (search_of s) earlier taken left want) → Made want
   next_at judges earlier want rest w judged left is wants =
       let size : length s.queue ≡ length (added w.taken) = ap length w.adds in
       let room : length s.queue ≤ s.bounds.paths = w.room (omega arith) in
-      record {
+      let next : IsNext (search_of s) want = record {
         taken = w.taken;
         left = left;
         verdicts = earlier;
@@ -62,7 +66,8 @@ module _ (s : State) where
           room = omega (arith, size, room);
         };
         wants = wants w.taken (sym size);
-      }
+      } in
+      (next, sym size)
 
   budget : s.calls ≡ calls_in s.pages → (taken : List Step) → length (added taken) ≡ length s.queue → IsBudget (search_of s) taken (Done (Budget s.calls (length s.queue)))
   budget calls taken size = ap (λ n. Done (Budget n (length s.queue))) calls ∙ ap (λ n. Done (Budget (calls_in s.pages) n)) (sym size)
@@ -70,11 +75,11 @@ module _ (s : State) where
   module _ (judges : List Path) (earlier : List Verdict) (judged : AreJudged earlier judges) (verdicts : s.verdicts ≡ earlier) (calls : s.calls ≡ calls_in s.pages) where
     -- a page is needed that wasn't answered, or was to be had no more
     at_need : (page : Need) (rest : Findings → List Step) (want : Want) → To judges (λ found. need page ∷ rest found)
-        → ((taken : List Step) → length (added taken) ≡ length s.queue → WantsPage (search_of s) taken page (answer_to s.pages page) want) → IsNext (search_of s) want
+        → ((taken : List Step) → length (added taken) ≡ length s.queue → WantsPage (search_of s) taken page (answer_to s.pages page) want) → Made want
     at_need page rest want w wants =
         next_at judges earlier want (λ found. need page ∷ rest found) w judged (need page ∷ rest (findings_of s.pages)) refl (λ taken size. (verdicts, wants taken size))
 
-    at_add : (path : Path) (rest : Findings → List Step) → To judges (λ found. add path ∷ rest found) → s.bounds.paths ≤ length s.queue → IsNext (search_of s) (Done (Budget s.calls (length s.queue)))
+    at_add : (path : Path) (rest : Findings → List Step) → To judges (λ found. add path ∷ rest found) → s.bounds.paths ≤ length s.queue → Made (Done (Budget s.calls (length s.queue)))
     at_add path rest w full =
         let room : length s.queue ≤ s.bounds.paths = w.room (omega arith) in
         next_at judges earlier (Done (Budget s.calls (length s.queue))) (λ found. add path ∷ rest found) w judged (add path ∷ rest (findings_of s.pages)) refl
@@ -90,7 +95,7 @@ module _ (s : State) where
         walked-to s.pages s.bounds.paths judges whole whole (λ found. need (configuration_of s.leaf) ∷ leaf_rest found (found (configuration_of s.leaf))) [] s.queue
         (λ found extends. whole_steps found s.leaf s.anchor s.bounds.depth) w
 
-    next_leaf : (o : Option Report) → answer_to s.pages (configuration_of s.leaf) ≡ o → is_leaf_stop o (nat_le s.bounds.paths 0) ≡ true → To judges whole → IsNext (search_of s) (leaf_want s o)
+    next_leaf : (o : Option Report) → answer_to s.pages (configuration_of s.leaf) ≡ o → is_leaf_stop o (nat_le s.bounds.paths 0) ≡ true → To judges whole → Made (leaf_want s o)
     next_leaf None is stop w =
         at_need (configuration_of s.leaf) (λ found. leaf_rest found (found (configuration_of s.leaf))) (Config s.leaf (well_known_of s.leaf)) (leaf_need w)
         (λ taken size. subst (λ r. WantsPage (search_of s) taken (configuration_of s.leaf) r (Config s.leaf (well_known_of s.leaf))) (sym is)
@@ -145,7 +150,7 @@ module _ (s : State) where
       more step B found =
           behind B found ++ Rattle.chain_climb.specs.Walks.below found s.anchor s.bounds.depth s.place.left (drop s.place.level_end s.queue ++ added (step ∷ behind B found))
 
-      by_facing : (facing : Facing) → Faces s.pages s.bounds.paths path are.known hint through facing → is_stop facing (nat_le s.bounds.paths (length s.queue)) ≡ true → IsNext (search_of s) (facing_want s facing)
+      by_facing : (facing : Facing) → Faces s.pages s.bounds.paths path are.known hint through facing → is_stop facing (nat_le s.bounds.paths (length s.queue)) ≡ true → Made (facing_want s facing)
       by_facing Passed faces stop = cc stop
       by_facing (FacingWants want) faces stop =
           at_need faces.0 (more (need faces.0) (faces.3).rest) want (moved (λ found. need faces.0 ∷ (faces.3).rest found) ((faces.3).walked s.queue))
@@ -157,7 +162,7 @@ module _ (s : State) where
           let new : Path = Rattle.chain_climb.specs.Climbs.longer path (Rattle.chain_climb.specs.Climbs.page_named hint hint url) in
           at_add new (more (add new) (λ found. [])) (moved (λ found. add new ∷ []) (faces.1 s.queue)) (le_test s.bounds.paths (length s.queue) stop)
 
-      pub next_hint : is_stop (face_of s.pages path hint) (nat_le s.bounds.paths (length s.queue)) ≡ true → IsNext (search_of s) (facing_want s (face_of s.pages path hint))
+      pub next_hint : is_stop (face_of s.pages path hint) (nat_le s.bounds.paths (length s.queue)) ≡ true → Made (facing_want s (face_of s.pages path hint))
       next_hint stop = by_facing (face_of s.pages path hint) (hint-faces s.pages s.bounds.paths path are.known hint) stop
 
   -- ---- a path at the anchor
@@ -180,7 +185,7 @@ module _ (s : State) where
         (look_steps s.pages s.bounds s.anchor path true (nat_le (length path.entities) s.bounds.depth) ends refl found)
 
     pub at_judge : (judges : List Path) (earlier : List Verdict) → AreJudged earlier judges → To judges (path_rest s.anchor s.bounds.depth s.queue s.place.at s.place.level_end s.place.left) → (want : Want)
-        → ((taken : List Step) → Wants (search_of s) earlier taken (judge path ∷ judge_rest path (findings_of s.pages)) want) → IsNext (search_of s) want
+        → ((taken : List Step) → Wants (search_of s) earlier taken (judge path ∷ judge_rest path (findings_of s.pages)) want) → Made want
     at_judge judges earlier judged w want wants =
         next_at judges earlier want (path_rest s.anchor s.bounds.depth s.queue s.place.at s.place.level_end s.place.left) w judged (judge path ∷ judge_rest path (findings_of s.pages)) (judge_steps (findings_of s.pages))
         (λ taken size. wants taken)
@@ -199,7 +204,7 @@ module _ (s : State) where
   plain_end (p ∷ ps) taken (Some own) is steps adds true some = (λ none. (let f : Some own ≡ None = sym is ∙ none in cc f), some)
   plain_end (p ∷ ps) taken (Some own) is steps adds false some = (λ none. (let f : Some own ≡ None = sym is ∙ none in cc f), some)
 
-  at_end : (judges : List Path) (earlier : List Verdict) → AreJudged earlier judges → s.verdicts ≡ earlier → To judges (λ found. []) → IsNext (search_of s) (Done (end_of s.queue (some_policy s.verdicts)))
+  at_end : (judges : List Path) (earlier : List Verdict) → AreJudged earlier judges → s.verdicts ≡ earlier → To judges (λ found. []) → Made (Done (end_of s.queue (some_policy s.verdicts)))
   at_end judges earlier judged verdicts w =
       let end : IsPlainEnd (search_of s) (end_of s.queue (some_policy s.verdicts)) =
       plain_end s.queue w.taken (findings_of s.pages (configuration_of s.leaf)) refl
@@ -212,11 +217,11 @@ module _ (s : State) where
   hint-at hints are = ap (λ hs. get_or hs s.place.hint []) (hints-same s.pages (path_at s.queue s.place) hints are (findings_of s.pages) (extends-self s.pages))
 
   by_stage : (stage : Stage) (judges : List Path) (earlier : List Verdict) → AreJudged earlier judges → s.verdicts ≡ with_last stage earlier (path_at s.queue s.place) → s.calls ≡ calls_in s.pages
-      → To judges (rest_at stage s.leaf s.anchor s.bounds.depth s.queue s.place) → StopsAt stage (route s.leaf s.anchor) s.bounds s.pages s.queue s.place → IsNext (search_of s) (wanted_at stage s)
+      → To judges (rest_at stage s.leaf s.anchor s.bounds.depth s.queue s.place) → StopsAt stage (route s.leaf s.anchor) s.bounds s.pages s.queue s.place → Made (wanted_at stage s)
   by_stage Leaf judges earlier judged verdicts calls w stops = next_leaf judges earlier judged verdicts calls (answer_to s.pages (configuration_of s.leaf)) refl stops.1 w
   by_stage Hint judges earlier judged verdicts calls w stops =
       let at : StopsAtHint s.pages s.bounds.paths s.queue (path_at s.queue s.place) s.place.hint = stops.1 in
-      subst (λ h. IsNext (search_of s) (facing_want s (face_of s.pages (path_at s.queue s.place) h))) (sym (hint-at at.hints at.are))
+      subst (λ h. Made (facing_want s (face_of s.pages (path_at s.queue s.place) h))) (sym (hint-at at.hints at.are))
       (next_hint judges earlier judged verdicts calls (path_at s.queue s.place) stops.0 at.hints at.are at.within w at.stops)
   by_stage Judge judges earlier judged verdicts calls w stops =
       at_judge stops.0 stops.1 judges earlier judged w (wanted_at Judge s) (λ taken. inl (verdicts, refl))
@@ -224,8 +229,11 @@ module _ (s : State) where
       at_judge stops.0 stops.1 judges earlier judged w (wanted_at Found s) (λ taken. inr (verdicts, refl))
   by_stage Ended judges earlier judged verdicts calls w stops = at_end judges earlier judged verdicts w
 
+  pub standing-made : IsStanding s → Made (wanted_at s.place.stage s)
+  standing-made st = by_stage s.place.stage st.judges st.earlier st.judged st.verdicts st.calls (st.place.is_at).walked st.place.stops
+
   pub standing-next : IsStanding s → IsNext (search_of s) (wanted_at s.place.stage s)
-  standing-next st = by_stage s.place.stage st.judges st.earlier st.judged st.verdicts st.calls (st.place.is_at).walked st.place.stops
+  standing-next st = (standing-made st).0
 
   pub wanted-is : (stage : Stage) → s.place.stage ≡ stage → wanted s ≡ wanted_at stage s
   unfolding wanted

@@ -1,5 +1,5 @@
 -- What a session says of its search.
-use Rattle.std.proofs.Common.{Result, Ok, Err, OnOk, OnErr, ◌≡◌, ℕ, List, [], ◌∷◌, map, Bool, true, false, cond, Option, Some, None, refl, sym, ap, ◌∙◌, subst, inl, inr, bytes_eq, arith}
+use Rattle.std.proofs.Common.{Result, Ok, Err, OnOk, OnErr, ◌≡◌, ℕ, List, [], ◌∷◌, length, map, Bool, true, false, cond, Option, Some, None, refl, sym, ap, ◌∙◌, subst, inl, inr, bytes_eq, arith}
 use Rattle.std.specs.List.{list_any}
 use Rattle.entity_statement.specs.Claims.{Identifier}
 use Rattle.chain_climb.specs.declared.want.Bounds.{Bounds}
@@ -13,11 +13,11 @@ use Rattle.chain_climb.specs.Climbs.{Findings, Need, page_named}
 use Rattle.chain_climb.specs.Elements.{Among, NoneTwice}
 use Rattle.chain_climb.specs.Ends.{FindsFirst, LeavesNone}
 use Rattle.chain_climb.specs.Sessions.{Extends, Fits, IsNext, IsNextBy, Search, Takes, TakesPage, answer_to, begun, first_answers_after, report_in}
-use Rattle.chain_climb.specs.Walks.{IsBegun, IsGiven, IsStanding, search_of, wanted}
-use Rattle.chain_climb.specs.Wants.{IsBounded, WantsNew, given, given_to, next_want, page_in, url_of, with_page}
+use Rattle.chain_climb.specs.Walks.{IsBegun, IsGiven, IsStanding, search_of, wanted, wanted_at}
+use Rattle.chain_climb.specs.Wants.{HasMade, IsBounded, WantsNew, given, given_to, next_want, page_in, url_of, with_page}
 use Rattle.chain_climb.proofs.ClimbLaws.{any-among, both_ways}
 use Rattle.chain_climb.proofs.EndLaws.{next-complete, next-few, next-first, next-is, next-new, next-stays}
-use Rattle.chain_climb.proofs.NextLaws.{standing-next, wanted-is}
+use Rattle.chain_climb.proofs.NextLaws.{standing-made, standing-next, wanted-is}
 
 -- ---- each URL is asked once
 
@@ -132,6 +132,13 @@ module _ (s : State) (st : IsStanding s) where
 
     pub says-bounded : IsBounded now
     says-bounded = subst IsBounded view standing-bounded
+
+    pub says-made : (paths : ℕ) → paths ≡ length s.queue → HasMade now (next_want now) paths
+    says-made paths is =
+        let made = standing-made s st in
+        let same : wanted_at s.place.stage s ≡ next_want now = sym (wanted-is s s.place.stage refl) ∙ wanted-next ∙ ap next_want view in
+        let here : HasMade (search_of s) (wanted_at s.place.stage s) paths = (made.0, is ∙ sym made.1) in
+        subst (λ w. HasMade now w paths) same (subst (λ x. HasMade x (wanted_at s.place.stage s) paths) view here)
 
     pub says-fits : (answer : Answer) → Fits now (next_want now) answer → Fits (search_of s) (wanted s) answer
     says-fits answer fits = subst (λ w. Fits (search_of s) w answer) (sym wanted-next) (subst (λ x. Fits x (next_want x) answer) (sym view) fits)

@@ -11,9 +11,9 @@ use Rattle.chain_climb.specs.declared.answer.Report.TheVariants.{Spent}
 use Rattle.chain_climb.specs.declared.answer.PageAnswer.{PageAnswer}
 use Rattle.chain_climb.specs.declared.answer.Verdict.{Verdict}
 use Rattle.entity_statement.specs.Claims.{Claims}
-use Rattle.chain_climb.specs.Climbs.{Need, Step, add, climb, configuration_of, judge, need, page_named, with_chain}
+use Rattle.chain_climb.specs.Climbs.{Need, Step, add, added, climb, configuration_of, judge, need, page_named, with_chain}
 use Rattle.chain_climb.specs.Elements.{NoneTwice}
-use Rattle.chain_climb.specs.Sessions.{Search, answer_to, calls_in, faults_in, findings_of, first_answers_after, is_valid_answer, page_of, report_in, some_policy, want_of}
+use Rattle.chain_climb.specs.Sessions.{IsNext, Search, answer_to, calls_in, faults_in, findings_of, first_answers_after, is_valid_answer, page_of, report_in, some_policy, want_of}
 
 -- a page that wasn't answered is wanted; where it had to be asked of the link in vain a bound is met; else the search goes on
 abbrev pub at_page : Search → ℕ → Need → Option Report → Want → Want
@@ -77,6 +77,10 @@ WantsNew s want = (page : Need) → page_in want ≡ Some page → answer_to s.p
 -- the answers at which a URL was asked: the first ones to each URL
 abbrev pub asks_in : List PageAnswer → List PageAnswer
 asks_in pages = first_answers_after [] pages
+
+-- so many paths were made by the steps before what is wanted next
+abbrev pub HasMade : Search → Want → ℕ → Type 0
+HasMade s want paths = (next : IsNext s want) × (paths ≡ length (added next.taken))
 
 -- the URL of an answer
 abbrev pub url_of : PageAnswer → List ℕ

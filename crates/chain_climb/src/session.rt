@@ -1,10 +1,10 @@
 // The search for a trust chain, as its caller sees it.
 
-ghost use Rattle.std.specs.Prelude.{◌≡◌, IfOk, OnOk, OnErr};
+ghost use Rattle.std.specs.Prelude.{◌≡◌, length, IfOk, OnOk, OnErr};
 ghost use Rattle.chain_climb.specs.Climbs.{Findings};
 ghost use Rattle.chain_climb.specs.Ends.{FindsFirst, LeavesNone};
 ghost use Rattle.chain_climb.specs.Sessions.{Extends, Fits, IsNext, IsNextBy, begun, calls_in, faults_in};
-ghost use Rattle.chain_climb.specs.Wants.{IsBounded, WantsNew, given, next_want};
+ghost use Rattle.chain_climb.specs.Wants.{HasMade, IsBounded, WantsNew, given, next_want};
 
 use crate::answer::Answer;
 use crate::state::State;
@@ -94,5 +94,19 @@ impl Session {
         ensures { result ≡ faults_in self.now.pages }
     {
         self.state.faults()
+    }
+
+    /// How many paths were made, the leaf's own among them. It takes no memory.
+    pub fn paths(&self) -> u64
+        ensures { HasMade self.now (next_want self.now) result }
+    {
+        self.state.paths()
+    }
+
+    /// How many pages were answered. It takes no memory.
+    pub fn answers(&self) -> u64
+        ensures { result ≡ length self.now.pages }
+    {
+        self.state.answers()
     }
 }

@@ -141,6 +141,20 @@ impl State {
         self.faults
     }
 
+    // How many paths were made.
+    pub fn paths(&self) -> u64
+        ensures { result ≡ length self.now.queue }
+    {
+        self.queue.len() as u64
+    }
+
+    // How many pages were answered.
+    pub fn answers(&self) -> u64
+        ensures { result ≡ length self.now.pages }
+    {
+        self.pages.len() as u64
+    }
+
     // The want of the leaf's configuration.
     fn leaf_want(&self, alloc: Global) -> Result<Want, Memory>
         ensures { IfOk result (λ want. want ≡ wanted_at Leaf self.now) }
