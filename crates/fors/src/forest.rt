@@ -1,6 +1,6 @@
 // The trees of one FORS key, as a reader of signatures knows them and as their signer does.
 
-ghost use Rattle.std.specs.Prelude.{◌≡◌, ℕ, List, [], ◌+◌, ◌*◌, ◌/◌, ◌^◌, ◌<◌, ◌≤◌, ◌++◌, length, slice_index_or};
+ghost use Rattle.std.specs.Prelude.{◌≡◌, ℕ, List, [], ◌+◌, ◌*◌, ◌/◌, ◌^◌, ◌<◌, ◌≤◌, ◌++◌, length, slice_index, slice_index_or};
 ghost use Rattle.slh_hash.specs.declared.address.Address.{Address};
 ghost use Rattle.slh_hash.specs.Addresses.{address};
 ghost use Rattle.slh_hash.specs.Lists.{Begins};
@@ -8,6 +8,7 @@ ghost use Rattle.slh_hash.specs.Places.{Place, place_of};
 ghost use Rattle.fors.specs.Fors.{SecretPlace, secret_place_of, secret, parent, leaf, key_of_roots};
 ghost use Rattle.fors.specs.Lengths.{length-parent, length-leaf};
 
+use crate::sizes::TREES;
 use slh_hash::{Address, AddressType, BATCH, LeafHash, ParentHash, SeedHash};
 use std::marker::Model;
 
@@ -80,6 +81,44 @@ impl Forest<'_> {
         self.seed.prf_each(sk_seed, addresses, nodes);
         leaves.fill_indices(first, addresses);
         self.seed.hash_each(addresses, nodes);
+    }
+
+    // The addresses of the nodes at this height above these leaves.
+    fn addresses(&self, indices: &[u32; TREES], height: u32) -> [Address; TREES]
+        requires { height < 32 }
+        ensures { (q : ℕ) (d : Address) → q < TREES → slice_index_or result q d
+            ≡ address 0 self.now.tree AddressType.ForsTree self.now.pair height (slice_index indices.now q / 2 ^ height) }
+    {
+        let mut addresses = [Address::new(); TREES];
+        'trees: for q in 0..TREES {
+            addresses[q] = self.address(AddressType::ForsTree, height, indices[q] >> height);
+        }
+        addresses
+    }
+
+    // Leaves, from their secret values, in place.
+    #[tactic(auto, unfolding(crate::specs::Fors::parent))]
+    pub(crate) fn opened_leaves(&self, indices: &[u32; TREES], nodes: &mut [[u8; 16]; TREES])
+        ensures { (q : ℕ) → q < TREES → slice_index_or nodes.new q []
+            ≡ parent self.now 0 (slice_index indices.now q) (slice_index_or nodes.old q []) }
+    {
+        self.seed.hash_each(&self.addresses(indices, 0), nodes);
+    }
+
+    // The nodes at this height above these leaves, from pairs of children, in place.
+    #[tactic(auto, unfolding(crate::specs::Fors::parent))]
+    pub(crate) fn parents_above(
+        &self,
+        indices: &[u32; TREES],
+        height: u32,
+        nodes: &mut [[u8; 16]; 2 * TREES],
+    )
+        requires { height < 32 }
+        ensures { (q : ℕ) → q < TREES → slice_index_or nodes.new q []
+            ≡ parent self.now height (slice_index indices.now q / 2 ^ height) (slice_index_or nodes.old (2 * q) [] ++ slice_index_or nodes.old (2 * q + 1) []) }
+    {
+        self.seed
+            .hash_pairs(&self.addresses(indices, height), nodes);
     }
 
     // The key, from the roots of all trees.

@@ -8,9 +8,11 @@ ghost use Rattle.slh_hash.specs.Hash.{th};
 ghost use Rattle.slh_hash.specs.Chains.{chain};
 
 use crate::address::Address;
+use crate::chain_lanes::{ChainLanes, ChainPlan, count_down, greatest, least};
 use crate::lane_blocks::{one_value, two_values};
 use crate::seed_hash::SeedHash;
 use crate::tree::BATCH;
+use std::simd::prelude::*;
 
 // How many groups of eight values there are.
 fn groups_of(count: usize) -> usize
@@ -141,8 +143,22 @@ impl SeedHash {
             ≡ chain self.now (slice_index_or addresses.now i d) (slice_index_or values.old i [])
             (slice_index starts.now i) (slice_index steps.now i) }
     {
-        'groups: for g in 0..groups_of(values.len()) {
-            self.chain_eight(addresses, starts, steps, values, 8 * g);
+        let plan = ChainPlan {
+            addresses,
+            starts,
+            steps,
+        };
+        let mut head = [u32x8::splat(0); 16];
+        let mut words = [u32x8::splat(0); 8];
+        let mut lanes = ChainLanes::new(values.len());
+        let mut next = lanes.change(&mut head, &mut words, 0, plan, 0, values);
+        let mut most = greatest(&lanes.left);
+        'runs: while most > 0 {
+            let run = least(&lanes.left, most);
+            self.advance(&mut lanes, &head, &mut words, run);
+            next = lanes.change(&mut head, &mut words, run, plan, next, values);
+            count_down(&mut lanes.left, run);
+            most = greatest(&lanes.left);
         }
     }
 }

@@ -6,13 +6,12 @@
 #![tactic(auto)]
 
 mod address;
+mod chain_lanes;
 mod digits;
 mod each;
 mod hash;
 mod lane_blocks;
 mod lane_chains;
-mod lane_compress;
-mod lanes;
 mod params;
 mod pieces;
 mod seed_hash;
