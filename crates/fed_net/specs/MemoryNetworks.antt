@@ -1,5 +1,5 @@
 -- What a network in memory tells.
-use Rattle.std.specs.Prelude.{◌≡◌, ◌++◌, true, List, [], ◌∷◌, map, take, Option, Some, None, IsSome, cond}
+use Rattle.std.specs.Prelude.{◌≡◌, ◌++◌, ℕ, true, List, [], ◌∷◌, map, take, Option, Some, None, IsSome, cond, option_map, slice_get}
 use Rattle.fed_ports.specs.Exchanges.{Exchange}
 use Rattle.fed_net.specs.declared.memory_connection.Connection.{Connection}
 use Rattle.fed_net.specs.declared.memory_connections.Connections.{Connections}
@@ -19,3 +19,7 @@ told_of cs = cond cs.silent None (Some (map exchange_of cs.done.items ++ last_of
 -- the last connection is open
 abbrev pub IsOpen : Connections → Type 0
 IsOpen cs = (cs.open ≡ true) × IsSome cs.last
+
+-- the bytes that were sent on the connection of that number, where there is one
+abbrev pub sent_of : List Exchange → ℕ → Option (List ℕ)
+sent_of told number = option_map (λ x. x.sent) (slice_get told number)

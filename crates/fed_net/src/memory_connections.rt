@@ -1,10 +1,10 @@
 // The connections of a network in memory.
 
-ghost use Rattle.std.specs.Prelude.{◌≡◌, ◌<◌, ◌≤◌, ◌==◌, [], ◌∷◌, None, Some, length, take, IfSome, IfNone, IfOk};
+ghost use Rattle.std.specs.Prelude.{◌≡◌, ◌<◌, ◌≤◌, ◌==◌, [], ◌∷◌, None, Some, length, take, IfSome, IfNone, IfOk, option_copied};
 ghost use Rattle.std.specs.Bool.{OnTrue, OnFalse};
 ghost use Rattle.fed_ports.specs.Exchanges.{fresh, with_sent, with_received, with_failure, Changed, AddedOrSilent};
 ghost use Rattle.fed_ports.specs.Lists.{Added};
-ghost use Rattle.fed_net.specs.MemoryNetworks.{exchange_of, told_of, IsOpen};
+ghost use Rattle.fed_net.specs.MemoryNetworks.{exchange_of, sent_of, told_of, IsOpen};
 
 use crate::memory_connection::{Connection, Spare};
 use fed_base::{Memory, Text};
@@ -129,12 +129,15 @@ impl Connections {
     }
 
     /// The bytes that were sent on the connection of that number, the first having the number 0.
-    pub fn sent(&self, number: usize) -> Option<&[u8]> {
-        let connection = match self.done.get(number) {
-            Some(connection) => connection,
-            None if number == self.done.len() => self.last.as_ref()?,
-            None => return None,
-        };
-        Some(connection.sent.as_slice())
+    pub fn sent(&self, number: usize) -> Option<&[u8]>
+        ensures { IfSome (told_of self.now) (λ told. option_copied result ≡ sent_of told number) }
+    {
+        if number < self.done.len() {
+            return Some(self.done[number].sent.as_slice());
+        }
+        match &self.last {
+            Some(last) if number == self.done.len() => Some(last.sent.as_slice()),
+            _ => None,
+        }
     }
 }

@@ -1,7 +1,7 @@
 // A network in memory, which tells its exchanges and its callers.
 
-ghost use Rattle.std.specs.Prelude.{◌≡◌, true, Some, [], IfOk};
-ghost use Rattle.fed_net.specs.MemoryNetworks.{told_of, IsOpen};
+ghost use Rattle.std.specs.Prelude.{◌≡◌, true, Some, [], IfOk, IfSome, option_copied};
+ghost use Rattle.fed_net.specs.MemoryNetworks.{sent_of, told_of, IsOpen};
 
 use crate::memory_connections::Connections;
 use crate::memory_peer::MemoryPeer;
@@ -56,7 +56,9 @@ impl MemoryNetwork {
     }
 
     /// The bytes that were sent on the connection of that number, the first having the number 0, or `None` where there is none.
-    pub fn sent(&self, number: usize) -> Option<&[u8]> {
+    pub fn sent(&self, number: usize) -> Option<&[u8]>
+        ensures { IfSome (⟦<MemoryNetwork as Network>⟧.exchanges self.now) (λ told. option_copied result ≡ sent_of told number) }
+    {
         self.connections.sent(number)
     }
 

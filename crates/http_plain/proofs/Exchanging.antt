@@ -1,12 +1,13 @@
 -- From what was sent and received to the exchange of a call.
-use Rattle.std.proofs.Common.{◌≡◌, inr, ℕ, ◌+◌, Bool, false, List, [], ◌∷◌, ◌++◌, take, drop, Option, Some, None, Result, Ok, Err, IfOk, OnOk, is_err, refl, sym, ap, ◌∙◌, subst, append_assoc, append-nil}
+use Rattle.std.proofs.Common.{◌≡◌, ◌≤◌, inl, inr, ℕ, zero, suc, ◌+◌, Bool, true, false, List, [], ◌∷◌, ◌++◌, length, map, take, drop, Option, Some, None, option_map, Result, Ok, Err, IfOk, OnOk, OnErr, is_err, refl, sym, ap, ◌∙◌, subst, arith, append_assoc, append-nil, take_all}
 use Rattle.std.proofs.Math.Seq.{take-add}
-use Rattle.fed_ports.specs.Exchanges.{Exchange, Changed, change_last, fresh, with_sent, with_received}
+use Rattle.fed_ports.specs.Exchanges.{Exchange, Changed, change_last, fresh, with_failure, with_sent, with_received}
 use Rattle.fed_ports.specs.Lists.{Added}
 use Rattle.fed_ports.specs.declared.address.Address.{Address}
 use Rattle.fed_ports.specs.declared.page.Page.{Page}
 use Rattle.http_plain.specs.declared.inflow.Break.{Break}
 use Rattle.http_plain.specs.declared.route.Route.{Route}
+use Rattle.http_plain.specs.Asked.{AsksPart, SentPart, asked_of, asking}
 use Rattle.http_plain.specs.ExchangeLaws.{changed_same, changed_on}
 use Rattle.http_plain.specs.Flows.{BreakCause}
 use Rattle.http_plain.specs.Links.{AddsExchange, Answers, Gets}
@@ -75,3 +76,66 @@ gets routes text old new to message p says h = inr (
 pub shown_as : (flow told : List ℕ → Bool → Type 0) → ((x : List ℕ) (e : Bool) → flow x e → told x e) → (r : Result Page Break) → IfOk r (λ p. Shows flow p) → IfOk r (λ p. Shows told p)
 shown_as flow told same (Ok p) h = record { got = h.got; ended = h.ended; came = same h.got h.ended h.came; page = h.page }
 shown_as flow told same (Err f) h = tt
+
+-- what is changed of the last exchange without its address and what was sent is asked as before
+asked_last : (f : Exchange → Exchange) → ((x : Exchange) → asking (f x) ≡ asking x) → (l : List Exchange) → map asking (change_last f l) ≡ map asking l
+unfolding change_last
+asked_last f e [] = refl
+asked_last f e (x ∷ []) = ap (λ y. y ∷ []) (e x)
+asked_last f e (x ∷ y ∷ l) = ap (λ t. asking x ∷ t) (asked_last f e (y ∷ l))
+
+pub asked_same : (f : Exchange → Exchange) → ((x : Exchange) → asking (f x) ≡ asking x) → (a b : Option (List Exchange)) → Changed a f b → asked_of b ≡ asked_of a
+asked_same f e None b p = ap asked_of p
+asked_same f e (Some l) b p = ap asked_of p ∙ ap Some (asked_last f e l)
+
+asked_added : (l : List Exchange) (x : Exchange) → map asking (l ++ x ∷ []) ≡ map asking l ++ asking x ∷ []
+asked_added [] x = refl
+asked_added (y ∷ l) x = ap (λ t. asking y ∷ t) (asked_added l x)
+
+pub added_asks : (a b : Option (List Exchange)) (x : Exchange) → Added a (x ∷ []) b → Added (asked_of a) (asking x ∷ []) (asked_of b)
+added_asks None b x p = ap asked_of p
+added_asks (Some l) b x p = ap asked_of p ∙ ap Some (asked_added l x)
+
+-- an open that failed
+abbrev no_bytes : List ℕ
+no_bytes = []
+
+nothing : (n : ℕ) → take n no_bytes ≡ no_bytes
+nothing zero = refl
+nothing (suc n) = refl
+
+pub refused_part : (a b : Option (List Exchange)) (to : Address) (message : List ℕ) → AsksPart a b to [] → AsksPart a b to message
+refused_part a b to message (inl h) = inl (0, omega arith, subst (λ s. Added (asked_of a) ((to, s) ∷ []) (asked_of b)) (nothing h.0) h.2)
+refused_part a b to message (inr h) = inr h
+
+-- a sending that failed
+pub sent_part : (a b c : Option (List Exchange)) (message : List ℕ) (n : ℕ) → n ≤ length message → Changed a (with_sent (take n message)) b → asked_of c ≡ asked_of b → SentPart a message c
+sent_part a b c message n few p e = (n, few, e ∙ ap asked_of p)
+
+pub part_asks : (a b c : Option (List Exchange)) (to : Address) (message : List ℕ) → Added a (fresh to ∷ []) b → SentPart b message c → AsksPart a c to message
+part_asks a b c to message opens part =
+    let f = with_sent (take part.0 message) in
+    let added = added_asks a (option_map (change_last f) b) (f (fresh to)) (added_on f (fresh to) a b (option_map (change_last f) b) opens refl) in
+    inl (part.0, part.1, part.2 ∙ added)
+
+-- a reading that broke off
+pub whole_asks : (a b c d : Option (List Exchange)) (to : Address) (message : List ℕ) → Added a (fresh to ∷ []) b → Changed b (with_sent message) c → asked_of d ≡ asked_of c → AsksPart a d to message
+whole_asks a b c d to message opens sends e =
+    part_asks a b d to message opens (length message, omega arith, e ∙ ap asked_of sends ∙ ap (λ m. asked_of (option_map (change_last (with_sent m)) b)) (sym (take_all (length message) message (omega arith))))
+
+pub received_asked : {E : Type 0} (r : Result ℕ E) (a b : Option (List Exchange)) (bytes : ℕ → List ℕ) (ended : ℕ → Bool) → IfOk r (λ n. Changed a (with_received (bytes n) (ended n)) b) → OnErr r (Changed a with_failure b)
+    → asked_of b ≡ asked_of a
+received_asked (Ok n) a b bytes ended h f = asked_same (with_received (bytes n) (ended n)) (λ x. refl) a b h
+received_asked (Err e) a b bytes ended h f = asked_same with_failure (λ x. refl) a b f
+
+pub failed_asked : {T E : Type 0} (r : Result T E) (a b : Option (List Exchange)) → OnErr r (Changed a with_failure b) → OnErr r (asked_of b ≡ asked_of a)
+failed_asked (Ok n) a b f = tt
+failed_asked (Err e) a b f = asked_same with_failure (λ x. refl) a b f
+
+pub err_part : {T E : Type 0} {P : Type 0} (r : Result T E) → is_err r ≡ true → OnErr r P → P
+err_part (Ok x) e p = cc
+err_part (Err x) e p = p
+
+pub left_if : {T E : Type 0} {P : Type 0} (r : Result T E) → P → OnErr r P
+left_if (Ok x) p = tt
+left_if (Err x) p = p

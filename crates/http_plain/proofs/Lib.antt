@@ -1,6 +1,4 @@
 pub mod Appending
-pub mod ChunkPages
-pub mod Chunking
 pub mod Ends
 pub mod Exchanging
 pub mod Showing

@@ -1,4 +1,4 @@
-pub mod Chunks
+pub mod Asked
 pub mod Clients
 pub mod ExchangeLaws
 pub mod Fields

@@ -1,13 +1,16 @@
 -- The page that the bytes of an answer are (RFC 9112 sections 4, 6 and 7).
 use Rattle.std.specs.Prelude.{◌≡◌, ◌≤◌, ◌<◌, ◌⊎◌, ℕ, ◌==◌, ◌&&◌, Bool, true, false, not, List, [], ◌∷◌, length, map, take, codes, bytes_eq, cond, Option, Some, None, if◌then◌else◌}
 use Rattle.std.specs.Char.{to_ascii_lowercase}
+use Rattle.chunked_body.specs.declared.reader.Chunked.{Chunked}
+use Rattle.chunked_body.specs.declared.reader.Chunked.TheVariants.{Whole, TooLong as TooManyBytes, Broken}
+use Rattle.chunked_body.specs.Answers.{IsChunked}
+use Rattle.chunked_body.specs.Grammar.{body_limit}
 use Rattle.fed_ports.specs.declared.page.Page.{Page}
 use Rattle.fed_ports.specs.declared.page.Page.TheVariants.{Document, Refusal, Garbled, TooLong}
 use Rattle.httparse.specs.Spans.{name_and_value}
 use Rattle.httparse.specs.Grammar.{ResponseHead, ReadsResponse, status_code}
 use Rattle.http_plain.specs.declared.form.Form.{Form}
-use Rattle.http_plain.specs.declared.form.Form.TheVariants.{Bad, Refused, Sized, Chunked, ToEnd}
-use Rattle.http_plain.specs.Chunks.{page_limit, IsPageAt, run, start}
+use Rattle.http_plain.specs.declared.form.Form.TheVariants.{Bad, Refused, Sized, Chunked as InChunks, ToEnd}
 use Rattle.http_plain.specs.Fields.{Line, values_named, stated}
 use Rattle.http_plain.specs.Heads.{head_limit, line_limit, HasNoHead, BeginsWithHead}
 
@@ -30,7 +33,7 @@ chunked_by (v ∷ w ∷ vs) = None
 abbrev pub framed : Option Bool → Option (Option ℕ) → Form
 framed None size = Bad
 framed (Some chunked) None = Bad
-framed (Some true) (Some None) = Chunked
+framed (Some true) (Some None) = InChunks
 framed (Some false) (Some None) = ToEnd
 framed (Some true) (Some (Some n)) = Bad
 framed (Some false) (Some (Some n)) = Sized n
@@ -54,18 +57,24 @@ form_by h = cond (status_code h == 200) (framing (map name_and_value h.fields)) 
 abbrev pub IsForm : List ℕ → Form → Type 0
 IsForm text f = ((h : ResponseHead) × IsAnswerHead text h × (f ≡ form_by h)) ⊎ (((h : ResponseHead) → IsAnswerHead text h → ⊥) × (f ≡ Bad))
 
+-- the page of a body in chunks, by what the chunks are
+abbrev pub chunked_page : Chunked → Page
+chunked_page (Whole body) = Document body
+chunked_page TooManyBytes = TooLong
+chunked_page Broken = Garbled
+
 -- the page, by what stands behind the head and whether that is all
 abbrev pub IsBodyPage : Form → List ℕ → Bool → Page → Type 0
 IsBodyPage Bad y ended p = p ≡ Garbled
 IsBodyPage (Refused status) y ended p = p ≡ Refusal status
 IsBodyPage (Sized n) y ended p =
-    ((page_limit < n) × (p ≡ TooLong))
-    ⊎ (((n ≤ page_limit) × (n ≤ length y) × (p ≡ Document (take n y)))
-    ⊎ ((n ≤ page_limit) × (length y < n) × (ended ≡ true) × (p ≡ Garbled)))
-IsBodyPage Chunked y ended p = IsPageAt (run start y) ended p
+    ((body_limit < n) × (p ≡ TooLong))
+    ⊎ (((n ≤ body_limit) × (n ≤ length y) × (p ≡ Document (take n y)))
+    ⊎ ((n ≤ body_limit) × (length y < n) × (ended ≡ true) × (p ≡ Garbled)))
+IsBodyPage InChunks y ended p = (c : Chunked) × IsChunked y ended c × (p ≡ chunked_page c)
 IsBodyPage ToEnd y ended p =
-    ((page_limit < length y) × (p ≡ TooLong))
-    ⊎ ((length y ≤ page_limit) × (ended ≡ true) × (p ≡ Document y))
+    ((body_limit < length y) × (p ≡ TooLong))
+    ⊎ ((length y ≤ body_limit) × (ended ≡ true) × (p ≡ Document y))
 
 -- the page of bytes that begin with a head
 pub record HasBodyPage (x : List ℕ) (ended : Bool) (p : Page) : Type 0 where

@@ -1,7 +1,10 @@
 -- What came shows a page.
-use Rattle.std.specs.Prelude.{◌≤◌, ◌<◌, ℕ, Bool, List, ◌++◌, drop, length}
+use Rattle.std.specs.Prelude.{◌≡◌, ◌≤◌, ◌<◌, ℕ, Bool, false, List, ◌++◌, drop, length}
+use Rattle.chunked_body.specs.declared.reader.ChunkReader.{ChunkReader}
+use Rattle.chunked_body.specs.Readers.{HasRead, is_over, room_of}
 use Rattle.fed_ports.specs.declared.page.Page.{Page}
 use Rattle.http_plain.specs.declared.form.Form.{Form}
+use Rattle.http_plain.specs.declared.form.Form.TheVariants.{Chunked}
 use Rattle.http_plain.specs.Heads.{head_limit}
 use Rattle.http_plain.specs.Pages.{IsPage, IsBodyPage}
 
@@ -18,6 +21,23 @@ pub record ShowsBody (flow : List ℕ → Bool → Type 0) (text : List ℕ) (le
   pub ended : Bool
   pub came : flow got ended
   pub page : IsBodyPage form (drop len (text ++ got)) ended p
+
+-- with what came behind these bytes, the page of the body in chunks that they begin is this
+pub record ShowsRest (flow : List ℕ → Bool → Type 0) (rest : List ℕ) (p : Page) : Type 0 where
+  pub got : List ℕ
+  pub ended : Bool
+  pub came : flow got ended
+  pub page : IsBodyPage Chunked (rest ++ got) ended p
+
+-- what came was given to a reading of chunks
+pub record Reaches (flow : List ℕ → Bool → Type 0) (old new : ChunkReader) (ended : Bool) : Type 0 where
+  pub got : List ℕ
+  pub came : flow got ended
+  pub reads : (x : List ℕ) → HasRead old x → HasRead new (x ++ got)
+
+-- a reading that goes on has room for fewer bytes
+abbrev pub TakesRoom : ChunkReader → ChunkReader → Type 0
+TakesRoom old new = (room_of new ≤ room_of old) × (is_over new ≡ false → room_of new < room_of old)
 
 -- a text begins with a head of that length, and there is a buffer for what comes behind it
 pub record HasHead (buffer text : List ℕ) (len : ℕ) : Type 0 where

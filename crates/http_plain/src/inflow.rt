@@ -1,9 +1,11 @@
 // What bytes come from, with a record of what came.
 
-ghost use Rattle.std.specs.Prelude.{◌≡◌, ◌≤◌, ◌<◌, ◌+◌, ◌-◌, ◌++◌, ◌==◌, ℕ, Bool, true, false, List, [], Some, None, length, max, take, IfOk, OnErr};
+ghost use Rattle.std.specs.Prelude.{◌≡◌, ◌≤◌, ◌<◌, ◌+◌, ◌-◌, ◌++◌, ◌==◌, ℕ, Bool, true, false, List, [], Option, Some, None, length, max, take, IfOk, OnErr};
 ghost use Rattle.fed_ports.specs.Causes.{HasCause};
+ghost use Rattle.fed_ports.specs.Exchanges.{Exchange};
 ghost use Rattle.http_plain.specs.Flows.{BreakCause, Comes, HeadComes};
 ghost use Rattle.http_plain.specs.Heads.{head_limit};
+ghost use Rattle.http_plain.specs.Asked.{asked_of};
 
 use crate::heads::{HEAD_LIMIT, head_end};
 use fed_ports::Failed;
@@ -19,6 +21,9 @@ pub(crate) trait Inflow<T> {
 
     // How often a call has failed.
     ghost in_faults: { T → ℕ };
+
+    // The exchanges that it tells.
+    ghost told: { T → Option (List Exchange) };
 
     // It can be asked for more.
     ghost ready: { T → Type 0 };
@@ -39,6 +44,7 @@ pub(crate) trait Inflow<T> {
         ensures within { IfOk result (λ n. n ≤ length into.old) }
         ensures came { IfOk result (λ n. came from.old from.new (take n into.new) (n == 0)) }
         ensures few { OnErr result (few from.old from.new 0) }
+        ensures asked { asked_of (told from.new) ≡ asked_of (told from.old) }
         ensures cause { HasCause (in_faults from.old) (in_faults from.new) result };
 }
 
@@ -65,6 +71,7 @@ pub(crate) fn pour<T, I: Inflow<T>>(
     ensures count { IfOk result (λ e. length text.new.items ≤ length text.old.items + most) }
     ensures grows { IfOk result (λ e. e ≡ false → length text.old.items < length text.new.items) }
     ensures few { OnErr result (I.few from.old from.new most) }
+    ensures asked { asked_of (I.told from.new) ≡ asked_of (I.told from.old) }
     ensures cause { BreakCause (I.in_faults from.old) (I.in_faults from.new) result }
 {
     let room = most.min(buffer.len());
@@ -92,6 +99,7 @@ pub(crate) fn pour_to<T, I: Inflow<T>>(
     ensures full { IfOk result (λ e. e ≡ false → until ≤ length text.new.items) }
     ensures count { IfOk result (λ e. length text.new.items ≤ max until (length text.old.items)) }
     ensures few { OnErr result (I.few from.old from.new (until - length text.old.items)) }
+    ensures asked { asked_of (I.told from.new) ≡ asked_of (I.told from.old) }
     ensures cause { BreakCause (I.in_faults from.old) (I.in_faults from.new) result }
 {
     while text.len() < until {
@@ -115,6 +123,7 @@ pub(crate) fn pour_head<T, I: Inflow<T>>(
     ensures ready { I.ready from.new }
     ensures comes { IfOk result (λ end. HeadComes (I.came from.old from.new) text.new.items end) }
     ensures few { OnErr result (I.few from.old from.new head_limit) }
+    ensures asked { asked_of (I.told from.new) ≡ asked_of (I.told from.old) }
     ensures cause { BreakCause (I.in_faults from.old) (I.in_faults from.new) result }
 {
     while text.len() < HEAD_LIMIT {

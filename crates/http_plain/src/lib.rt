@@ -4,7 +4,6 @@
 //! Texts and pages are said of as whole lists of bytes; pieces and buffers are in the code alone.
 #![tactic(auto)]
 
-mod chunks;
 mod exchange;
 mod fields;
 mod form;

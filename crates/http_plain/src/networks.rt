@@ -4,18 +4,18 @@ ghost use Rattle.std.specs.Prelude.{◌≡◌, ◌≤◌, ◌<◌, ◌∷◌, �
 ghost use Rattle.fed_ports.specs.Causes.{HasCause};
 ghost use Rattle.fed_ports.specs.Exchanges.{Exchange, Changed, fresh, with_received, with_sent};
 ghost use Rattle.fed_ports.specs.Lists.{Added};
+ghost use Rattle.http_plain.specs.Asked.{asked_of, AsksPart};
 
 use crate::inflow::Inflow;
 use fed_ports::{Address, Failed, Network};
 
 // How a connection of a network is used: without the bound `Send` of `Network`, which a method of an `impl` can't pass on.
 pub(crate) trait Wire<T>: Inflow<T> {
-    ghost told: { T → Option (List Exchange) };
-
     fn open(net: &mut T, to: &Address) -> Result<(), Failed>
         ensures open { OnOk result (Self.ready net.new) }
         ensures none { OnErr result (Self.ready net.new → ⊥) }
-        ensures added { OnOk result (Added (told net.old) (fresh to.now ∷ []) (told net.new)) }
+        ensures added { OnOk result (Added (Self.told net.old) (fresh to.now ∷ []) (Self.told net.new)) }
+        ensures refused { OnErr result (AsksPart (Self.told net.old) (Self.told net.new) to.now []) }
         ensures cause { HasCause (Self.in_faults net.old) (Self.in_faults net.new) result };
 
     fn send(net: &mut T, piece: &[u8]) -> Result<usize, Failed>
@@ -23,17 +23,18 @@ pub(crate) trait Wire<T>: Inflow<T> {
         requires piece { 0 < length piece.now }
         ensures open { Self.ready net.new }
         ensures within { IfOk result (λ n. (1 ≤ n) × (n ≤ length piece.now)) }
-        ensures sent { IfOk result (λ n. Changed (told net.old) (with_sent (take n piece.now)) (told net.new)) }
+        ensures sent { IfOk result (λ n. Changed (Self.told net.old) (with_sent (take n piece.now)) (Self.told net.new)) }
+        ensures none { OnErr result (asked_of (Self.told net.new) ≡ asked_of (Self.told net.old)) }
         ensures cause { HasCause (Self.in_faults net.old) (Self.in_faults net.new) result };
 
     fn shut(net: &mut T)
         requires { Self.ready net.old }
         ensures none { Self.ready net.new → ⊥ }
-        ensures told { told net.new ≡ told net.old }
+        ensures told { Self.told net.new ≡ Self.told net.old }
         ensures faults { Self.in_faults net.new ≡ Self.in_faults net.old };
 
     // What comes is received.
-    ghost shows: { (a b : T) (x : List ℕ) (e : Bool) → Self.Inflow.came a b x e → Changed (told a) (with_received x e) (told b) };
+    ghost shows: { (a b : T) (x : List ℕ) (e : Bool) → Self.Inflow.came a b x e → Changed (Self.Inflow.told a) (with_received x e) (Self.Inflow.told b) };
 }
 
 // The connection of a network.
@@ -47,6 +48,8 @@ impl<N: Network> Inflow<N> for Connection {
     ghost few = { λ _ _ _. Unit {0} };
 
     ghost in_faults = { λ a. N.faults a };
+
+    ghost told = { λ net. N.exchanges net };
 
     ghost ready = { λ a. N.is_open a };
 
@@ -64,8 +67,6 @@ impl<N: Network> Inflow<N> for Connection {
 }
 
 impl<N: Network> Wire<N> for Connection {
-    ghost told = { λ net. N.exchanges net };
-
     ghost shows = { λ _ _ _ _ changed. changed };
 
     fn open(net: &mut N, to: &Address) -> Result<(), Failed> {

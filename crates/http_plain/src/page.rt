@@ -1,21 +1,25 @@
 // Reading the page of an answer.
 
-ghost use Rattle.std.specs.Prelude.{◌≡◌, ◌≤◌, ◌<◌, ◌++◌, ◌∷◌, ℕ, Bool, true, false, List, [], length, IfOk, MatchResult, OnOk, if◌then◌else◌};
-ghost use Rattle.http_plain.specs.Chunks.{is_data, is_final, IsEndPage};
-ghost use Rattle.http_plain.specs.Flows.{BreakCause, Comes};
-ghost use Rattle.http_plain.specs.Shown.{HasHead, Shows, ShowsBody};
+ghost use Rattle.std.specs.Prelude.{◌≡◌, ◌<◌, ℕ, false, length, IfOk, MatchResult};
+ghost use Rattle.http_plain.specs.Flows.{BreakCause};
+ghost use Rattle.http_plain.specs.Asked.{asked_of};
+ghost use Rattle.http_plain.specs.Pages.{chunked_page};
+ghost use Rattle.http_plain.specs.Shown.{HasHead, Reaches, Shows, ShowsBody, ShowsRest, TakesRoom};
 
-use crate::chunks::{PAGE_LIMIT, Place, step};
 use crate::form::{Form, form_of};
-use crate::inflow::{Break, Inflow, pour, pour_head, pour_to};
-use fed_ports::{Memory, Page, Text};
+use crate::inflow::{Break, Inflow, pour_head, pour_to};
+use chunked_body::{ChunkReader, Chunked};
+use fed_ports::{Failed, Memory, Page, Text};
 use std::alloc::Global;
+
+const PAGE_LIMIT: u64 = 262_144;
 
 // Reads one answer, in whatever pieces it comes.
 pub(crate) fn read_page<T, I: Inflow<T>>(alloc: Global, from: &mut T) -> Result<Page, Break>
     requires { I.ready from.old }
     ensures ready { I.ready from.new }
     ensures page { IfOk result (λ page. Shows (I.came from.old from.new) page) }
+    ensures asked { asked_of (I.told from.new) ≡ asked_of (I.told from.old) }
     ensures cause { BreakCause (I.in_faults from.old) (I.in_faults from.new) result }
 {
     let mut buffer = [0u8; 4096];
@@ -41,11 +45,12 @@ fn read_body<T, I: Inflow<T>>(
     requires ready { I.ready from.old }
     ensures ready { I.ready from.new }
     ensures page { IfOk result (λ page. ShowsBody (I.came from.old from.new) text.old.items len form page) }
+    ensures asked { asked_of (I.told from.new) ≡ asked_of (I.told from.old) }
     ensures cause { BreakCause (I.in_faults from.old) (I.in_faults from.new) result }
 {
     match form {
         Form::Bad => Ok(Page::Garbled),
-        Form::Chunked => read_chunks::<T, I>(alloc, from, buffer, text, len),
+        Form::Chunked => read_chunks::<T, I>(alloc, from, buffer, &text[len..]),
         Form::Refused(status) => Ok(Page::Refusal(status)),
         Form::Sized(n) => read_sized::<T, I>(alloc, from, buffer, text, len, n),
         Form::ToEnd => read_to_end::<T, I>(alloc, from, buffer, text, len),
@@ -75,6 +80,7 @@ fn read_sized<T, I: Inflow<T>>(
     requires ready { I.ready from.old }
     ensures ready { I.ready from.new }
     ensures page { IfOk result (λ page. ShowsBody (I.came from.old from.new) text.old.items len (Form.Sized n) page) }
+    ensures asked { asked_of (I.told from.new) ≡ asked_of (I.told from.old) }
     ensures cause { BreakCause (I.in_faults from.old) (I.in_faults from.new) result }
 {
     if n > PAGE_LIMIT {
@@ -100,6 +106,7 @@ fn read_to_end<T, I: Inflow<T>>(
     requires ready { I.ready from.old }
     ensures ready { I.ready from.new }
     ensures page { IfOk result (λ page. ShowsBody (I.came from.old from.new) text.old.items len Form.ToEnd page) }
+    ensures asked { asked_of (I.told from.new) ≡ asked_of (I.told from.old) }
     ensures cause { BreakCause (I.in_faults from.old) (I.in_faults from.new) result }
 {
     let until = len + PAGE_LIMIT as usize + 1;
@@ -110,47 +117,39 @@ fn read_to_end<T, I: Inflow<T>>(
     document(alloc, &text[len..])
 }
 
-// Adds what comes where the text has no byte at a place yet. Whether the end came.
-fn reach<T, I: Inflow<T>>(
+// The page of a body in chunks.
+fn chunked_page(chunked: Chunked) -> Page
+    ensures { result ≡ chunked_page chunked }
+{
+    match chunked {
+        Chunked::Whole(body) => Page::Document(body),
+        Chunked::TooLong => Page::TooLong,
+        Chunked::Broken => Page::Garbled,
+    }
+}
+
+// Gives what comes next to a reading of chunks that goes on. Whether the end came.
+fn pour_chunks<T, I: Inflow<T>>(
     from: &mut T,
     buffer: &mut [u8],
-    text: &mut Vec<u8>,
-    at: usize,
+    chunks: &mut ChunkReader,
 ) -> Result<bool, Break>
     requires room { 0 < length buffer.old }
-    requires inside { at ≤ length text.old.items }
     requires ready { I.ready from.old }
     ensures ready { I.ready from.new }
-    ensures comes { IfOk result (λ e. Comes (I.came from.old from.new) text.old.items text.new.items e) }
-    ensures there { IfOk result (λ e. e ≡ false → at < length text.new.items) }
-    ensures stays { IfOk result (λ e. e ≡ true → (text.new.items ≡ text.old.items) × (at ≡ length text.old.items)) }
+    ensures comes { IfOk result (λ e. Reaches (I.came from.old from.new) chunks.old chunks.new e) }
+    ensures turns { IfOk result (λ e. e ≡ false → TakesRoom chunks.old chunks.new) }
+    ensures buffer { length buffer.new ≡ length buffer.old }
+    ensures asked { asked_of (I.told from.new) ≡ asked_of (I.told from.old) }
     ensures cause { BreakCause (I.in_faults from.old) (I.in_faults from.new) result }
 {
-    if at < text.len() {
-        return Ok(false);
-    }
-    pour::<T, I>(from, buffer, text, 4096)
-}
-
-// Adds a byte where it is one of the body.
-fn keep(body: &mut Vec<u8>, place: Place, byte: u8) -> Result<(), Memory>
-    ensures { OnOk result (body.new.items ≡ (if is_data place then body.old.items ++ byte ∷ [] else body.old.items)) }
-{
-    if place.takes() && body.push(byte).is_err() {
-        return Err(Memory);
-    }
-    Ok(())
-}
-
-// The page of a reading that has ended.
-fn end_page(place: Place, body: Vec<u8>) -> Page
-    requires { is_final place ≡ true }
-    ensures { (ended : Bool) → IsEndPage place body.items ended result }
-{
-    match place {
-        Place::Done => Page::Document(Text::from_vec(body)),
-        Place::Over => Page::TooLong,
-        _ => Page::Garbled,
+    let n = match I::more(from, buffer) {
+        Ok(n) => n,
+        Err(Failed) => return Err(Break::Failed),
+    };
+    match chunks.take(&buffer[..n]) {
+        Ok(()) => Ok(n == 0),
+        Err(Memory) => Err(Break::Memory),
     }
 }
 
@@ -159,31 +158,22 @@ fn read_chunks<T, I: Inflow<T>>(
     alloc: Global,
     from: &mut T,
     buffer: &mut [u8],
-    text: &mut Vec<u8>,
-    len: usize,
+    text: &[u8],
 ) -> Result<Page, Break>
-    requires head { HasHead buffer.old text.old.items len }
+    requires room { 0 < length buffer.old }
     requires ready { I.ready from.old }
     ensures ready { I.ready from.new }
-    ensures page { IfOk result (λ page. ShowsBody (I.came from.old from.new) text.old.items len Form.Chunked page) }
+    ensures page { IfOk result (λ page. ShowsRest (I.came from.old from.new) text.now page) }
+    ensures asked { asked_of (I.told from.new) ≡ asked_of (I.told from.old) }
     ensures cause { BreakCause (I.in_faults from.old) (I.in_faults from.new) result }
 {
-    let mut place = Place::Line;
-    let mut body = Vec::new(alloc);
-    let mut count: usize = 0;
-    while !place.is_over() {
-        match reach::<T, I>(from, buffer, text, len + count) {
-            Err(fault) => return Err(fault),
-            Ok(true) => return Ok(Page::Garbled),
-            Ok(false) => {}
-        }
-        let byte = text[len + count];
-        let next = step(body.len() as u64, count as u64, place, byte);
-        if keep(&mut body, place, byte).is_err() {
-            return Err(Break::Memory);
-        }
-        place = next;
-        count += 1;
+    let mut chunks = ChunkReader::new(alloc);
+    if chunks.take(text).is_err() {
+        return Err(Break::Memory);
     }
-    Ok(end_page(place, body))
+    let mut ended = false;
+    while !ended && !chunks.is_over() {
+        ended = pour_chunks::<T, I>(from, buffer, &mut chunks)?;
+    }
+    Ok(chunked_page(chunks.end()))
 }

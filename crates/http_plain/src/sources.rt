@@ -1,6 +1,6 @@
 // Bytes that a source gives.
 
-ghost use Rattle.std.specs.Prelude.{◌≡◌, ℕ, Bool, List, [], length};
+ghost use Rattle.std.specs.Prelude.{◌≡◌, ℕ, Bool, List, [], None, length};
 ghost use Rattle.http_plain.specs.Flows.{Given, TakenFew};
 
 use crate::inflow::Inflow;
@@ -18,6 +18,8 @@ impl<P: Source> Inflow<P> for Taking {
     ghost few = { λ a b n. TakenFew (P.left a) (P.left b) n × (P.source_side b ≡ P.source_side a) };
 
     ghost in_faults = { λ a. P.read_faults a };
+
+    ghost told = { λ _. None };
 
     ghost ready = { λ _. Unit {0} };
 

@@ -6,7 +6,7 @@ abbrev pub invariant-loop-at : goal.invariant-loop-at
 invariant-loop-at g l = let flow = g.W.Inflow in record {
   at : l.at ≤ length l.message;
   open_still : flow.ready l.net;
-  sent : Changed (g.W.Wire.told l.fn.net) (with_sent (take l.at l.message)) (g.W.Wire.told l.net);
+  sent : Changed (flow.told l.fn.net) (with_sent (take l.at l.message)) (flow.told l.net);
   count : flow.in_faults l.net ≡ flow.in_faults l.fn.net;
 }
 

@@ -1,6 +1,7 @@
 use Rattle.std.proofs.Common.{◌≡◌, ◌≤◌, ◌-◌, length, false, None, []}
 use Rattle.http_plain.specs.Heads.{head_end, head_limit}
 use Rattle.http_plain.specs.Flows.{Comes}
+use Rattle.http_plain.specs.Asked.{asked_of}
 use Rattle.http_plain.proofs.inflow.pour_head.Given as goal
 
 abbrev pub invariant-loop-text : goal.invariant-loop-text
@@ -9,6 +10,7 @@ invariant-loop-text g l = let flow = g.I.Inflow in record {
   comes : Comes (flow.came l.fn.from l.from) [] l.text.items false;
   bound : length l.text.items ≤ head_limit;
   none : head_end l.text.items ≡ None;
+  asked : asked_of (flow.told l.from) ≡ asked_of (flow.told l.fn.from);
   count : flow.in_faults l.from ≡ flow.in_faults l.fn.from;
 }
 

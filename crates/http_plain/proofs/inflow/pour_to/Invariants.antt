@@ -1,5 +1,6 @@
 use Rattle.std.proofs.Common.{◌≡◌, ◌≤◌, ◌-◌, length, max, false}
 use Rattle.http_plain.specs.Flows.{Comes}
+use Rattle.http_plain.specs.Asked.{asked_of}
 use Rattle.http_plain.proofs.inflow.pour_to.Given as goal
 
 abbrev pub invariant-loop-text : goal.invariant-loop-text
@@ -7,6 +8,7 @@ invariant-loop-text g l = let flow = g.I.Inflow in record {
   ready : flow.ready l.from;
   comes : Comes (flow.came l.fn.from l.from) l.fn.text.items l.text.items false;
   most : length l.text.items ≤ max l.until (length l.fn.text.items);
+  asked : asked_of (flow.told l.from) ≡ asked_of (flow.told l.fn.from);
   count : flow.in_faults l.from ≡ flow.in_faults l.fn.from;
 }
 

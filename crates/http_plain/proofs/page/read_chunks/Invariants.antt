@@ -1,18 +1,16 @@
-use Rattle.std.proofs.Common.{◌≡◌, ◌≤◌, ◌+◌, ◌-◌, length, take, drop, false}
-use Rattle.http_plain.specs.Flows.{Comes}
-use Rattle.http_plain.specs.Chunks.{chunks_limit, run, start, is_final}
+use Rattle.std.proofs.Common.{◌≡◌, ℕ, ◌+◌, List, ◌++◌, length, cond}
+use Rattle.chunked_body.specs.Readers.{HasRead, is_over, room_of}
+use Rattle.http_plain.specs.Asked.{asked_of}
 use Rattle.http_plain.proofs.page.read_chunks.Given as goal
 
-abbrev pub invariant-loop-from : goal.invariant-loop-from
-invariant-loop-from g l = let flow = g.I.Inflow in record {
+abbrev pub invariant-loop-ended : goal.invariant-loop-ended
+invariant-loop-ended g l = let flow = g.I.Inflow in record {
   ready : flow.ready l.from;
-  comes : Comes (flow.came l.fn.from l.from) l.fn.text.items l.text.items false;
-  inside : l.len + l.count ≤ length l.text.items;
-  ran : run start (take l.count (drop l.len l.text.items)) ≡ record { place = l.place; count = l.count; body = l.body.items };
-  few : is_final l.place ≡ false → l.count ≤ chunks_limit;
-  most : l.count ≤ chunks_limit + 1;
+  came : (got : List ℕ) × flow.came l.fn.from l.from got l.ended × HasRead l.chunks (l.text ++ got);
+  room : length l.buffer ≡ length l.fn.buffer;
+  asked : asked_of (flow.told l.from) ≡ asked_of (flow.told l.fn.from);
   faults : flow.in_faults l.from ≡ flow.in_faults l.fn.from;
 }
 
-abbrev pub decreases-loop-from : goal.decreases-loop-from
-decreases-loop-from g l = chunks_limit + 1 - l.count
+abbrev pub decreases-loop-ended : goal.decreases-loop-ended
+decreases-loop-ended g l = cond l.ended 0 (1 + cond (is_over l.chunks) 0 (1 + room_of l.chunks))

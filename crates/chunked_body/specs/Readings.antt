@@ -1,19 +1,10 @@
 -- The reading of a body in chunks (RFC 9112 section 7.1), byte by byte.
-use Rattle.std.specs.Prelude.{◌≡◌, ℕ, ◌+◌, ◌-◌, ◌*◌, ◌==◌, ◌||◌, Bool, true, false, List, [], ◌∷◌, ◌++◌, length, nat_lt, nat_le, if◌then◌else◌}
+use Rattle.std.specs.Prelude.{ℕ, ◌+◌, ◌-◌, ◌*◌, ◌==◌, ◌||◌, Bool, true, false, List, [], ◌∷◌, ◌++◌, length, nat_lt, nat_le, if◌then◌else◌}
 use Rattle.std.specs.Char.{digit_value}
 use Rattle.httparse.specs.Grammar.{is_ows}
-use Rattle.http_plain.specs.declared.chunks.Place.{Place}
-use Rattle.http_plain.specs.declared.chunks.Place.TheVariants.{Line, Size, Pad, Extension, LineFeed, Data, DataReturn, DataFeed, Done, Over, Bad}
-use Rattle.fed_ports.specs.declared.page.Page.{Page}
-use Rattle.fed_ports.specs.declared.page.Page.TheVariants.{Document, Garbled, TooLong}
-
--- the most bytes of a document
-abbrev pub page_limit : ℕ
-page_limit = 262144
-
--- the most bytes of the chunks that it comes in
-abbrev pub chunks_limit : ℕ
-chunks_limit = 1048576
+use Rattle.chunked_body.specs.Grammar.{body_limit, form_limit}
+use Rattle.chunked_body.specs.declared.place.Place.{Place}
+use Rattle.chunked_body.specs.declared.place.Place.TheVariants.{Line, Size, Pad, Extension, LineFeed, Data, DataReturn, DataFeed, Done, Over, Bad}
 
 -- the reading has ended
 abbrev pub is_final : Place → Bool
@@ -63,42 +54,46 @@ after_size size b = if is_ows b then Pad size else (if b == 59 then Extension si
 
 -- behind a chunk's line: the last one, one with which the body would be too long, or its data
 abbrev pub chunk_place : ℕ → ℕ → Place
-chunk_place have size = if size == 0 then Done else (if nat_lt (page_limit - have) size then Over else Data size)
+chunk_place have size = if size == 0 then Done else (if nat_lt (body_limit - have) size then Over else Data (size - 1))
+
+-- the place behind so many bytes of a chunk, behind the first of which so many come
+abbrev pub data_place : ℕ → ℕ → Place
+data_place more n = if nat_lt more n then DataReturn else Data (more - n)
 
 -- the place after a byte: a size of 1 to 16 hexadecimal digits, white space, an extension, the end of the line, so many bytes, the end of
 -- their line. A size above the limit stays as it is
 abbrev pub next : ℕ → Place → ℕ → Place
 next have Line b = if nat_lt (digit_value b) 16 then Size 1 (digit_value b) else Bad
 next have (Size digits size) b =
-    if nat_lt (digit_value b) 16 then (if nat_le 16 digits then Bad else (if nat_lt page_limit size then Size (digits + 1) size else Size (digits + 1) (size * 16 + digit_value b)))
+    if nat_lt (digit_value b) 16 then (if nat_le 16 digits then Bad else (if nat_lt body_limit size then Size (digits + 1) size else Size (digits + 1) (size * 16 + digit_value b)))
     else after_size size b
 next have (Pad size) b = after_size size b
 next have (Extension size) b = if b == 13 then LineFeed size else (if b == 10 then Bad else Extension size)
 next have (LineFeed size) b = if b == 10 then chunk_place have size else Bad
-next have (Data left) b = if nat_le left 1 then DataReturn else Data (left - 1)
+next have (Data more) b = if more == 0 then DataReturn else Data (more - 1)
 next have DataReturn b = if b == 13 then DataFeed else Bad
 next have DataFeed b = if b == 10 then Line else Bad
 next have Done b = Done
 next have Over b = Over
 next have Bad b = Bad
 
--- the limit of the form: a byte of its form past it is too much
+-- the limit of the form: a byte of its form for which there is no room is too much
 abbrev pub counted : ℕ → Place → Place
-counted count p = if is_bad p || nat_lt count chunks_limit then p else Over
+counted room p = if is_bad p || nat_lt 0 room then p else Over
 
--- a reading: where it is, how many bytes it has read, and the body so far
+-- a reading: where it is, how many bytes may still come, and the body so far
 pub record Chunking : Type 0 where
   pub place : Place
-  pub count : ℕ
+  pub room : ℕ
   pub body : List ℕ
 
 abbrev pub start : Chunking
-start = record { place = Line; count = 0; body = [] }
+start = record { place = Line; room = form_limit; body = [] }
 
 abbrev pub step : Chunking → ℕ → Chunking
 step c b = record {
-  place = counted c.count (next (length c.body) c.place b);
-  count = c.count + 1;
+  place = counted c.room (next (length c.body) c.place b);
+  room = c.room - 1;
   body = if is_data c.place then c.body ++ b ∷ [] else c.body;
 }
 
@@ -106,21 +101,3 @@ step c b = record {
 unfoldable pub run : Chunking → List ℕ → Chunking
 run c [] = c
 run c (b ∷ bs) = if is_final c.place then c else run (step c b) bs
-
--- the page at a place: the reading has ended there, or the bytes end
-abbrev pub IsEndPage : Place → List ℕ → Bool → Page → Type 0
-IsEndPage Line body ended p = (ended ≡ true) × (p ≡ Garbled)
-IsEndPage (Size d n) body ended p = (ended ≡ true) × (p ≡ Garbled)
-IsEndPage (Pad n) body ended p = (ended ≡ true) × (p ≡ Garbled)
-IsEndPage (Extension n) body ended p = (ended ≡ true) × (p ≡ Garbled)
-IsEndPage (LineFeed n) body ended p = (ended ≡ true) × (p ≡ Garbled)
-IsEndPage (Data n) body ended p = (ended ≡ true) × (p ≡ Garbled)
-IsEndPage DataReturn body ended p = (ended ≡ true) × (p ≡ Garbled)
-IsEndPage DataFeed body ended p = (ended ≡ true) × (p ≡ Garbled)
-IsEndPage Done body ended p = p ≡ Document body
-IsEndPage Over body ended p = p ≡ TooLong
-IsEndPage Bad body ended p = p ≡ Garbled
-
--- the page where the reading ended
-abbrev pub IsPageAt : Chunking → Bool → Page → Type 0
-IsPageAt c ended p = IsEndPage c.place c.body ended p

@@ -1,17 +1,15 @@
-// The chunks of a body, byte by byte.
+// Where a reading of chunks is, byte by byte.
 
 ghost use Rattle.std.specs.Prelude.{◌≡◌};
-ghost use Rattle.http_plain.specs.Chunks.{is_final, is_data, next as next_place, counted, after_size as place_after, chunk_place};
+ghost use Rattle.chunked_body.specs.Readings.{after_size as place_after, chunk_place, counted as counted_place, data_place, is_data, is_final, next as next_place};
 
 use httparse::parse_hex_digit;
 
-pub(crate) const PAGE_LIMIT: u64 = 262_144;
+const BODY_LIMIT: u64 = 262_144;
 
-const CHUNKS_LIMIT: u64 = 1_048_576;
-
-// Where a reading of chunks is: at a chunk's line or in its size (so many digits, their value), behind it in white space, in an extension
-// or before the line feed (the size), in a chunk's bytes (how many are left) or at their line end, or at its own end: whole, too long, or
-// not of the form.
+// At a chunk's line or in its size (so many digits, their value), behind it in white space, in an extension or before the line feed (the
+// size), in a chunk's bytes (how many come behind the next one) or at their line end, or at its own end: whole, too long, or not of the
+// form.
 #[derive(Clone, Copy, Debug, PartialEq, Eq, Drop)]
 pub(crate) enum Place {
     Line,
@@ -61,15 +59,26 @@ fn chunk(have: u64, size: u64) -> Place
 {
     if size == 0 {
         Place::Done
-    } else if size > PAGE_LIMIT.saturating_sub(have) {
+    } else if size > BODY_LIMIT.saturating_sub(have) {
         Place::Over
     } else {
-        Place::Data(size)
+        Place::Data(size - 1)
+    }
+}
+
+// The place behind so many bytes of a chunk, behind the first of which so many come.
+pub(crate) fn behind(more: u64, n: u64) -> Place
+    ensures { result ≡ data_place more n }
+{
+    if n > more {
+        Place::DataReturn
+    } else {
+        Place::Data(more - n)
     }
 }
 
 // The place after a byte, with so many bytes of body before it.
-fn next(have: u64, place: Place, b: u8) -> Place
+pub(crate) fn next(have: u64, place: Place, b: u8) -> Place
     ensures { result ≡ next_place have place b }
 {
     match place {
@@ -79,7 +88,7 @@ fn next(have: u64, place: Place, b: u8) -> Place
         },
         Place::Size(digits, size) => match parse_hex_digit(b) {
             Some(_) if digits >= 16 => Place::Bad,
-            Some(_) if size > PAGE_LIMIT => Place::Size(digits + 1, size),
+            Some(_) if size > BODY_LIMIT => Place::Size(digits + 1, size),
             Some(digit) => Place::Size(digits + 1, size * 16 + digit),
             None => after_size(size, b),
         },
@@ -87,10 +96,10 @@ fn next(have: u64, place: Place, b: u8) -> Place
         Place::Extension(size) if b == b'\r' => Place::LineFeed(size),
         Place::Extension(size) if b != b'\n' => Place::Extension(size),
         Place::LineFeed(size) if b == b'\n' => chunk(have, size),
-        Place::Data(left) => if left <= 1 {
+        Place::Data(more) => if more == 0 {
             Place::DataReturn
         } else {
-            Place::Data(left - 1)
+            Place::Data(more - 1)
         },
         Place::DataReturn if b == b'\r' => Place::DataFeed,
         Place::DataFeed if b == b'\n' => Place::Line,
@@ -100,12 +109,11 @@ fn next(have: u64, place: Place, b: u8) -> Place
     }
 }
 
-// The place after a byte, where so many bytes came before it.
-pub(crate) fn step(have: u64, count: u64, place: Place, b: u8) -> Place
-    ensures { result ≡ counted count (next_place have place b) }
+// A place, where so many bytes of the form may still come.
+pub(crate) fn counted(room: u64, place: Place) -> Place
+    ensures { result ≡ counted_place room place }
 {
-    let place = next(have, place, b);
-    if place == Place::Bad || count < CHUNKS_LIMIT {
+    if place == Place::Bad || room > 0 {
         place
     } else {
         Place::Over

@@ -1,0 +1,4 @@
+pub mod Decided
+pub mod Formed
+pub mod Reached
+pub mod Running

@@ -1,0 +1,4 @@
+pub mod Answers
+pub mod Grammar
+pub mod Readers
+pub mod Readings

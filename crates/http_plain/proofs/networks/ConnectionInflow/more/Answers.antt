@@ -1,0 +1,6 @@
+use Rattle.std.proofs.Common.{◌==◌, take}
+use Rattle.http_plain.proofs.Exchanging.{received_asked}
+use Rattle.http_plain.proofs.networks.ConnectionInflow.more.Goals as goal
+
+pub returns-clause-asked : goal.returns-clause-asked
+returns-clause-asked g c = received_asked c.receive.result _ _ (λ n. take n c.receive.new.into) (λ n. n == 0) c.receive.ensures.received c.receive.ensures.err
