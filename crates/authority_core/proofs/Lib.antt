@@ -1,0 +1,9 @@
+mod BelowLaws
+mod ConfigurationLaws
+mod ListLaws
+mod Members
+mod MetadataLaws
+mod ReadLaws
+mod Responses
+mod StatusLaws
+mod Wholes

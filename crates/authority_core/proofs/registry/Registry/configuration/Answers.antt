@@ -1,0 +1,28 @@
+use Rattle.std.proofs.Common.{◌≡◌, ◌≤◌, ◌<◌, IfOk, length, subst}
+use Rattle.fed_base.specs.Moments.{moment_limit}
+use Rattle.jws_form.specs.Compact.{max_bytes}
+use Rattle.key_ring.specs.Sets.{live_set}
+use Rattle.sealed.specs.Seals.{IsSealedBy}
+use Rattle.authority_core.specs.Answers.{configuration_response}
+use Rattle.authority_core.specs.Issued.{configuration_claims}
+use Rattle.authority_core.specs.Nodes.{Node, node_of}
+use Rattle.authority_core.specs.ReadBack.{ReadsAs, own_claims}
+use Rattle.authority_core.proofs.Responses.{always, answer-live, configuration-is}
+use Rattle.authority_core.proofs.registry.Registry.configuration.Goals as goal
+
+pub returns-clause-response : goal.returns-clause-response
+returns-clause-response c =
+    let node = node_of c.self.inside.config c.self.inside.ring in
+    subst (λ n. IfOk c.signed.result (λ x. x ≡ configuration_response n c.args.t)) c.self.view_is
+    (subst (λ y. IfOk c.signed.result (λ x. x ≡ y)) (configuration-is node c.args.t c.signer.result.now c.in_ok-claims.claims c.signer.ensures c.in_ok-claims.ensures.tree) c.signed.ensures.response)
+
+pub returns-clause-sealed : goal.returns-clause-sealed
+returns-clause-sealed c =
+    subst (λ (n : Node). IfOk c.signed.result (λ x. length x.body ≤ max_bytes → IsSealedBy x.body (live_set n.ring))) c.self.view_is
+    (answer-live c.signed.result c.self.inside.ring c.signer.result.now c.signer.ensures c.self.invariant.1 c.signed.ensures.sealed)
+
+pub returns-clause-reads_back : goal.returns-clause-reads_back
+returns-clause-reads_back c =
+    let node = node_of c.self.inside.config c.self.inside.ring in
+    subst (λ (n : Node). IfOk c.signed.result (λ x. c.args.t < moment_limit → ReadsAs (configuration_claims n c.args.t) (own_claims n.settings (live_set n.ring) c.args.t))) c.self.view_is
+    (always c.signed.result _ (λ x small. subst (λ tree. ReadsAs tree (own_claims node.settings (live_set node.ring) c.args.t)) c.in_ok-claims.ensures.tree (c.in_ok-claims.ensures.reads_back small)))

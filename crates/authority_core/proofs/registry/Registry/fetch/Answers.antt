@@ -1,0 +1,55 @@
+use Rattle.std.proofs.Common.{◌≡◌, ◌∙◌, ◌≤◌, ◌<◌, IfOk, length, None, Some, find, map, ap, subst, sym}
+use Rattle.std.specs.Prelude.{IsSome}
+use Rattle.fed_base.specs.Moments.{moment_limit}
+use Rattle.jws_form.specs.Compact.{max_bytes}
+use Rattle.key_ring.specs.Sets.{live_set}
+use Rattle.sealed.specs.Seals.{IsSealedBy}
+use Rattle.node_config.specs.Nodes.{Subordinate}
+use Rattle.node_config.specs.Told.{told_subordinate}
+use Rattle.authority_core.specs.Answers.{fetch_response}
+use Rattle.authority_core.specs.Issued.{statement_claims}
+use Rattle.authority_core.specs.Nodes.{Node, is_for, node_of, registered}
+use Rattle.authority_core.specs.ReadBack.{ReadsAs, claims_about}
+use Rattle.authority_core.proofs.Responses.{answer-live, statement-is, stranger-is, stranger-reads, stranger-sealed, subordinate-reads, whatever}
+use Rattle.authority_core.proofs.registry.Registry.fetch.Goals as goal
+
+pub returns-in_default-clause-response : goal.returns-in_default-clause-response
+returns-in_default-clause-response c =
+    let node = node_of c.self.inside.config c.self.inside.ring in
+    let none : registered c.args.sub.now node.settings ≡ None = ap (λ l. find (is_for c.args.sub.now) (map told_subordinate l)) (sym c.as_slice.ensures) ∙ sym c.in_default.ensures.found in
+    subst (λ n. IfOk c.not_found.result (λ x. x ≡ fetch_response n c.args.t c.args.sub.now)) c.self.view_is
+    (subst (λ y. IfOk c.not_found.result (λ x. x ≡ y)) (stranger-is node c.args.t c.args.sub.now none) c.not_found.ensures)
+
+pub returns-in_default-clause-sealed : goal.returns-in_default-clause-sealed
+returns-in_default-clause-sealed c =
+    let node = node_of c.self.inside.config c.self.inside.ring in
+    let none : registered c.args.sub.now node.settings ≡ None = ap (λ l. find (is_for c.args.sub.now) (map told_subordinate l)) (sym c.as_slice.ensures) ∙ sym c.in_default.ensures.found in
+    subst (λ (n : Node). IfOk c.not_found.result (λ x. IsSome (registered c.args.sub.now n.settings) → length x.body ≤ max_bytes → IsSealedBy x.body (live_set n.ring))) c.self.view_is
+    (stranger-sealed c.not_found.result node c.args.sub.now none)
+
+pub returns-in_default-clause-reads_back : goal.returns-in_default-clause-reads_back
+returns-in_default-clause-reads_back c =
+    let node = node_of c.self.inside.config c.self.inside.ring in
+    let none : registered c.args.sub.now node.settings ≡ None = ap (λ l. find (is_for c.args.sub.now) (map told_subordinate l)) (sym c.as_slice.ensures) ∙ sym c.in_default.ensures.found in
+    subst (λ (n : Node). IfOk c.not_found.result (λ x. (s : Subordinate) → registered c.args.sub.now n.settings ≡ Some s → c.args.t < moment_limit → ReadsAs (statement_claims n.settings s c.args.t) (claims_about n.settings s c.args.t))) c.self.view_is
+    (stranger-reads c.not_found.result node c.args.t c.args.sub.now none)
+
+pub returns-clause-response : goal.returns-clause-response
+returns-clause-response c =
+    let node = node_of c.self.inside.config c.self.inside.ring in
+    let found : registered c.args.sub.now node.settings ≡ Some (told_subordinate c.in-Some.s.now) = ap (λ l. find (is_for c.args.sub.now) (map told_subordinate l)) (sym c.as_slice.ensures) ∙ sym c.in-Some.ensures.found in
+    subst (λ n. IfOk c.signed.result (λ x. x ≡ fetch_response n c.args.t c.args.sub.now)) c.self.view_is
+    (subst (λ y. IfOk c.signed.result (λ x. x ≡ y))
+    (statement-is node c.args.t c.args.sub.now c.signer.result.now (told_subordinate c.in-Some.s.now) c.in_ok-claims.claims c.signer.ensures found c.in_ok-claims.ensures.tree) c.signed.ensures.response)
+
+pub returns-clause-sealed : goal.returns-clause-sealed
+returns-clause-sealed c =
+    subst (λ (n : Node). IfOk c.signed.result (λ x. IsSome (registered c.args.sub.now n.settings) → length x.body ≤ max_bytes → IsSealedBy x.body (live_set n.ring))) c.self.view_is
+    (whatever c.signed.result _ _ (answer-live c.signed.result c.self.inside.ring c.signer.result.now c.signer.ensures c.self.invariant.1 c.signed.ensures.sealed) (λ x seals some. seals))
+
+pub returns-clause-reads_back : goal.returns-clause-reads_back
+returns-clause-reads_back c =
+    let node = node_of c.self.inside.config c.self.inside.ring in
+    let found : registered c.args.sub.now node.settings ≡ Some (told_subordinate c.in-Some.s.now) = ap (λ l. find (is_for c.args.sub.now) (map told_subordinate l)) (sym c.as_slice.ensures) ∙ sym c.in-Some.ensures.found in
+    subst (λ (n : Node). IfOk c.signed.result (λ x. (s : Subordinate) → registered c.args.sub.now n.settings ≡ Some s → c.args.t < moment_limit → ReadsAs (statement_claims n.settings s c.args.t) (claims_about n.settings s c.args.t))) c.self.view_is
+    (subordinate-reads c.signed.result node c.args.t c.args.sub.now (told_subordinate c.in-Some.s.now) c.in_ok-claims.claims c.self.invariant.2 found c.in_ok-claims.ensures.tree c.in_ok-claims.ensures.reads_back)

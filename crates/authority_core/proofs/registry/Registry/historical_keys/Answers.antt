@@ -1,0 +1,21 @@
+use Rattle.std.proofs.Common.{◌≡◌, ◌≤◌, IfOk, length, subst}
+use Rattle.jws_form.specs.Compact.{max_bytes}
+use Rattle.key_ring.specs.Sets.{live_set}
+use Rattle.sealed.specs.Seals.{IsSealedBy}
+use Rattle.authority_core.specs.Answers.{historical_response}
+use Rattle.authority_core.specs.Nodes.{Node, node_of}
+use Rattle.authority_core.proofs.Responses.{answer-live, historical-is}
+use Rattle.authority_core.proofs.registry.Registry.historical_keys.Goals as goal
+
+pub returns-clause-response : goal.returns-clause-response
+returns-clause-response c =
+    let node = node_of c.self.inside.config c.self.inside.ring in
+    subst (λ n. IfOk c.signed.result (λ x. x ≡ historical_response n c.args.t)) c.self.view_is
+    (subst (λ y. IfOk c.signed.result (λ x. x ≡ y))
+    (historical-is node c.args.t c.signer.result.now c.in_ok-keys.keys c.in_ok-claims.claims c.signer.ensures c.in_ok-keys.ensures.tree c.in_ok-claims.ensures.tree) c.signed.ensures.response)
+
+pub returns-clause-sealed : goal.returns-clause-sealed
+returns-clause-sealed c =
+    let node = node_of c.self.inside.config c.self.inside.ring in
+    subst (λ (n : Node). IfOk c.signed.result (λ x. length x.body ≤ max_bytes → IsSealedBy x.body (live_set n.ring))) c.self.view_is
+    (answer-live c.signed.result c.self.inside.ring c.signer.result.now c.signer.ensures c.self.invariant.1 c.signed.ensures.sealed)

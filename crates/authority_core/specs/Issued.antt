@@ -1,0 +1,124 @@
+-- What a node states: its configuration, statements about its subordinates, their list, and its historical keys.
+use Rattle.std.specs.Prelude.{ℕ, ◌+◌, ◌-◌, ◌&&◌, ◌||◌, min, List, [], ◌∷◌, ◌++◌, map, filter, codes, bytes_eq, nat_le, length, Bool, true, false, not, Option, Some, None, unwrap_or}
+use Rattle.std.specs.List.{list_all, list_any}
+use Rattle.std.specs.Option.{option_map_or}
+use Rattle.fed_base.specs.Moments.{moment_limit}
+use Rattle.fed_json.specs.declared.tree.Json.{Json, Text, List as ListOf, Object}
+use Rattle.fed_json.specs.declared.tree.Member.{Member}
+use Rattle.fed_json.specs.Compact.{compact}
+use Rattle.fed_json.specs.Members.{text_member}
+use Rattle.fed_json.specs.Reading.{member_of}
+use Rattle.jwk_set.specs.Trees.{set_tree}
+use Rattle.jwk_set.specs.declared.jwk.Jwk.{Jwk}
+use Rattle.sealed.specs.Sealing.{sealed_text}
+use Rattle.key_ring.specs.Files.{number_member}
+use Rattle.key_ring.specs.Sets.{historical_keys, live_set, signer_seeds}
+use Rattle.entity_statement.specs.Claims.{Identifier}
+use Rattle.node_config.specs.Nodes.{Settings, Subordinate, subordinate_id}
+use Rattle.authority_core.specs.declared.query.ListQuery.{ListQuery}
+use Rattle.authority_core.specs.Endpoints.{own_metadata}
+use Rattle.authority_core.specs.Nodes.{Node}
+
+-- the last moment
+abbrev pub last_moment : ℕ
+last_moment = moment_limit - 1
+
+-- when a statement ends that is made at the moment
+abbrev pub end_of : ℕ → ℕ → ℕ
+end_of lifetime t = min (t + lifetime) last_moment
+
+-- a configured claim, where there is one
+abbrev pub claim : List ℕ → Option Json → List Member
+claim name None = []
+claim name (Some tree) = member_of name tree ∷ []
+
+-- what every statement says of its making: its end, its moment, its issuer and the keys that it names
+abbrev pub issue_members : Settings → List Jwk → ℕ → List Member
+issue_members settings keys t =
+    number_member (codes "exp") (end_of settings.lifetime t) ∷ number_member (codes "iat") t
+    ∷ text_member (codes "iss") settings.id ∷ member_of (codes "jwks") (set_tree keys) ∷ []
+
+-- the claims of the node's configuration, with their members in byte order (OpenID Federation 1.0 sections 3.1.1 and 3.1.2)
+abbrev pub configuration_members : Settings → List Jwk → ℕ → List Member
+configuration_members settings keys t =
+    claim (codes "authority_hints") settings.claims.hints
+    ++ (issue_members settings keys t
+    ++ (member_of (codes "metadata") (own_metadata settings)
+    ∷ (text_member (codes "sub") settings.id
+    ∷ (claim (codes "trust_mark_issuers") settings.claims.issuers
+    ++ (claim (codes "trust_mark_owners") settings.claims.owners
+    ++ claim (codes "trust_marks") settings.claims.marks)))))
+
+unfoldable pub configuration_claims : Node → ℕ → Json
+configuration_claims node t = Object (configuration_members node.settings (live_set node.ring) t)
+
+-- the claims of the statement about a subordinate (OpenID Federation 1.0 sections 3.1.1 and 3.1.3)
+abbrev pub statement_members : Settings → Subordinate → ℕ → List Member
+statement_members settings s t =
+    claim (codes "constraints") s.claims.constraints
+    ++ (issue_members settings s.entity.keys t
+    ++ (claim (codes "metadata") s.claims.metadata
+    ++ (claim (codes "metadata_policy") s.claims.policy
+    ++ (claim (codes "metadata_policy_crit") s.claims.policy_crit
+    ++ (text_member (codes "sub") s.entity.id ∷ [])))))
+
+unfoldable pub statement_claims : Settings → Subordinate → ℕ → Json
+statement_claims settings s t = Object (statement_members settings s t)
+
+-- ---- sizes
+
+-- the claims have at most 180,000 bytes
+abbrev pub is_short : Json → Bool
+is_short claims = nat_le (length (compact claims)) 180000
+
+-- whatever the moment at which they are stated: those at the last one are the longest
+abbrev pub states_itself_shortly : Node → Bool
+states_itself_shortly node = is_short (configuration_claims node last_moment)
+
+abbrev pub states_shortly : Settings → Subordinate → Bool
+states_shortly settings s = is_short (statement_claims settings s last_moment)
+
+abbrev pub states_all_shortly : Settings → Bool
+states_all_shortly settings = list_all (states_shortly settings) settings.subordinates
+
+-- ---- the list of subordinates (OpenID Federation 1.0 section 8.2)
+
+abbrev pub is_empty : {X : Type 0} → List X → Bool
+is_empty [] = true
+is_empty (x ∷ xs) = false
+
+-- one of the texts is this one
+abbrev pub is_among : List (List ℕ) → List ℕ → Bool
+is_among texts text = list_any (bytes_eq text) texts
+
+-- the subordinate passes every filter; what isn't asked for filters nothing
+abbrev pub passes : ListQuery → Subordinate → Bool
+passes query s =
+    (is_empty query.types || list_any (is_among s.listing.types) query.types)
+    && ((not query.trust_marked || not (is_empty s.listing.mark_types))
+    && (option_map_or (is_among s.listing.mark_types) query.mark_type true
+    && (not query.intermediate || s.listing.intermediate)))
+
+-- the identifiers of those that pass, in the order of the configuration
+abbrev pub ids_of : ListQuery → List Subordinate → List Json
+ids_of query subordinates = map (λ s. Text (subordinate_id s)) (filter (passes query) subordinates)
+
+unfoldable pub list_tree : Settings → ListQuery → Json
+list_tree settings query = ListOf (ids_of query settings.subordinates)
+
+-- ---- historical keys (OpenID Federation 1.0 section 8.7)
+
+abbrev pub historical_tree : Identifier → Json → ℕ → Json
+historical_tree id keys t = Object (number_member (codes "iat") t ∷ text_member (codes "iss") id ∷ member_of (codes "keys") keys ∷ [])
+
+unfoldable pub historical_claims : Node → ℕ → Json
+historical_claims node t = historical_tree node.settings.id (ListOf (historical_keys node.ring)) t
+
+abbrev pub historical_type : List ℕ
+historical_type = codes "jwk-set+jwt"
+
+-- ---- the signature
+
+-- claims of that type, signed by the node
+abbrev pub signed_by : Node → List ℕ → Json → List ℕ
+signed_by node typ claims = sealed_text (unwrap_or (signer_seeds node.ring) []) typ claims

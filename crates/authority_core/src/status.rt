@@ -1,0 +1,171 @@
+// What has become of a trust mark.
+
+ghost use Rattle.std.specs.Prelude.{◌≡◌, ◌↔◌, IfOk, IfSome, IsTrue, MatchResult};
+ghost use Rattle.std.specs.Option.{option_and_then};
+ghost use Rattle.std.specs.Result.{result_ok};
+ghost use Rattle.jws_form.specs.Compact.{IsCompact};
+ghost use Rattle.jws_form.specs.Splitting.{splitting};
+ghost use Rattle.sealed.specs.Deciding.{is_sealed_by};
+ghost use Rattle.sealed.specs.Seals.{IsSealedBy};
+ghost use Rattle.trust_mark.specs.Claims.{mark_claims};
+ghost use Rattle.trust_mark.specs.Counts.{counted, tests_under};
+ghost use Rattle.trust_mark.specs.Stages.{Tells};
+ghost use Rattle.authority_core.specs.Nodes.{node_of};
+ghost use Rattle.authority_core.specs.Stages.{IsMarkRead};
+ghost use Rattle.authority_core.specs.Statuses.{has_ended, if_issued_by, mark_by, own_mark, standing, status_of, status_tests};
+
+use crate::query::is_among;
+use entity_id::EntityId;
+use fed_base::{Ledger, Memory, Steps, Text};
+use jwk_set::JwkSet;
+use jws_form::{Compact, FormFault, split};
+use key_ring::KeyRing;
+use node_config::NodeConfig;
+use sealed::{SealFault, Sealed, check_sealed};
+use std::alloc::Global;
+use trust_mark::{Mark, MarkFault, MarkStatus};
+
+/// What has become of the mark, at a moment in seconds since 1970.
+#[tactic(auto, unfolding(crate::specs::Statuses::status_of))]
+pub(crate) fn status_of<L: Ledger>(
+    alloc: Global,
+    node: &NodeConfig,
+    ring: &KeyRing,
+    t: u64,
+    text: &Text,
+    steps: &mut Steps<L>,
+) -> Result<MarkStatus, Memory>
+    ensures status { IfOk result (λ status. status ≡ status_of (node_of node.now ring.now) t text.now) }
+    ensures counted { MatchResult result
+        (λ _. L.count steps.new.ledger ≡ counted (status_tests (node_of node.now ring.now) text.now) (L.count steps.old.ledger))
+        (λ _. L.count steps.new.ledger ≡ L.count steps.old.ledger) }
+{
+    match own_mark(alloc, node, ring, text, steps)? {
+        Some(mark) => Ok(standing(node, t, text, &mark)),
+        None => Ok(MarkStatus::Invalid),
+    }
+}
+
+// What has become of a mark of the node's own.
+fn standing(node: &NodeConfig, t: u64, text: &Text, mark: &Mark) -> MarkStatus
+    ensures { result ≡ standing node.now.revoked t text.now mark.now }
+{
+    if is_among(node.revoked.as_slice(), text) {
+        MarkStatus::Revoked
+    } else if has_ended(t, mark) {
+        MarkStatus::Expired
+    } else {
+        MarkStatus::Active
+    }
+}
+
+// Whether the mark has ended.
+fn has_ended(t: u64, mark: &Mark) -> bool
+    ensures { result ≡ has_ended t mark.now }
+{
+    match mark.exp {
+        Some(exp) => exp <= t,
+        None => false,
+    }
+}
+
+// The mark of the node's own that the text is.
+fn own_mark<L: Ledger>(
+    alloc: Global,
+    node: &NodeConfig,
+    ring: &KeyRing,
+    text: &Text,
+    steps: &mut Steps<L>,
+) -> Result<Option<Mark>, Memory>
+    ensures mark { IfOk result (λ mark. mark ≡ own_mark (node_of node.now ring.now) text.now) }
+    ensures counted { MatchResult result
+        (λ _. L.count steps.new.ledger ≡ counted (status_tests (node_of node.now ring.now) text.now) (L.count steps.old.ledger))
+        (λ _. L.count steps.new.ledger ≡ L.count steps.old.ledger) }
+{
+    let Some(read) = mark_by(alloc, &node.id, text)? else {
+        return Ok(None);
+    };
+    let kept = ring.kept_set(alloc)?;
+    if !is_sealed(alloc, &read.compact, &kept, steps)? {
+        return Ok(None);
+    }
+    Ok(Some(read.mark))
+}
+
+// A mark and the parts of the text that it was read from.
+#[derive(Drop)]
+struct ReadMark {
+    compact: Compact,
+    mark: Mark,
+}
+
+// The mark that the text reads as, where it names that issuer.
+#[tactic(auto, unfolding(crate::specs::Statuses::mark_by, trust_mark::specs::Marks::mark_of))]
+fn mark_by(alloc: Global, id: &EntityId, text: &Text) -> Result<Option<ReadMark>, Memory>
+    ensures { IfOk result (IsMarkRead id.now text.now) }
+{
+    let Some(compact) = parts(alloc, text)? else {
+        return Ok(None);
+    };
+    match mark_in(alloc, id, &compact)? {
+        Some(mark) => Ok(Some(ReadMark { compact, mark })),
+        None => Ok(None),
+    }
+}
+
+// The mark that the parts of a text are, where it names that issuer.
+fn mark_in(alloc: Global, id: &EntityId, compact: &Compact) -> Result<Option<Mark>, Memory>
+    ensures { IfOk result (λ mark. mark ≡ option_and_then (if_issued_by id.now) (result_ok (mark_claims compact.now))) }
+{
+    match Mark::read(alloc, compact) {
+        Ok(mark) => {
+            if mark.iss.text() == id.text() {
+                Ok(Some(mark))
+            } else {
+                Ok(None)
+            }
+        }
+        Err(MarkFault::Memory) => Err(Memory),
+        Err(_) => Ok(None),
+    }
+}
+
+// The parts of a compact text, and `None` where it is none.
+fn parts(alloc: Global, text: &Text) -> Result<Option<Compact>, Memory>
+    ensures exact { IfOk result (λ compact. compact ≡ result_ok (splitting text.now)) }
+    ensures found { IfOk result (λ compact. IfSome compact (IsCompact text.now)) }
+{
+    match split(alloc, text.as_slice()) {
+        Ok(compact) => Ok(Some(compact)),
+        Err(FormFault::Memory) => Err(Memory),
+        Err(_) => Ok(None),
+    }
+}
+
+// Whether the text verifies under the own key of the set that its header names. One test is counted where it names one.
+fn is_sealed<L: Ledger>(
+    alloc: Global,
+    compact: &Compact,
+    set: &JwkSet,
+    steps: &mut Steps<L>,
+) -> Result<bool, Memory>
+    requires { IsCompact compact.now.whole compact.now }
+    ensures sealed { IfOk result (λ sealed. IsTrue sealed ↔ IsSealedBy compact.now.whole set.now.keys) }
+    ensures test { IfOk result (λ sealed. sealed ≡ is_sealed_by compact.now.whole set.now.keys) }
+    ensures counted { MatchResult result
+        (λ _. L.count steps.new.ledger ≡ counted (tests_under set.now.keys compact.now.whole) (L.count steps.old.ledger))
+        (λ _. L.count steps.new.ledger ≡ L.count steps.old.ledger) }
+{
+    was_sealed(check_sealed(alloc, compact, set, steps))
+}
+
+// Whether a check found a seal, unless memory was wanting.
+fn was_sealed(checked: Result<Sealed, SealFault>) -> Result<bool, Memory>
+    ensures { Tells checked result }
+{
+    match checked {
+        Ok(_) => Ok(true),
+        Err(SealFault::Memory) => Err(Memory),
+        Err(_) => Ok(false),
+    }
+}
