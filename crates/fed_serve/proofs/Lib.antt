@@ -1,0 +1,5 @@
+pub mod Asking
+pub mod Outcomes
+pub mod Sameness
+pub mod Statuses
+pub mod Utf8

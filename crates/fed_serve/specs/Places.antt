@@ -1,0 +1,11 @@
+-- Where a node is asked.
+use Rattle.std.specs.Prelude.{ℕ, List, [], None}
+use Rattle.std.specs.Option.{option_map_or}
+use Rattle.std.specs.Result.{result_ok}
+use Rattle.url.specs.Parser.{parse_url}
+use Rattle.entity_id.specs.Urls.{base_of}
+use Rattle.entity_statement.specs.Claims.{Identifier}
+
+-- the path of the URL that an identifier is (URL Standard section 4.1), without the slash at its end
+unfoldable pub node_path : Identifier → List ℕ
+node_path id = base_of (option_map_or (λ url. url.path) (result_ok (parse_url None id)) [])

@@ -1,0 +1,54 @@
+-- What each handling of a request is answered with (OpenID Federation 1.0 section 8.9).
+use Rattle.std.specs.Prelude.{ℕ, List, ◌++◌, codes, Option, Some, None, is_some, if◌then◌else◌}
+use Rattle.http_plain.specs.declared.response.Media.TheVariants.{Json}
+use Rattle.http_plain.specs.declared.response.Response.{Response}
+use Rattle.authority_core.specs.Answers.{configuration_response, fetch_response, historical_response, list_response, status_response}
+use Rattle.authority_core.specs.Nodes.{Node, registered}
+use Rattle.authority_core.specs.Statuses.{status_tests}
+use Rattle.fed_serve.specs.declared.asked.Asked.{Asked}
+use Rattle.fed_serve.specs.declared.asked.Asked.TheVariants as asked
+use Rattle.fed_serve.specs.Handlings.{Handling, unread, not_asked, issued}
+
+-- a refusal, with its body
+abbrev pub refusal : ℕ → List ℕ → List ℕ → Response
+refusal status error description = record {
+  status = status;
+  media = Json;
+  body = codes "{\"error\":\"" ++ error ++ codes "\",\"error_description\":\"" ++ description ++ codes "\"}";
+}
+
+-- it is no request of the node
+abbrev pub not_a_request : Response
+not_a_request = refusal 400 (codes "invalid_request") (codes "not a request of this node")
+
+-- memory was wanting
+abbrev pub out_of_memory : Response
+out_of_memory = refusal 507 (codes "server_error") (codes "out of memory")
+
+-- what the node answers as an authority at the moment
+abbrev pub issued_response : Node → ℕ → Asked → Response
+issued_response node t asked.Configuration = configuration_response node t
+issued_response node t (asked.Fetch sub) = fetch_response node t sub
+issued_response node t (asked.List query) = list_response node query
+issued_response node t asked.HistoricalKeys = historical_response node t
+issued_response node t (asked.Status mark) = status_response node t mark
+
+-- the response to a handling, where it has one of its own
+abbrev pub response_of : Node → ℕ → Handling → Option Response
+response_of node t unread = None
+response_of node t not_asked = Some not_a_request
+response_of node t (issued asked) = Some (issued_response node t asked)
+
+-- its status: 404 to a fetch where no subordinate has that identifier
+abbrev pub status_of : Node → Asked → ℕ
+status_of node (asked.Fetch sub) = if is_some (registered sub node.settings) then 200 else 404
+status_of node asked = 200
+
+-- how many signatures are tested for it: that of a mark at most
+abbrev pub tests_asked : Node → Asked → ℕ
+tests_asked node (asked.Status mark) = status_tests node mark
+tests_asked node asked = 0
+
+abbrev pub tests_of : Node → Handling → ℕ
+tests_of node (issued asked) = tests_asked node asked
+tests_of node handling = 0

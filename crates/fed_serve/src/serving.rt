@@ -1,0 +1,74 @@
+// One connection.
+
+ghost use Rattle.std.specs.Prelude.{◌≡◌};
+ghost use Rattle.fed_serve.specs.Moments.{around, clock_at, peer_at};
+ghost use Rattle.fed_serve.specs.Serving.{Serves};
+ghost use Rattle.fed_serve.specs.Steps.{IsReading};
+
+use crate::answer::answer_to;
+use crate::kind::Served;
+use crate::node::Node;
+use crate::send::send;
+use fed_ports::{Clock, Ledger, Peer, Steps};
+use http_plain::{Incoming, ReadEnd, read_request};
+use std::alloc::Global;
+use thiserror::Error;
+
+/// Why no response was written whole.
+#[derive(Clone, Copy, Debug, PartialEq, Eq, Drop, Error)]
+pub enum ServeFault {
+    /// The peer failed to give bytes: its count of failed reads rose in the call, or stands at its last value, 2^64 - 1. Nothing was
+    /// written.
+    #[error("the request could not be read")]
+    ReadFault,
+    /// The peer failed to take bytes: its count of failed writes rose in the call, or stands at its last value, 2^64 - 1. A prefix of the
+    /// response was written.
+    #[error("the response could not be written")]
+    WriteFault,
+    /// The peer's bytes ended before the request did. Nothing was written.
+    #[error("the request ends early")]
+    Ended,
+    /// A shared object has counted this many calls, which are all that it can. Nothing was written. No call answers it yet, since none
+    /// uses a shared object.
+    #[error("a shared object is worn")]
+    Worn(u64),
+}
+
+// Reads a request; none where memory was wanting for it.
+fn read<P: Peer>(alloc: Global, peer: &mut P) -> Result<Option<Incoming>, ServeFault>
+    ensures { IsReading
+        (peer_at (P.left peer.old) (P.held peer.old) (P.read_faults peer.old) (P.write_faults peer.old))
+        (peer_at (P.left peer.new) (P.held peer.new) (P.read_faults peer.new) (P.write_faults peer.new))
+        result }
+{
+    match read_request(alloc, peer) {
+        Ok(incoming) => Ok(Some(incoming)),
+        Err(ReadEnd::Memory) => Ok(None),
+        Err(ReadEnd::ReadFault) => Err(ServeFault::ReadFault),
+        Err(ReadEnd::Ended) => Err(ServeFault::Ended),
+    }
+}
+
+/// Serves one connection: reads a request, reads the clock once, and writes one response. What can't be read whole is answered with
+/// nothing, and the clock isn't read then. What is no request of the node is answered 400 `invalid_request`, and want of memory 507,
+/// which takes no memory. The runtime is for what waits, which nothing does yet.
+pub fn serve_one<R, P: Peer, C: Clock, G: Ledger>(
+    node: &Node,
+    _rt: &R,
+    alloc: Global,
+    peer: &mut P,
+    clock: &mut C,
+    steps: &mut Steps<G>,
+) -> Result<Served, ServeFault>
+    ensures { Serves node.now.registry
+        (around (peer_at (P.left peer.old) (P.held peer.old) (P.read_faults peer.old) (P.write_faults peer.old))
+        (clock_at (C.readings clock.old) (C.last clock.old) (C.told clock.old)) (G.count steps.old.ledger))
+        (around (peer_at (P.left peer.new) (P.held peer.new) (P.read_faults peer.new) (P.write_faults peer.new))
+        (clock_at (C.readings clock.new) (C.last clock.new) (C.told clock.new)) (G.count steps.new.ledger))
+        result }
+{
+    let came = read(alloc, peer)?;
+    let t = clock.now();
+    let answer = answer_to(&node.registry, alloc, t, &came, steps);
+    send(alloc, peer, &answer)
+}
