@@ -1,0 +1,53 @@
+-- Connections that were served, and others after them.
+use Rattle.std.proofs.Common.{rules, ◌≡◌, ◌+◌, ℕ, List, [], ◌∷◌, ◌++◌, length, map, Option, Some, None, option_map, refl, sym, ap, ap₂, ◌∙◌, subst, append_assoc, append-nil, length-append}
+use Rattle.std.proofs.lemmas.List.{map-append}
+use Rattle.std.specs.List.{AllByRecursion}
+use Rattle.fed_ports.specs.Lists.{Added, Gave}
+use Rattle.authority_core.specs.Nodes.{Node}
+use Rattle.fed_serve.specs.Moments.{ClockAt, PeerAt}
+use Rattle.node_service.specs.Connections.{AreServed, Connection, ReadInTurn, ServiceAt, Serves, came_of, gone_of}
+
+gave_after : {A : Type 0} (xs ys : List A) (a b c : Option (List A)) → Gave a xs b → Gave b ys c → Gave a (xs ++ ys) c
+gave_after xs ys a b None one next = one ∙ ap (option_map (λ rest. xs ++ rest)) next
+gave_after xs ys a b (Some rest) one next = one ∙ ap (option_map (λ rest. xs ++ rest)) next ∙ ap Some (sym (append_assoc xs ys rest))
+
+added_after : {A : Type 0} (xs ys : List A) (a b c : Option (List A)) → Added a xs b → Added b ys c → Added a (xs ++ ys) c
+added_after xs ys None b c one next = next ∙ ap (option_map (λ held. held ++ ys)) one
+added_after xs ys (Some held) b c one next = next ∙ ap (option_map (λ held. held ++ ys)) one ∙ ap Some (append_assoc held xs ys)
+
+all_after : {A : Type 0} (P : A → Type 0) (xs ys : List A) → AllByRecursion P xs → AllByRecursion P ys → AllByRecursion P (xs ++ ys)
+all_after P [] ys one next = next
+all_after P (x ∷ xs) ys one next = (one.0, all_after P xs ys one.1 next)
+
+read_after : {P : Type 0} (cs ds : List (Connection P)) (a b c : ClockAt) → ReadInTurn a cs b → ReadInTurn b ds c → ReadInTurn a (cs ++ ds) c
+read_after [] ds a b c one next = subst (λ clock. ReadInTurn clock ds c) one next
+read_after (x ∷ cs) ds a b c one next = (one.0, read_after cs ds x.clock' b c one.1 next)
+
+served_after : {P : Type 0} (at : P → PeerAt) (node : Node) (cs ds : List (Connection P)) (a b c : ServiceAt P) → AreServed at node cs a b → AreServed at node ds b c
+    → AreServed at node (cs ++ ds) a c
+served_after at node cs ds a b c one next = record {
+  accepted = subst (λ came. Gave a.callers came c.callers) (sym (map-append came_of cs ds)) (gave_after (map came_of cs) (map came_of ds) a.callers b.callers c.callers one.accepted next.accepted);
+  answered = all_after _ cs ds one.answered next.answered;
+  settled = subst (λ gone. Added a.settled gone c.settled) (sym (map-append gone_of cs ds)) (added_after (map gone_of cs) (map gone_of ds) a.settled b.settled c.settled one.settled next.settled);
+  clocks = read_after cs ds a.clock b.clock c.clock one.clocks next.clocks;
+}
+
+-- so many were served, and then others
+pub serves_more : {P : Type 0} (at : P → PeerAt) (node : Node) (m n : ℕ) (a b c : ServiceAt P) → Serves at node m a b → Serves at node n b c → Serves at node (m + n) a c
+serves_more at node m n a b c one next =
+    (one.0 ++ next.0, length-append one.0 next.0 ∙ ap₂ (λ i j. i + j) one.1 next.1, served_after at node one.0 next.0 a b c one.2 next.2)
+
+gave_none : {A : Type 0} (a : Option (List A)) → Gave a [] a
+gave_none None = refl
+gave_none (Some xs) = refl
+
+added_none : {A : Type 0} (a : Option (List A)) → Added a [] a
+added_none None = refl
+added_none (Some xs) = ap Some (sym (append-nil xs))
+
+-- before the first, none was served
+pub serves_none : {P : Type 0} (at : P → PeerAt) (node : Node) (a : ServiceAt P) → Serves at node 0 a a
+serves_none at node a = ([], refl, record { accepted = gave_none a.callers; answered = tt; settled = added_none a.settled; clocks = refl })
+
+pub serves_all : {P : Type 0} (at : P → PeerAt) (node : Node) (m n : ℕ) (a b : ServiceAt P) → m ≡ n → Serves at node m a b → Serves at node n a b
+serves_all at node m n a b same served = (served.0, served.1 ∙ same, served.2)

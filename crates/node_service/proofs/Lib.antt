@@ -1,0 +1,3 @@
+mod ConnectionLaws
+mod EndLaws
+mod NodeLaws

@@ -1,0 +1,56 @@
+-- Connections that are accepted, served and settled, one after the other.
+use Rattle.std.specs.Prelude.{◌≡◌, ℕ, List, [], ◌∷◌, length, map, Option, Result}
+use Rattle.std.specs.List.{AllByRecursion}
+use Rattle.fed_ports.specs.Lists.{Added, Gave}
+use Rattle.authority_core.specs.Nodes.{Node}
+use Rattle.fed_serve.specs.Moments.{ClockAt, PeerAt}
+use Rattle.fed_serve.specs.Serving.{Serves as ServesOne}
+use Rattle.fed_serve.specs.declared.kind.Served.{Served}
+use Rattle.fed_serve.specs.declared.serving.ServeFault.{ServeFault}
+
+-- one connection: the peer as it was accepted and as it was settled, the clock and the count of tested signatures before and after, and
+-- what was answered
+pub record Connection (P : Type 0) : Type 0 where
+  pub came : P
+  pub gone : P
+  pub clock : ClockAt
+  pub clock' : ClockAt
+  pub tests : ℕ
+  pub tests' : ℕ
+  pub result : Result Served ServeFault
+
+abbrev pub came_of : {P : Type 0} → Connection P → P
+came_of c = c.came
+
+abbrev pub gone_of : {P : Type 0} → Connection P → P
+gone_of c = c.gone
+
+-- a service at one moment: the callers to come and those that were settled, where the network tells them, and the clock
+pub record ServiceAt (P : Type 0) : Type 0 where
+  pub callers : Option (List P)
+  pub settled : Option (List P)
+  pub clock : ClockAt
+
+abbrev pub service_at : {P : Type 0} → Option (List P) → Option (List P) → ClockAt → ServiceAt P
+service_at callers settled clock = record { callers = callers; settled = settled; clock = clock }
+
+-- the node answered the connection, whose peers are seen so
+abbrev pub IsAnswered : {P : Type 0} → (P → PeerAt) → Node → Connection P → Type 0
+IsAnswered at node c =
+    ServesOne node (record { peer = at c.came; clock = c.clock; tests = c.tests }) (record { peer = at c.gone; clock = c.clock'; tests = c.tests' }) c.result
+
+-- one clock is read by each connection in turn, and by nothing else
+abbrev pub ReadInTurn : {P : Type 0} → ClockAt → List (Connection P) → ClockAt → Type 0
+ReadInTurn before [] now = now ≡ before
+ReadInTurn before (c ∷ cs) now = (c.clock ≡ before) × ReadInTurn c.clock' cs now
+
+-- these connections, the first of the callers to come, were accepted, answered and settled in order
+pub record AreServed {P : Type 0} (at : P → PeerAt) (node : Node) (connections : List (Connection P)) (before now : ServiceAt P) : Type 0 where
+  pub accepted : Gave before.callers (map came_of connections) now.callers
+  pub answered : AllByRecursion (IsAnswered at node) connections
+  pub settled : Added before.settled (map gone_of connections) now.settled
+  pub clocks : ReadInTurn before.clock connections now.clock
+
+-- so many were
+abbrev pub Serves : {P : Type 0} → (P → PeerAt) → Node → ℕ → ServiceAt P → ServiceAt P → Type 0
+Serves {P} at node n before now = (connections : List (Connection P)) × (length connections ≡ n) × AreServed at node connections before now

@@ -1,0 +1,9 @@
+//! Layer 7, program: what a node does with its files and its network. A node is opened from its configuration file and the ring file that
+//! this names, and answers connection after connection (OpenID Federation 1.0 section 8).
+#![tactic(auto)]
+
+mod connections;
+mod node_files;
+mod service;
+
+pub use service::{ServiceEnd, serve_authority};

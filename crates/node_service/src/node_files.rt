@@ -1,0 +1,162 @@
+// The node of a configuration file and of the ring file that it names.
+
+ghost use Rattle.std.specs.Prelude.{◌≡◌, IfOk, Ok, Some};
+ghost use Rattle.fed_json.specs.Forms.{IsWellFormed};
+ghost use Rattle.fed_json.specs.Reading.{tree_in};
+ghost use Rattle.key_ring.specs.Files.{Opens};
+ghost use Rattle.authority_core.specs.Configurations.{node_in};
+ghost use Rattle.node_service.specs.NodeFiles.{Answers, Counts, IsAuthorityAlone, IsNodeFor, IsNodeOf, IsReadAs, IsRingFor, IsRingOf, fault_of};
+
+use authority_core::Registry;
+use fed_json::{Json, TreeFault, object_members, read_tree, text_at};
+use fed_ports::{Memory, Store, StoreFault, Text};
+use key_ring::{KeyRing, RingFault};
+use node_config::ConfigFault;
+use std::alloc::Global;
+
+/// Why there is no node.
+#[derive(Clone, Copy, Debug, PartialEq, Eq)]
+pub enum NodeFault {
+    /// A file isn't there, is too long, or isn't of its form.
+    Input,
+    /// The store failed.
+    Store,
+    /// Memory was wanting.
+    Memory,
+}
+
+impl From<Memory> for NodeFault {
+    ghost use Rattle.node_service.specs.declared.node_files.NodeFault.TheVariants.{Memory as WantOfMemory};
+
+    ghost from_gives = { λ _ fault. fault ≡ WantOfMemory };
+
+    fn from(_: Memory) -> NodeFault {
+        NodeFault::Memory
+    }
+}
+
+// The bytes of the file of that name.
+fn read_file<D: Store>(alloc: Global, name: &Text, store: &mut D) -> Result<Text, NodeFault>
+    ensures read { Answers (D.files store.old) (IsReadAs (D.files store.old) name.now) result }
+    ensures files { D.files store.new ≡ D.files store.old }
+    ensures counts { Counts (D.store_faults store.old) (D.store_faults store.new) result }
+{
+    match store.load(alloc, name) {
+        Ok(Some(bytes)) => Ok(bytes),
+        Ok(None) | Err(StoreFault::TooLong) => Err(NodeFault::Input),
+        Err(StoreFault::Failed) => Err(NodeFault::Store),
+        Err(StoreFault::Memory) => Err(NodeFault::Memory),
+    }
+}
+
+// The tree of a configuration file, whose bytes are let go once it is read.
+fn read_config(alloc: Global, bytes: Text) -> Result<Json, NodeFault>
+    ensures tree { (files : _) → Answers files (λ tree. tree_in bytes ≡ Some tree) result }
+    ensures well_formed { IfOk result IsWellFormed }
+    ensures steady { (count : _) → Counts count count result }
+{
+    match read_tree(alloc, bytes.as_slice()) {
+        Ok(tree) => Ok(tree),
+        Err(TreeFault::Syntax) => Err(NodeFault::Input),
+        Err(TreeFault::Memory) => Err(NodeFault::Memory),
+    }
+}
+
+// The ring of a file's bytes.
+fn read_ring(alloc: Global, bytes: Text) -> Result<KeyRing, NodeFault>
+    ensures ring { (files : _) → Answers files (λ ring. Opens bytes (Ok ring)) result }
+    ensures steady { (count : _) → Counts count count result }
+{
+    match KeyRing::open(alloc, bytes.as_slice()) {
+        Ok(ring) => Ok(ring),
+        Err(fault) => Err(fault_of(&fault)),
+    }
+}
+
+fn fault_of(fault: &RingFault) -> NodeFault
+    ensures { result ≡ fault_of fault.now }
+{
+    match fault {
+        RingFault::Shape | RingFault::Known(_) => NodeFault::Input,
+        _ => NodeFault::Memory,
+    }
+}
+
+// The ring of the file of that name.
+fn open_ring<D: Store>(alloc: Global, name: &Text, store: &mut D) -> Result<KeyRing, NodeFault>
+    ensures ring { Answers (D.files store.old) (IsRingOf (D.files store.old) name.now) result }
+    ensures files { D.files store.new ≡ D.files store.old }
+    ensures counts { Counts (D.store_faults store.old) (D.store_faults store.new) result }
+{
+    let bytes = read_file(alloc, name, store)?;
+    read_ring(alloc, bytes)
+}
+
+// The ring that a configuration names.
+fn ring_for<D: Store>(alloc: Global, config: &Json, store: &mut D) -> Result<KeyRing, NodeFault>
+    requires { IsWellFormed config.now }
+    ensures ring { Answers (D.files store.old) (IsRingFor (D.files store.old) config.now) result }
+    ensures files { D.files store.new ≡ D.files store.old }
+    ensures counts { Counts (D.store_faults store.old) (D.store_faults store.new) result }
+{
+    match text_at(object_members(config), b"ring") {
+        Some(name) => open_ring(alloc, name, store),
+        None => Err(NodeFault::Input),
+    }
+}
+
+// The node of a configuration and its ring.
+fn registry(alloc: Global, config: &Json, ring: KeyRing) -> Result<Registry, NodeFault>
+    requires { IsWellFormed config.now }
+    ensures node { (files : _) → Answers files (λ node. node_in config.now ring ≡ Ok node) result }
+    ensures steady { (count : _) → Counts count count result }
+{
+    match Registry::read(alloc, config, ring) {
+        Ok(registry) => Ok(registry),
+        Err(ConfigFault::Shape(_)) => Err(NodeFault::Input),
+        Err(ConfigFault::Memory) => Err(NodeFault::Memory),
+    }
+}
+
+// The node of a configuration.
+fn node_for<D: Store>(alloc: Global, bytes: Text, store: &mut D) -> Result<Registry, NodeFault>
+    ensures node { Answers (D.files store.old) (IsNodeFor (D.files store.old) bytes) result }
+    ensures files { D.files store.new ≡ D.files store.old }
+    ensures counts { Counts (D.store_faults store.old) (D.store_faults store.new) result }
+{
+    let config = read_config(alloc, bytes)?;
+    let ring = ring_for(alloc, &config, store)?;
+    registry(alloc, &config, ring)
+}
+
+/// The node of the configuration file of that name and of the ring file that it names, or why there is none. No file is changed.
+pub fn open_node<D: Store>(
+    alloc: Global,
+    config: &Text,
+    store: &mut D,
+) -> Result<Registry, NodeFault>
+    ensures node { Answers (D.files store.old) (IsNodeOf (D.files store.old) config.now) result }
+    ensures files { D.files store.new ≡ D.files store.old }
+    ensures counts { Counts (D.store_faults store.old) (D.store_faults store.new) result }
+{
+    let bytes = read_file(alloc, config, store)?;
+    node_for(alloc, bytes, store)
+}
+
+/// The node of the configuration file of that name, where it is an authority alone.
+pub fn open_authority<D: Store>(
+    alloc: Global,
+    config: &Text,
+    store: &mut D,
+) -> Result<Registry, NodeFault>
+    ensures node { Answers (D.files store.old) (λ node. IsNodeOf (D.files store.old) config.now node × IsAuthorityAlone node) result }
+    ensures files { D.files store.new ≡ D.files store.old }
+    ensures counts { Counts (D.store_faults store.old) (D.store_faults store.new) result }
+{
+    let registry = open_node(alloc, config, store)?;
+    if registry.resolver_config().is_some() {
+        Err(NodeFault::Input)
+    } else {
+        Ok(registry)
+    }
+}

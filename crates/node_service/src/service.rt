@@ -1,0 +1,108 @@
+// A node that answers connection after connection.
+
+ghost use Rattle.std.specs.Prelude.{◌≡◌};
+ghost use Rattle.fed_serve.specs.Moments.{clock_at, peer_at};
+ghost use Rattle.node_service.specs.Connections.{service_at};
+ghost use Rattle.node_service.specs.Ends.{Ends, EndsOf};
+
+use crate::connections::{Stop, serve_connections};
+use crate::node_files::{NodeFault, open_authority};
+use fed_ports::{Clock, Network, Store, Text};
+use fed_serve::Node;
+use std::alloc::Global;
+
+/// How serving ended.
+#[derive(Clone, Copy, Debug, PartialEq, Eq)]
+pub enum ServiceEnd {
+    /// All connections were served.
+    Served,
+    /// The configuration file or the ring file that it names isn't there, is too long, or isn't of its form; or the node isn't of the kind
+    /// that was asked for.
+    Input,
+    /// The store failed.
+    StoreFailed,
+    /// The network failed to listen, or to accept a connection.
+    NetworkFailed,
+    /// Memory was wanting.
+    Memory,
+}
+
+impl From<NodeFault> for ServiceEnd {
+    ghost use Rattle.node_service.specs.Ends.{end_without_node};
+
+    ghost from_gives = { λ fault end. end ≡ end_without_node fault };
+
+    fn from(fault: NodeFault) -> ServiceEnd {
+        match fault {
+            NodeFault::Input => ServiceEnd::Input,
+            NodeFault::Store => ServiceEnd::StoreFailed,
+            NodeFault::Memory => ServiceEnd::Memory,
+        }
+    }
+}
+
+/// Answers so many connections on a port, one after the other, as the authority of a configuration file. The node is read from that file
+/// and the ring file that it names, once, before the port is taken. What becomes of one connection ends nothing.
+pub fn serve_authority<R, D: Store, N: Network, C: Clock>(
+    rt: &R,
+    alloc: Global,
+    config: &Text,
+    port: u16,
+    connections: u64,
+    store: &mut D,
+    net: &mut N,
+    clock: &mut C,
+) -> ServiceEnd
+    ensures { Ends
+        (λ peer. peer_at (N.Peer.left peer) (N.Peer.held peer) (N.Peer.read_faults peer) (N.Peer.write_faults peer))
+        (record { config = config.now; connections = connections })
+        (record {
+          files = D.files store.old;
+          service = service_at (N.callers net.old) (N.settled net.old) (clock_at (C.readings clock.old) (C.last clock.old) (C.told clock.old));
+          store_faults = D.store_faults store.old;
+          network_faults = N.faults net.old;
+        })
+        (record {
+          files = D.files store.new;
+          service = service_at (N.callers net.new) (N.settled net.new) (clock_at (C.readings clock.new) (C.last clock.new) (C.told clock.new));
+          store_faults = D.store_faults store.new;
+          network_faults = N.faults net.new;
+        }) result }
+{
+    match open_authority(alloc, config, store) {
+        Ok(registry) => serve_node(&Node { registry }, rt, alloc, port, connections, net, clock),
+        Err(fault) => ServiceEnd::from(fault),
+    }
+}
+
+// Takes the port and answers the connections.
+fn serve_node<R, N: Network, C: Clock>(
+    node: &Node,
+    rt: &R,
+    alloc: Global,
+    port: u16,
+    connections: u64,
+    net: &mut N,
+    clock: &mut C,
+) -> ServiceEnd
+    ensures { EndsOf
+        (λ peer. peer_at (N.Peer.left peer) (N.Peer.held peer) (N.Peer.read_faults peer) (N.Peer.write_faults peer))
+        node.now.registry connections
+        (record {
+          service = service_at (N.callers net.old) (N.settled net.old) (clock_at (C.readings clock.old) (C.last clock.old) (C.told clock.old));
+          faults = N.faults net.old;
+        })
+        (record {
+          service = service_at (N.callers net.new) (N.settled net.new) (clock_at (C.readings clock.new) (C.last clock.new) (C.told clock.new));
+          faults = N.faults net.new;
+        }) result }
+{
+    if net.listen(port).is_err() {
+        return ServiceEnd::NetworkFailed;
+    }
+    match serve_connections(node, rt, alloc, net, clock, connections) {
+        Ok(()) => ServiceEnd::Served,
+        Err(Stop::Network) => ServiceEnd::NetworkFailed,
+        Err(Stop::Memory) => ServiceEnd::Memory,
+    }
+}
