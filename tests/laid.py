@@ -1,6 +1,7 @@
 """Trials of a small program over this repository's crates that isn't one of them, since what it does varies from run to run."""
 
 import os
+import random
 import re
 import shutil
 import socket
@@ -62,15 +63,20 @@ def tell(what, so):
 
 
 def free_port():
-    """Gives a port on which nobody listens, and that no other row was given."""
+    """Gives a port on which nobody listens, and that no other row was given. It is below those that Linux gives outgoing connections, so that
+    no connection of another row takes it before a server listens there."""
     while True:
-        with socket.socket() as it:
-            it.bind(("127.0.0.1", 0))
-            port = it.getsockname()[1]
+        port = random.randrange(20000, 32768)
         with lock:
-            if port not in given:
-                given.add(port)
-                return port
+            if port in given:
+                continue
+            given.add(port)
+        with socket.socket() as it:
+            try:
+                it.bind(("127.0.0.1", port))
+            except OSError:
+                continue
+        return port
 
 
 def guarded(row):

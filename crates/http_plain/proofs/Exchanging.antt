@@ -10,7 +10,7 @@ use Rattle.http_plain.specs.declared.route.Route.{Route}
 use Rattle.http_plain.specs.Asked.{AsksPart, SentPart, asked_of, asking}
 use Rattle.http_plain.specs.ExchangeLaws.{changed_same, changed_on}
 use Rattle.http_plain.specs.Flows.{BreakCause}
-use Rattle.http_plain.specs.Links.{AddsExchange, Answers, Gets}
+use Rattle.http_plain.specs.Links.{AddsExchange, Answers, Gets, Leaves}
 use Rattle.http_plain.specs.Plans.{SaysTarget}
 use Rattle.http_plain.specs.Shown.{Shows}
 
@@ -139,3 +139,18 @@ err_part (Err x) e p = p
 pub left_if : {T E : Type 0} {P : Type 0} (r : Result T E) → P → OnErr r P
 left_if (Ok x) p = tt
 left_if (Err x) p = p
+
+-- a sending that failed, after the connection was shut
+pub part_left : (a b c d : Option (List Exchange)) (to : Address) (message : List ℕ) → Added a (fresh to ∷ []) b → SentPart b message c → d ≡ c → AsksPart a d to message
+part_left a b c d to message opens part same = subst (λ o. AsksPart a o to message) (sym same) (part_asks a b c to message opens part)
+
+-- a reading that broke off, after the connection was shut
+pub whole_left : (a b c d e : Option (List Exchange)) (to : Address) (message : List ℕ) → Added a (fresh to ∷ []) b → Changed b (with_sent message) c → e ≡ d → asked_of d ≡ asked_of c → AsksPart a e to message
+whole_left a b c d e to message opens sends same asked = subst (λ o. AsksPart a o to message) (sym same) (whole_asks a b c d to message opens sends asked)
+
+-- what a call leaves that had a route and got no page
+pub leaves : (routes given : List Route) (text words : List ℕ) (old new : Option (List Exchange)) (to : Address) (message bytes : List ℕ) → given ≡ routes → words ≡ text → SaysTarget given words to message → bytes ≡ message
+    → AsksPart old new to bytes → Leaves routes text old new
+leaves routes given text words old new to message bytes all same said is h =
+    let says = subst (λ r. SaysTarget r text to message) all (subst (λ t. SaysTarget given t to message) same said) in
+    inr (record { url = says.url; to = to; reads = says.reads; address = says.address; asks = subst (AsksPart old new to) (is ∙ says.message_is) h })

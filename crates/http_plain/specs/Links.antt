@@ -1,5 +1,5 @@
 -- What a link over a network answers and leaves.
-use Rattle.std.specs.Prelude.{◌≡◌, ◌⊎◌, ℕ, false, List, [], ◌∷◌, Option}
+use Rattle.std.specs.Prelude.{◌≡◌, ◌⊎◌, ℕ, false, List, [], ◌∷◌, Option, Some}
 use Rattle.fed_ports.specs.declared.address.Address.{Address}
 use Rattle.fed_ports.specs.declared.page.Page.{Page}
 use Rattle.fed_ports.specs.declared.page.Page.TheVariants.{NoRoute}
@@ -7,7 +7,9 @@ use Rattle.fed_ports.specs.Exchanges.{Exchange}
 use Rattle.fed_ports.specs.Lists.{Added}
 use Rattle.http_plain.specs.declared.link.HttpLink.{HttpLink}
 use Rattle.http_plain.specs.declared.route.Route.{Route}
-use Rattle.http_plain.specs.Clients.{ClientPage, HasNoRoute}
+use Rattle.url.specs.Parts.{Parts}
+use Rattle.http_plain.specs.Asked.{AsksPart}
+use Rattle.http_plain.specs.Clients.{ClientPage, HasNoRoute, address_of, message_of, url_in}
 use Rattle.http_plain.specs.Pages.{IsPage}
 
 -- one exchange was added, which shows the page
@@ -26,6 +28,17 @@ abbrev pub Gets : List Route → List ℕ → Option (List Exchange) → Option 
 Gets routes text old new p =
     (HasNoRoute routes text × (p ≡ NoRoute) × (new ≡ old))
     ⊎ AddsExchange old new (λ x. ClientPage text routes x p)
+
+-- what a call leaves that got no page: the network wasn't asked, or it was for the URL alone
+pub record AsksFor (routes : List Route) (text : List ℕ) (old new : Option (List Exchange)) : Type 0 where
+  pub url : Parts
+  pub to : Address
+  pub reads : url_in text ≡ Some url
+  pub address : address_of routes url ≡ Some to
+  pub asks : AsksPart old new to (message_of url)
+
+abbrev pub Leaves : List Route → List ℕ → Option (List Exchange) → Option (List Exchange) → Type 0
+Leaves routes text old new = (new ≡ old) ⊎ AsksFor routes text old new
 
 -- the network that a link holds
 abbrev pub link_network : {N : Type 0} → HttpLink N → N

@@ -1,9 +1,10 @@
 // One exchange over a connection.
 
-ghost use Rattle.std.specs.Prelude.{◌≡◌, IfOk, OnOk};
+ghost use Rattle.std.specs.Prelude.{◌≡◌, IfOk, OnOk, OnErr};
 ghost use Rattle.fed_ports.specs.Causes.{HasCause};
 ghost use Rattle.fed_ports.specs.Exchanges.{Changed, with_sent};
 ghost use Rattle.http_plain.specs.Flows.{BreakCause};
+ghost use Rattle.http_plain.specs.Asked.{AsksPart, SentPart};
 ghost use Rattle.http_plain.specs.Links.{AddsExchange, Answers};
 
 use crate::inflow::Break;
@@ -17,6 +18,7 @@ fn send_all<T, W: Wire<T>>(net: &mut T, message: &[u8]) -> Result<(), Failed>
     requires { W.ready net.old }
     ensures open { W.ready net.new }
     ensures told { OnOk result (Changed (W.told net.old) (with_sent message.now) (W.told net.new)) }
+    ensures part { OnErr result (SentPart (W.told net.old) message.now (W.told net.new)) }
     ensures cause { HasCause (W.in_faults net.old) (W.in_faults net.new) result }
 {
     let mut at = 0;
@@ -34,6 +36,7 @@ pub(crate) fn exchange<T, W: Wire<T>>(
     message: &[u8],
 ) -> Result<Page, Break>
     ensures page { IfOk result (λ page. AddsExchange (W.told net.old) (W.told net.new) (λ x. Answers x to.now message.now page)) }
+    ensures left { OnErr result (AsksPart (W.told net.old) (W.told net.new) to.now message.now) }
     ensures shut { W.ready net.new → ⊥ }
     ensures cause { BreakCause (W.in_faults net.old) (W.in_faults net.new) result }
 {

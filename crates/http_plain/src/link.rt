@@ -1,9 +1,9 @@
 // A link over a network.
 
-ghost use Rattle.std.specs.Prelude.{◌≡◌, ◌⊎◌, None, IfOk};
+ghost use Rattle.std.specs.Prelude.{◌≡◌, ◌⊎◌, None, IfOk, OnErr};
 ghost use Rattle.fed_base.specs.Counts.{next_count};
 ghost use Rattle.fed_ports.specs.Webs.{HasLinkCause, Serves};
-ghost use Rattle.http_plain.specs.Links.{Gets, link_calls, link_network, link_routes};
+ghost use Rattle.http_plain.specs.Links.{Gets, Leaves, link_calls, link_network, link_routes};
 
 use crate::exchange::exchange;
 use crate::inflow::Break;
@@ -58,6 +58,8 @@ impl<N: Network> Link for HttpLink<N> {
         ensures cause { HasLinkCause (N.faults (link_network self.old)) (N.faults (link_network self.new)) result }
         // The page is that of the URL, the routes and the one exchange of this call; without a route nothing is opened.
         ensures page { IfOk result (λ page. Gets (link_routes self.old) url.now (N.exchanges (link_network self.old)) (N.exchanges (link_network self.new)) page) }
+        // After a fault at most one exchange was added: of the URL's address, in which a part of its message, and nothing else, was sent.
+        ensures left { OnErr result (Leaves (link_routes self.old) url.now (N.exchanges (link_network self.old)) (N.exchanges (link_network self.new))) }
         // No connection is open afterwards, or the network is as it was.
         ensures shut { (N.is_open (link_network self.new) → ⊥) ⊎ (link_network self.new ≡ link_network self.old) }
     {
