@@ -1,5 +1,6 @@
 mod BelowLaws
 mod ConfigurationLaws
+mod IssueLaws
 mod ListLaws
 mod Members
 mod MetadataLaws

@@ -1,24 +1,34 @@
 -- What is signed is what a node answers.
 use Rattle.std.proofs.Common.{◌≡◌, ◌≢◌, ◌≤◌, ◌<◌, ℕ, List, [], length, Option, Some, None, Result, Ok, Err, true, sym, ap, ◌∙◌, subst}
-use Rattle.std.specs.Prelude.{IfOk, IsSome, unwrap_or}
+use Rattle.std.specs.Prelude.{IfOk, IsSome, option_and_then, unwrap_or}
+use Rattle.std.specs.Result.{result_ok}
 use Rattle.fed_base.specs.Moments.{moment_limit}
 use Rattle.fed_base.specs.declared.faults.Memory.{Memory}
 use Rattle.http_plain.specs.declared.response.Response.{Response}
+use Rattle.fed_json.specs.Compact.{compact}
+use Rattle.fed_json.specs.Forms.{nesting}
+use Rattle.fed_json.specs.Reading.{tree_in}
+use Rattle.jws_form.specs.declared.compact.Compact.{Compact}
+use Rattle.jws_form.specs.declared.fault.FormFault.{FormFault}
 use Rattle.jws_form.specs.Compact.{max_bytes}
+use Rattle.jws_form.proofs.Laws.{IsCompact-unique, only}
 use Rattle.key_ring.specs.Rings.{Ring}
 use Rattle.key_ring.specs.Sets.{IsNamedIn, live_set}
-use Rattle.sealed.specs.Sealing.{IsSealedFor}
+use Rattle.sealed.specs.Sealing.{HasParts, IsSealedFor}
 use Rattle.sealed.specs.Seals.{IsSealedBy}
 use Rattle.node_config.specs.Subordinates.{are_below}
 use Rattle.fed_json.specs.declared.tree.Json.{Json, List as ListOf}
 use Rattle.http_plain.specs.declared.response.Media.TheVariants.{Statement, JwkSet, Status}
-use Rattle.entity_statement.specs.Table.{statement_type}
+use Rattle.entity_statement.specs.Claims.{Claims}
+use Rattle.entity_statement.specs.Signed.{statement_of}
+use Rattle.entity_statement.specs.Table.{claims_of, statement_type}
 use Rattle.key_ring.specs.Sets.{historical_keys, signer_seeds}
 use Rattle.sealed.specs.Sealing.{sealed_text}
 use Rattle.node_config.specs.Nodes.{Subordinate}
 use Rattle.trust_mark.specs.Claims.{status_type_name}
 use Rattle.authority_core.specs.Answers.{configuration_response, fetch_response, good, historical_response, not_found, statement_response, status_response}
 use Rattle.authority_core.specs.Issued.{configuration_claims, historical_claims, historical_tree, historical_type, signed_by, statement_claims}
+use Rattle.authority_core.specs.Issues.{IsIssue, IsReadable, Issue, NamesSigner, SaysAs, issue_by}
 use Rattle.authority_core.specs.Nodes.{Node, registered}
 use Rattle.authority_core.specs.ReadBack.{ReadsAs, claims_about}
 use Rattle.authority_core.specs.Statuses.{status_claims, status_of}
@@ -71,6 +81,33 @@ pub answer-live : (r : Answer) (ring : Ring) (keys : List ℕ) → signer_seeds 
 answer-live (Err e) ring keys signs named sealed = tt
 answer-live (Ok x) ring keys signs named sealed = λ short. sealed (live_set ring) (record { short = short; named = named keys signs })
 
+-- ---- what it is
+
+-- the parts of a sealed text say what is stated
+issued : (issue : Issue) (tree : Json) → HasParts issue.seeds statement_type (compact tree) issue.text → tree_in (compact tree) ≡ Some tree → ReadsAs tree issue.claims
+    → IsSealedFor issue.seeds issue.text → length issue.text ≤ max_bytes → (issue.claims.iss ≡ issue.claims.sub → NamesSigner issue.seeds issue.claims.keys) → IsIssue issue
+unfolding statement_of
+issued issue tree has back reads sealed short own =
+    let says : claims_of has.parts ≡ Ok issue.claims = reads has.parts has.typed (ap tree_in has.says ∙ back) in
+    let here : SaysAs issue has.parts = record { claims = says; signer = has.named } in
+    record {
+      reads = ap (λ (r : Result Compact FormFault). option_and_then (λ compact. result_ok (claims_of compact)) (result_ok r)) (only issue.text has.parts has.splits) ∙ ap result_ok says;
+      parts = λ other is. subst (SaysAs issue) (IsCompact-unique issue.text has.parts other has.splits is) here;
+      seals = λ keys named. sealed keys (record { short = short; named = named });
+      own = own;
+    }
+
+pub answer-issued : (r : Answer) (node : Node) (keys : List ℕ) (tree stated : Json) (claims : Claims) (small : Type 0) → signer_seeds node.ring ≡ Some keys → tree ≡ stated
+    → (small → ReadsAs tree claims) → (claims.iss ≡ claims.sub → NamesSigner keys claims.keys) → IfOk r (λ x. IsSealedFor keys x.body)
+    → IfOk r (λ x. length x.body ≤ max_bytes → HasParts keys statement_type (compact tree) x.body) → IfOk r (λ _. nesting tree ≤ 127 → tree_in (compact tree) ≡ Some tree)
+    → IfOk r (λ x. small → IsReadable x.body stated → IsIssue (issue_by node x.body claims))
+answer-issued (Err e) node keys tree stated claims small signs made reads own sealed splits back = tt
+answer-issued (Ok x) node keys tree stated claims small signs made reads own sealed splits back = λ now readable.
+    let shallow : nesting tree ≤ 127 = subst (λ y. nesting y ≤ 127) (sym made) readable.shallow in
+    let issue : Issue = record { seeds = keys; text = x.body; claims = claims } in
+    subst (λ seeds. IsIssue (record { seeds = seeds; text = x.body; claims = claims })) (sym (ap (λ o. unwrap_or o []) signs))
+    (issued issue tree (splits readable.short) (back shallow) (reads now) sealed readable.short own)
+
 -- ---- subjects that are registered, and those that aren't
 
 pub whatever : (r : Answer) (P Q : Response → Type 0) → IfOk r P → ((x : Response) → P x → Q x) → IfOk r Q
@@ -101,3 +138,21 @@ subordinate-reads r node t sub s claims below found made reads =
     let same : s ≡ other = (let e = sym found ∙ is in cc e) in
     subst (λ (y : Subordinate). ReadsAs (statement_claims node.settings y t) (claims_about node.settings y t)) same
     (subst (λ c. ReadsAs c (claims_about node.settings s t)) made (reads small (found-below node.settings.id sub node.settings.subordinates s below found))))
+
+pub stranger-issues : (r : Answer) (node : Node) (t : ℕ) (sub : List ℕ) → registered sub node.settings ≡ None
+    → IfOk r (λ x. (s : Subordinate) → registered sub node.settings ≡ Some s → t < moment_limit → IsReadable x.body (statement_claims node.settings s t)
+    → IsIssue (issue_by node x.body (claims_about node.settings s t)))
+stranger-issues r node t sub none = always r _ (λ x s found. let bad = sym none ∙ found in cc bad)
+
+pub subordinate-issues : (r : Answer) (node : Node) (t : ℕ) (sub keys : List ℕ) (s : Subordinate) (claims : Json) → signer_seeds node.ring ≡ Some keys
+    → are_below node.settings.id node.settings.subordinates ≡ true → registered sub node.settings ≡ Some s → claims ≡ statement_claims node.settings s t
+    → (t < moment_limit → node.settings.id ≢ s.entity.id → ReadsAs claims (claims_about node.settings s t)) → IfOk r (λ x. IsSealedFor keys x.body)
+    → IfOk r (λ x. length x.body ≤ max_bytes → HasParts keys statement_type (compact claims) x.body) → IfOk r (λ _. nesting claims ≤ 127 → tree_in (compact claims) ≡ Some claims)
+    → IfOk r (λ x. (other : Subordinate) → registered sub node.settings ≡ Some other → t < moment_limit → IsReadable x.body (statement_claims node.settings other t)
+    → IsIssue (issue_by node x.body (claims_about node.settings other t)))
+subordinate-issues r node t sub keys s claims signs below found made reads sealed splits back =
+    let apart = found-below node.settings.id sub node.settings.subordinates s below found in
+    whatever r _ _ (answer-issued r node keys claims (statement_claims node.settings s t) (claims_about node.settings s t) (t < moment_limit) signs made
+    (λ small. reads small apart) (λ own. absurd (apart own)) sealed splits back)
+    (λ x is other same. let one : s ≡ other = (let e = sym found ∙ same in cc e) in
+    subst (λ (y : Subordinate). t < moment_limit → IsReadable x.body (statement_claims node.settings y t) → IsIssue (issue_by node x.body (claims_about node.settings y t))) one is)

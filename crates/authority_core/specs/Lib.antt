@@ -2,6 +2,7 @@ pub mod Answers
 pub mod Configurations
 pub mod Endpoints
 pub mod Issued
+pub mod Issues
 pub mod Nodes
 pub mod ReadBack
 pub mod Stages

@@ -1,10 +1,12 @@
 // The responses of a node.
 
-ghost use Rattle.std.specs.Prelude.{◌≡◌, IfOk, Some};
+ghost use Rattle.std.specs.Prelude.{◌≡◌, ◌≤◌, IfOk, Some, length};
 ghost use Rattle.std.specs.Str.{IsUtf8};
 ghost use Rattle.fed_json.specs.Compact.{compact};
-ghost use Rattle.fed_json.specs.Forms.{IsWhole};
-ghost use Rattle.sealed.specs.Sealing.{IsObject, IsSealedFor, sealed_text};
+ghost use Rattle.fed_json.specs.Forms.{IsWhole, nesting};
+ghost use Rattle.fed_json.specs.Reading.{tree_in};
+ghost use Rattle.jws_form.specs.Compact.{max_bytes};
+ghost use Rattle.sealed.specs.Sealing.{HasParts, IsObject, IsSealedFor, sealed_text};
 ghost use Rattle.authority_core.specs.Answers.{good, not_found};
 
 use fed_base::{Memory, Seq, Text};
@@ -27,6 +29,9 @@ pub(crate) fn signed(
     requires object { IsObject claims.now }
     ensures response { IfOk result (λ response. response ≡ good media (sealed_text keys.now typ.now claims.now)) }
     ensures sealed { IfOk result (λ response. IsSealedFor keys.now response.body) }
+    ensures splits { IfOk result (λ response. length response.body ≤ max_bytes
+        → HasParts keys.now typ.now (compact claims.now) response.body) }
+    ensures reads_back { IfOk result (λ _. nesting claims.now ≤ 127 → tree_in (compact claims.now) ≡ Some claims.now) }
 {
     let typ = Text::of(alloc, typ)?;
     let body = seal(alloc, keys, &typ, claims)?;

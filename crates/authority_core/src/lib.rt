@@ -6,6 +6,7 @@
 
 mod answers;
 mod claims;
+pub mod laws;
 mod metadata;
 mod query;
 mod registry;

@@ -18,6 +18,7 @@ ghost use Rattle.trust_mark.specs.Counts.{CountsAtMost, counted};
 ghost use Rattle.authority_core.specs.Answers.{configuration_response, fetch_response, historical_response, list_response, status_response};
 ghost use Rattle.authority_core.specs.Configurations.{node_in};
 ghost use Rattle.authority_core.specs.Issued.{configuration_claims, ids_of, statement_claims};
+ghost use Rattle.authority_core.specs.Issues.{IsIssue, IsReadable, issue_by};
 ghost use Rattle.authority_core.specs.Nodes.{is_for, registered};
 ghost use Rattle.authority_core.specs.ReadBack.{ReadsAs, claims_about, own_claims};
 ghost use Rattle.authority_core.specs.Statuses.{status_tests};
@@ -115,6 +116,9 @@ impl Registry {
         // A text of the type of statements with this payload reads as what is configured.
         ensures reads_back { IfOk result (λ _. t < moment_limit
             → ReadsAs (configuration_claims self.now t) (own_claims self.now.settings (live_set self.now.ring) t)) }
+        // A body that isn't too long or too deep to be read is a statement that reads so.
+        ensures issued { IfOk result (λ response. t < moment_limit → IsReadable response.body (configuration_claims self.now t)
+            → IsIssue (issue_by self.now response.body (own_claims self.now.settings (live_set self.now.ring) t))) }
     {
         let claims = configuration_claims(alloc, &self.config, &self.ring, t)?;
         signed(
@@ -134,6 +138,10 @@ impl Registry {
         // A text of the type of statements with this payload reads as what is configured of the subordinate.
         ensures reads_back { IfOk result (λ _. (s : Subordinate) → registered sub.now self.now.settings ≡ Some s → t < moment_limit
             → ReadsAs (statement_claims self.now.settings s t) (claims_about self.now.settings s t)) }
+        // A body that isn't too long or too deep to be read is a statement that reads so.
+        ensures issued { IfOk result (λ response. (s : Subordinate) → registered sub.now self.now.settings ≡ Some s → t < moment_limit
+            → IsReadable response.body (statement_claims self.now.settings s t)
+            → IsIssue (issue_by self.now response.body (claims_about self.now.settings s t))) }
     {
         let Some(s) = registered(self.config.subordinates.as_slice(), sub) else {
             return not_found(alloc);

@@ -1,5 +1,5 @@
 -- What is sealed verifies under the signer's key.
-use Rattle.std.proofs.Common.{◌≡◌, ◌≤◌, ℕ, List, length, Option, Some, None, Result, Ok, Err, IfOk, sym, ap, ap₂, ◌∙◌, subst}
+use Rattle.std.proofs.Common.{◌≡◌, ◌≤◌, ℕ, List, length, Option, Some, None, Result, Ok, Err, IfOk, refl, sym, ap, ap₂, ◌∙◌, subst}
 use Rattle.std.specs.Option.{option_and_then}
 use Rattle.fed_base.specs.declared.faults.Memory.{Memory as NoMemory}
 use Rattle.fed_json.specs.declared.tree.Json.{Json}
@@ -18,7 +18,7 @@ use Rattle.sealed.specs.declared.fault.SealFault.{SealFault}
 use Rattle.sealed.specs.declared.fault.SealFault.TheVariants.{NoKid, NoKey, BadSignature, Memory}
 use Rattle.sealed.specs.Answers.{IsChecked, Decides}
 use Rattle.sealed.specs.Seals.{Pair, IsSealed, IsUnsealed, IsSealedBy, named_key}
-use Rattle.sealed.specs.Sealing.{IsSealedFor, header_of, signed_of, sealed_payload, signer_name}
+use Rattle.sealed.specs.Sealing.{HasParts, IsSealedFor, header_of, signed_of, sealed_payload, signer_name}
 
 -- ---- a text is one compact text
 
@@ -83,4 +83,16 @@ sealed_by (Ok text) keys typ kid payload signed signature named splits verifies 
   public = public_key P128S keys;
   named = ap (λ k. key_named k set) named ∙ can.named;
   verifies = verifies;
+}
+
+pub parted : (r : Result (List ℕ) NoMemory) (keys typ kid payload signed signature : List ℕ) → kid ≡ signer_name keys
+    → IfOk r (λ text. length text ≤ max_bytes → IsCompact text (compact_of text typ kid payload signed signature))
+    → IfOk r (λ text. length text ≤ max_bytes → HasParts keys typ payload text)
+parted (Err e) keys typ kid payload signed signature named splits = tt
+parted (Ok text) keys typ kid payload signed signature named splits = λ short. record {
+  parts = compact_of text typ kid payload signed signature;
+  splits = splits short;
+  typed = refl;
+  named = ap Some named;
+  says = refl;
 }

@@ -2,7 +2,8 @@
 use Rattle.std.specs.Prelude.{◌≡◌, ◌≤◌, ℕ, List, [], ◌∷◌, length, codes, Some, IsSome}
 use Rattle.fed_json.specs.declared.tree.Json.{Json, Object}
 use Rattle.fed_json.specs.Compact.{compact}
-use Rattle.jws_form.specs.Compact.{max_bytes, signing_input_of, joined}
+use Rattle.jws_form.specs.declared.compact.Compact.{Compact}
+use Rattle.jws_form.specs.Compact.{IsCompact, max_bytes, signing_input_of, joined}
 use Rattle.jws_form.specs.Header.{algorithm}
 use Rattle.fed_json.specs.Members.{text_member}
 use Rattle.fed_json.specs.Trees.{as_object}
@@ -38,6 +39,14 @@ sealed_payload keys typ payload = joined (signed_of keys typ payload) (signature
 -- the same of claims, as compact JSON
 abbrev pub sealed_text : List ℕ → List ℕ → Json → List ℕ
 sealed_text keys typ claims = sealed_payload keys typ (compact claims)
+
+-- the text is a compact text that has this type, its signer's name and this payload (RFC 7515 section 5.2)
+pub record HasParts (keys typ payload text : List ℕ) : Type 0 where
+  pub parts : Compact
+  pub splits : IsCompact text parts
+  pub typed : parts.typ ≡ Some typ
+  pub named : parts.kid ≡ Some (signer_name keys)
+  pub says : parts.payload ≡ payload
 
 -- a text of these keys is short enough to be taken apart, and the set has the signer's key under its name (RFC 7515 section 4.1.4)
 pub record IsSealable (keys text : List ℕ) (set : List Jwk) : Type 0 where

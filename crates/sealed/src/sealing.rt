@@ -1,10 +1,13 @@
 // Texts that are signed.
 
-ghost use Rattle.std.specs.Prelude.{◌≡◌, ◌≤◌, Some, IfOk};
+ghost use Rattle.std.specs.Prelude.{◌≡◌, ◌≤◌, length, Some, IfOk};
 ghost use Rattle.std.specs.Str.{IsUtf8};
 ghost use Rattle.fed_json.specs.Forms.{IsWhole, nesting};
+ghost use Rattle.fed_json.specs.Compact.{compact};
+ghost use Rattle.fed_json.specs.Reading.{tree_in};
+ghost use Rattle.jws_form.specs.Compact.{max_bytes};
 ghost use Rattle.jws_form.specs.Header.{IsHeader};
-ghost use Rattle.sealed.specs.Sealing.{IsObject, IsSealedFor, header_of, sealed_payload, sealed_text};
+ghost use Rattle.sealed.specs.Sealing.{HasParts, IsObject, IsSealedFor, header_of, sealed_payload, sealed_text};
 
 use fed_base::{Memory, Seq, Text};
 use fed_json::{Json, text_member, write_tree};
@@ -13,21 +16,24 @@ use jws_form::{ALGORITHM, join, signing_input};
 use slh_dsa::{KeyPair, SIGNATURE_BYTES, sign};
 use std::alloc::Global;
 
-/// Signs claims as a text of that type (RFC 7515 section 5.1): [`seal_payload`] of the claims as compact JSON.
+/// Signs claims as a text of that type (RFC 7515 section 5.1): [`seal_payload`] of the claims as compact JSON, which read
+/// back as these claims where they are nested at most 127 deep.
 pub fn seal(alloc: Global, keys: &KeyPair, typ: &Text, claims: &Json) -> Result<Text, Memory>
     requires typ { IsUtf8 typ.now }
     requires whole { IsWhole claims.now }
     requires object { IsObject claims.now }
     ensures text { IfOk result (λ text. text ≡ sealed_text keys.now typ.now claims.now) }
     ensures sealed { IfOk result (IsSealedFor keys.now) }
+    ensures splits { IfOk result (λ text. length text ≤ max_bytes → HasParts keys.now typ.now (compact claims.now) text) }
+    ensures reads_back { IfOk result (λ _. nesting claims.now ≤ 127 → tree_in (compact claims.now) ≡ Some claims.now) }
 {
     let payload = write_tree(alloc, claims)?;
     seal_payload(alloc, keys, typ, payload.as_slice())
 }
 
 /// Signs a payload as a text of that type (RFC 7515 section 5.1). The header, in compact JSON, has `alg`, the signer's
-/// thumbprint as `kid`, and `typ`. A text of at most 262,144 bytes is sealed by each set in which the signer's key has its
-/// thumbprint.
+/// thumbprint as `kid`, and `typ`. A text of at most 262,144 bytes is taken apart into these, and is sealed by each set in
+/// which the signer's key has its thumbprint.
 pub fn seal_payload(
     alloc: Global,
     keys: &KeyPair,
@@ -37,6 +43,7 @@ pub fn seal_payload(
     requires typ { IsUtf8 typ.now }
     ensures text { IfOk result (λ text. text ≡ sealed_payload keys.now typ.now payload.now) }
     ensures sealed { IfOk result (IsSealedFor keys.now) }
+    ensures splits { IfOk result (λ text. length text ≤ max_bytes → HasParts keys.now typ.now payload.now text) }
 {
     let kid = thumbprint(alloc, &keys.public())?;
     let header = header(alloc, &kid, typ)?;

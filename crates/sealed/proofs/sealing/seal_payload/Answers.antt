@@ -6,7 +6,7 @@ use Rattle.slh_dsa.specs.Signing.{signature_of}
 use Rattle.slh_dsa.specs.Verifying.{Verifies}
 use Rattle.sealed.specs.Sealing.{signed_of, signer_name}
 use Rattle.sealed.proofs.Headers.{IsUtf8-thumbprint_of}
-use Rattle.sealed.proofs.Sealings.{name_is, signed_is, text_is, sealed_by}
+use Rattle.sealed.proofs.Sealings.{name_is, signed_is, text_is, sealed_by, parted}
 use Rattle.sealed.proofs.sealing.seal_payload.Goals as goal
 
 pub header-requires-clause-kid : goal.header-requires-clause-kid
@@ -28,3 +28,10 @@ returns-clause-sealed c =
     let input = c.in_ok-signed.ensures.reads (Some c.args.typ.now) (Some c.in_ok-kid.kid) c.in_ok-header.ensures.names c.in_ok-header.ensures.shallow in
     sealed_by c.join.result c.args.keys.now c.args.typ.now c.in_ok-kid.kid c.args.payload.now c.in_ok-signed.signed c.sign.new.signature named
     (c.join.ensures.splits c.args.payload.now (Some c.args.typ.now) (Some c.in_ok-kid.kid) input) verifies
+
+pub returns-clause-splits : goal.returns-clause-splits
+returns-clause-splits c =
+    let named : c.in_ok-kid.kid ≡ signer_name c.args.keys.now = name_is c.args.keys.now c.public.result c.in_ok-kid.kid c.public.ensures c.in_ok-kid.ensures in
+    let input = c.in_ok-signed.ensures.reads (Some c.args.typ.now) (Some c.in_ok-kid.kid) c.in_ok-header.ensures.names c.in_ok-header.ensures.shallow in
+    parted c.join.result c.args.keys.now c.args.typ.now c.in_ok-kid.kid c.args.payload.now c.in_ok-signed.signed c.sign.new.signature named
+    (c.join.ensures.splits c.args.payload.now (Some c.args.typ.now) (Some c.in_ok-kid.kid) input)

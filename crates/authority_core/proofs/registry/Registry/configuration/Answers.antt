@@ -5,9 +5,10 @@ use Rattle.key_ring.specs.Sets.{live_set}
 use Rattle.sealed.specs.Seals.{IsSealedBy}
 use Rattle.authority_core.specs.Answers.{configuration_response}
 use Rattle.authority_core.specs.Issued.{configuration_claims}
+use Rattle.authority_core.specs.Issues.{IsIssue, IsReadable, issue_by}
 use Rattle.authority_core.specs.Nodes.{Node, node_of}
 use Rattle.authority_core.specs.ReadBack.{ReadsAs, own_claims}
-use Rattle.authority_core.proofs.Responses.{always, answer-live, configuration-is}
+use Rattle.authority_core.proofs.Responses.{always, answer-issued, answer-live, configuration-is}
 use Rattle.authority_core.proofs.registry.Registry.configuration.Goals as goal
 
 pub returns-clause-response : goal.returns-clause-response
@@ -26,3 +27,12 @@ returns-clause-reads_back c =
     let node = node_of c.self.inside.config c.self.inside.ring in
     subst (λ (n : Node). IfOk c.signed.result (λ x. c.args.t < moment_limit → ReadsAs (configuration_claims n c.args.t) (own_claims n.settings (live_set n.ring) c.args.t))) c.self.view_is
     (always c.signed.result _ (λ x small. subst (λ tree. ReadsAs tree (own_claims node.settings (live_set node.ring) c.args.t)) c.in_ok-claims.ensures.tree (c.in_ok-claims.ensures.reads_back small)))
+
+pub returns-clause-issued : goal.returns-clause-issued
+returns-clause-issued c =
+    let node = node_of c.self.inside.config c.self.inside.ring in
+    let claims = own_claims node.settings (live_set node.ring) c.args.t in
+    subst (λ (n : Node). IfOk c.signed.result (λ x. c.args.t < moment_limit → IsReadable x.body (configuration_claims n c.args.t) → IsIssue (issue_by n x.body (own_claims n.settings (live_set n.ring) c.args.t)))) c.self.view_is
+    (answer-issued c.signed.result node c.signer.result.now c.in_ok-claims.claims (configuration_claims node c.args.t) claims (c.args.t < moment_limit)
+    c.signer.ensures c.in_ok-claims.ensures.tree c.in_ok-claims.ensures.reads_back (λ own. c.self.invariant.1 c.signer.result.now c.signer.ensures)
+    c.signed.ensures.sealed c.signed.ensures.splits c.signed.ensures.reads_back)

@@ -8,9 +8,10 @@ use Rattle.node_config.specs.Nodes.{Subordinate}
 use Rattle.node_config.specs.Told.{told_subordinate}
 use Rattle.authority_core.specs.Answers.{fetch_response}
 use Rattle.authority_core.specs.Issued.{statement_claims}
+use Rattle.authority_core.specs.Issues.{IsIssue, IsReadable, issue_by}
 use Rattle.authority_core.specs.Nodes.{Node, is_for, node_of, registered}
 use Rattle.authority_core.specs.ReadBack.{ReadsAs, claims_about}
-use Rattle.authority_core.proofs.Responses.{answer-live, statement-is, stranger-is, stranger-reads, stranger-sealed, subordinate-reads, whatever}
+use Rattle.authority_core.proofs.Responses.{answer-live, statement-is, stranger-is, stranger-issues, stranger-reads, stranger-sealed, subordinate-issues, subordinate-reads, whatever}
 use Rattle.authority_core.proofs.registry.Registry.fetch.Goals as goal
 
 pub returns-in_default-clause-response : goal.returns-in_default-clause-response
@@ -34,6 +35,13 @@ returns-in_default-clause-reads_back c =
     subst (λ (n : Node). IfOk c.not_found.result (λ x. (s : Subordinate) → registered c.args.sub.now n.settings ≡ Some s → c.args.t < moment_limit → ReadsAs (statement_claims n.settings s c.args.t) (claims_about n.settings s c.args.t))) c.self.view_is
     (stranger-reads c.not_found.result node c.args.t c.args.sub.now none)
 
+pub returns-in_default-clause-issued : goal.returns-in_default-clause-issued
+returns-in_default-clause-issued c =
+    let node = node_of c.self.inside.config c.self.inside.ring in
+    let none : registered c.args.sub.now node.settings ≡ None = ap (λ l. find (is_for c.args.sub.now) (map told_subordinate l)) (sym c.as_slice.ensures) ∙ sym c.in_default.ensures.found in
+    subst (λ (n : Node). IfOk c.not_found.result (λ x. (s : Subordinate) → registered c.args.sub.now n.settings ≡ Some s → c.args.t < moment_limit → IsReadable x.body (statement_claims n.settings s c.args.t) → IsIssue (issue_by n x.body (claims_about n.settings s c.args.t)))) c.self.view_is
+    (stranger-issues c.not_found.result node c.args.t c.args.sub.now none)
+
 pub returns-clause-response : goal.returns-clause-response
 returns-clause-response c =
     let node = node_of c.self.inside.config c.self.inside.ring in
@@ -53,3 +61,11 @@ returns-clause-reads_back c =
     let found : registered c.args.sub.now node.settings ≡ Some (told_subordinate c.in-Some.s.now) = ap (λ l. find (is_for c.args.sub.now) (map told_subordinate l)) (sym c.as_slice.ensures) ∙ sym c.in-Some.ensures.found in
     subst (λ (n : Node). IfOk c.signed.result (λ x. (s : Subordinate) → registered c.args.sub.now n.settings ≡ Some s → c.args.t < moment_limit → ReadsAs (statement_claims n.settings s c.args.t) (claims_about n.settings s c.args.t))) c.self.view_is
     (subordinate-reads c.signed.result node c.args.t c.args.sub.now (told_subordinate c.in-Some.s.now) c.in_ok-claims.claims c.self.invariant.2 found c.in_ok-claims.ensures.tree c.in_ok-claims.ensures.reads_back)
+
+pub returns-clause-issued : goal.returns-clause-issued
+returns-clause-issued c =
+    let node = node_of c.self.inside.config c.self.inside.ring in
+    let found : registered c.args.sub.now node.settings ≡ Some (told_subordinate c.in-Some.s.now) = ap (λ l. find (is_for c.args.sub.now) (map told_subordinate l)) (sym c.as_slice.ensures) ∙ sym c.in-Some.ensures.found in
+    subst (λ (n : Node). IfOk c.signed.result (λ x. (s : Subordinate) → registered c.args.sub.now n.settings ≡ Some s → c.args.t < moment_limit → IsReadable x.body (statement_claims n.settings s c.args.t) → IsIssue (issue_by n x.body (claims_about n.settings s c.args.t)))) c.self.view_is
+    (subordinate-issues c.signed.result node c.args.t c.args.sub.now c.signer.result.now (told_subordinate c.in-Some.s.now) c.in_ok-claims.claims c.signer.ensures
+    c.self.invariant.2 found c.in_ok-claims.ensures.tree c.in_ok-claims.ensures.reads_back c.signed.ensures.sealed c.signed.ensures.splits c.signed.ensures.reads_back)

@@ -1,0 +1,13 @@
+//! What follows for chains of what authorities issue, whoever they are and whenever they issued it.
+ghost use Rattle.authority_core.specs.Issues.{IssuesAreRead, IssuesAreRefusedOnly};
+
+/// The statements of a chain of issues are those that were issued. It does nothing.
+pub fn issues_are_read()
+    ensures { IssuesAreRead }
+{}
+
+/// A chain of issues is refused for nothing but its length, its names, its times, limits, policies, or keys of a superior that don't name
+/// the signer. It does nothing.
+pub fn issues_are_refused_only()
+    ensures { IssuesAreRefusedOnly }
+{}
