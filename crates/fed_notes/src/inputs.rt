@@ -1,0 +1,121 @@
+// Standard input out of form.
+
+use crate::claims::kind_of;
+use crate::files::syntax_fault;
+use fed_json::{Json, TreeFault, is_whole, object_members};
+use plain_notes::{Notes, Sentence};
+use std::alloc::Global;
+
+/// Says that standard input is too long.
+pub fn explain_long_input(alloc: Global, notes: &mut Notes) {
+    notes.say(Sentence::of(alloc, b"standard input has more than 4,194,304 bytes"));
+}
+
+/// Says why the input isn't the seeds of a key. No digit of it is told.
+pub fn explain_seeds(alloc: Global, input: &[u8], notes: &mut Notes) {
+    let wrong = input.iter().position(|byte| !byte.is_ascii_hexdigit());
+    let about = Sentence::of(alloc, b"standard input: ");
+    notes.say(match wrong {
+        Some(place) => about
+            .and(b"byte ")
+            .and_number(alloc, place as u64)
+            .and(b" isn't a hexadecimal digit; the seeds of a key are 96"),
+        None => about
+            .and(b"it has ")
+            .and_number(alloc, input.len() as u64)
+            .and(b" hexadecimal digits; the seeds of a key are 96"),
+    });
+}
+
+/// Says that a key would end no later than it begins.
+pub fn explain_order(alloc: Global, at: u64, exp: u64, notes: &mut Notes) {
+    notes.say(
+        Sentence::of(alloc, b"--exp ")
+            .and_moment(alloc, exp)
+            .and(b" isn't after --at ")
+            .and_moment(alloc, at),
+    );
+}
+
+/// Says why the input, which was read so, isn't a JSON object, where it isn't.
+pub fn explain_unless_object(
+    alloc: Global,
+    input: &[u8],
+    read: &Result<Json, TreeFault>,
+    notes: &mut Notes,
+) {
+    match read {
+        Ok(Json::Object(_)) => {},
+        Ok(tree) => explain_kind(alloc, tree, b"claims are an object", notes),
+        Err(TreeFault::Syntax) => explain_syntax(alloc, input, notes),
+        Err(TreeFault::Memory) => {},
+    }
+}
+
+/// Says why the input, which was read so, isn't a list of texts, where it isn't.
+pub fn explain_unless_list(
+    alloc: Global,
+    input: &[u8],
+    read: &Result<Json, TreeFault>,
+    notes: &mut Notes,
+) {
+    match read {
+        Ok(Json::List(items)) => explain_items(alloc, items.as_slice(), notes),
+        Ok(tree) => explain_kind(alloc, tree, b"a chain is a list of signed texts", notes),
+        Err(TreeFault::Syntax) => explain_syntax(alloc, input, notes),
+        Err(TreeFault::Memory) => {},
+    }
+}
+
+fn explain_syntax(alloc: Global, input: &[u8], notes: &mut Notes) {
+    notes.say(Sentence::of(alloc, b"standard input").and(syntax_fault(input)));
+}
+
+fn explain_kind(alloc: Global, tree: &Json, wanted: &[u8], notes: &mut Notes) {
+    notes.say(
+        Sentence::of(alloc, b"standard input is ")
+            .and(kind_of(tree))
+            .and(b"; ")
+            .and(wanted),
+    );
+}
+
+fn explain_items(alloc: Global, items: &[Json], notes: &mut Notes) {
+    let wrong = items.iter().enumerate().find(|entry| !is_text(entry.1));
+    if let Some((place, item)) = wrong {
+        notes.say(
+            Sentence::of(alloc, b"standard input: place ")
+                .and_number(alloc, place as u64)
+                .and(b" is ")
+                .and(kind_of(item))
+                .and(b"; a chain is a list of signed texts"),
+        );
+    }
+}
+
+fn is_text(tree: &Json) -> bool {
+    matches!(tree, Json::Text(_))
+}
+
+/// Says which of the claims holds a number that isn't kept as it is written.
+pub fn explain_numbers(alloc: Global, claims: &Json, notes: &mut Notes) {
+    let odd = object_members(claims)
+        .iter()
+        .find(|member| !is_whole(&member.value));
+    if let Some(member) = odd {
+        notes.say(
+            Sentence::of(alloc, b"standard input: the claim ")
+                .and(member.name.as_slice())
+                .and(b" holds a number with a fraction, an exponent or too many digits, or -0"),
+        );
+    }
+}
+
+/// Says that the claims are too long.
+pub fn explain_length(alloc: Global, bytes: usize, notes: &mut Notes) {
+    notes.say(
+        Sentence::of(alloc, b"standard input: the claims have ")
+            .and_number(alloc, bytes as u64)
+            .and(b" bytes as compact JSON; 180,000 are sealed at most"),
+    );
+}

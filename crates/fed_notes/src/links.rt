@@ -1,0 +1,118 @@
+// What links the statements of a chain: names and signatures.
+
+use entity_id::EntityId;
+use entity_statement::{SignedStatement, Statement};
+use fed_base::Text;
+use jwk_set::JwkSet;
+use plain_notes::{Notes, Sentence};
+use std::alloc::Global;
+
+/// Says why the statement at the place isn't the one that the chain needs there.
+pub(crate) fn explain_names(
+    alloc: Global,
+    entries: &[SignedStatement],
+    anchor: &EntityId,
+    place: u64,
+    about: Sentence,
+    notes: &mut Notes,
+) {
+    if entries.len() == 2 {
+        notes.say(Sentence::of(
+            alloc,
+            b"a chain has 1 text, or 3 and more: between the configurations of leaf and anchor stand statements",
+        ));
+    } else if let Some(entry) = entries.get(place as usize) {
+        notes.say(match issuer_below(entries, place) {
+            Some(issuer) if entry.statement.sub != *issuer => about
+                .and(b" is about ")
+                .and(entry.statement.sub.text())
+                .and(b"; the text before it is by ")
+                .and(issuer.text()),
+            _ => {
+                let ends = (place as usize).saturating_add(1) == entries.len();
+                role_sentence(alloc, about, place, ends, anchor, &entry.statement)
+            }
+        });
+    }
+}
+
+// The issuer of the text before the place.
+fn issuer_below(entries: &[SignedStatement], place: u64) -> Option<&EntityId> {
+    if place == 0 {
+        return None;
+    }
+    match entries.get(place as usize - 1) {
+        Some(below) => Some(&below.statement.iss),
+        None => None,
+    }
+}
+
+// What the statement isn't, at the end of the chain or before it.
+fn role_sentence(
+    alloc: Global,
+    about: Sentence,
+    place: u64,
+    ends: bool,
+    anchor: &EntityId,
+    statement: &Statement,
+) -> Sentence {
+    let own = statement.iss == statement.sub;
+    if own && ends {
+        Sentence::of(alloc, b"the chain ends at ")
+            .and(statement.iss.text())
+            .and(b", asked was ")
+            .and(anchor.text())
+    } else {
+        about.and(role_fault(place, own, ends))
+    }
+}
+
+fn role_fault(place: u64, own: bool, ends: bool) -> &'static [u8] {
+    if ends {
+        b": a chain ends with the configuration of the anchor"
+    } else if place == 0 {
+        b": a chain begins with the configuration of the leaf"
+    } else if own {
+        b": a configuration stands between the ends of the chain"
+    } else {
+        b": its issuer stands in the chain before it"
+    }
+}
+
+/// Says by which key the text at the place isn't signed.
+pub(crate) fn explain_signature(
+    entries: &[SignedStatement],
+    keys: &JwkSet,
+    place: u64,
+    about: Sentence,
+    notes: &mut Notes,
+) {
+    let Some(entry) = entries.get(place as usize) else {
+        return;
+    };
+    notes.say(match &entry.compact.kid {
+        None => about.and(b": the header has no kid, the name of the key that signed"),
+        Some(kid) if place == 0 && entry.statement.jwks.key_of(kid).is_none() => about
+            .and(b" is signed by the key ")
+            .and(kid.as_slice())
+            .and(b", which isn't in its own jwks"),
+        Some(kid) => match entries.get((place as usize).saturating_add(1)) {
+            Some(above) => key_sentence(
+                about,
+                kid,
+                &above.statement.jwks,
+                b" in the jwks of the next text",
+            ),
+            None => key_sentence(about, kid, keys, b" among the keys of the anchor's file"),
+        },
+    });
+}
+
+// The set in which the key was looked for is that of the next text, or the anchor's for the last.
+fn key_sentence(about: Sentence, kid: &Text, set: &JwkSet, whose: &[u8]) -> Sentence {
+    let about = match set.key_of(kid) {
+        Some(_) => about.and(b": the signature doesn't verify under the key "),
+        None => about.and(b": there is no key "),
+    };
+    about.and(kid.as_slice()).and(whose)
+}

@@ -1,0 +1,116 @@
+// Ring files out of form, and rings whose keys have ended.
+
+use fed_base::{MOMENT_LIMIT, Text};
+use fed_json::{Json, Member, count_below, find, object_members, read_tree, text_at};
+use plain_notes::{Notes, Sentence};
+use std::alloc::Global;
+
+/// Says behind `about` why the tree isn't that of a ring's file. No seeds are told.
+pub(crate) fn explain_ring(alloc: Global, about: Sentence, tree: &Json, notes: &mut Notes) {
+    let members = object_members(tree);
+    match find(members, b"keys") {
+        Some(Json::List(keys)) => explain_keys(alloc, about, keys.as_slice(), notes),
+        _ => notes.say(about.and(b" isn't a ring's file, {\"keys\":[..],\"version\":1}")),
+    }
+}
+
+fn explain_keys(alloc: Global, about: Sentence, keys: &[Json], notes: &mut Notes) {
+    if keys.is_empty() || keys.len() > 16 {
+        notes.say(
+            about
+                .and(b" has ")
+                .and_number(alloc, keys.len() as u64)
+                .and(b" keys; a ring has 1 to 16"),
+        );
+        return;
+    }
+    let fault = keys
+        .iter()
+        .enumerate()
+        .find(|entry| !key_fault(object_members(entry.1)).is_empty());
+    notes.say(match fault {
+        Some((place, key)) => about
+            .and(b": key ")
+            .and_number(alloc, place as u64)
+            .and(key_fault(object_members(key))),
+        None => about.and(
+            b" has no live key, one key twice, a member that isn't a ring's, or a version that isn't 1",
+        ),
+    });
+}
+
+// What is wrong with a key, or nothing.
+fn key_fault(members: &[Member]) -> &'static [u8] {
+    match (moment_at(members, b"iat"), moment_at(members, b"exp")) {
+        (Some(iat), Some(exp)) => if iat < exp {
+            seeds_fault(members)
+        } else {
+            b" has an exp that isn't after its iat"
+        },
+        _ => b" has no iat or no exp, moments in seconds since 1970",
+    }
+}
+
+fn seeds_fault(members: &[Member]) -> &'static [u8] {
+    match text_at(members, b"seeds") {
+        Some(seeds) => if seeds.len() == 96 && seeds.as_slice().iter().all(is_lower_hex) {
+            state_fault(members)
+        } else {
+            b" has seeds that aren't 96 hexadecimal digits in lower case"
+        },
+        None => b" has no seeds",
+    }
+}
+
+fn is_lower_hex(byte: &u8) -> bool {
+    byte.is_ascii_digit() || (b'a' <= *byte && *byte <= b'f')
+}
+
+fn state_fault(members: &[Member]) -> &'static [u8] {
+    match find(members, b"state") {
+        Some(_) => b"",
+        None => b" has no state",
+    }
+}
+
+fn moment_at(members: &[Member], name: &[u8]) -> Option<u64> {
+    match find(members, name) {
+        Some(tree) => count_below(tree, MOMENT_LIMIT),
+        None => None,
+    }
+}
+
+/// Says where the ring's signer, its first live key, has ended at the moment of the notes.
+pub fn warn_of_ended_key(alloc: Global, name: &Text, file: &[u8], notes: &mut Notes) {
+    let Some(moment) = notes.moment() else {
+        return;
+    };
+    let Ok(tree) = read_tree(alloc, file) else {
+        return;
+    };
+    let Some(Json::List(keys)) = find(object_members(&tree), b"keys") else {
+        return;
+    };
+    let signer = keys
+        .as_slice()
+        .iter()
+        .find(|key| is_live(object_members(key)));
+    let Some(exp) = signer.and_then(|key| moment_at(object_members(key), b"exp")) else {
+        return;
+    };
+    if exp <= moment {
+        notes.say(
+            Sentence::of(alloc, b"warning: the signing key of ")
+                .and(name.as_slice())
+                .and(b" ended at ")
+                .and_moment(alloc, exp),
+        );
+    }
+}
+
+fn is_live(members: &[Member]) -> bool {
+    match text_at(members, b"state") {
+        Some(state) => state.as_slice() == b"live".as_slice(),
+        None => false,
+    }
+}

@@ -1,0 +1,77 @@
+// What looks wrong in what is accepted.
+
+use crate::claims::meant_by;
+use crate::keys::has_key;
+use fed_base::{MOMENT_LIMIT, Text};
+use fed_json::{Json, Member, count_below, find, object_members};
+use plain_notes::{Notes, Sentence, warn_of_moment};
+use std::alloc::Global;
+
+/// Says which moments look wrong in claims that are sealed.
+pub fn warn_of_claims(alloc: Global, claims: &Json, notes: &mut Notes) {
+    let members = object_members(claims);
+    let (iat, exp) = (moment_at(members, b"iat"), moment_at(members, b"exp"));
+    if let Some(iat) = iat {
+        warn_of_moment(alloc, b"the claim iat", iat, notes);
+    }
+    if let Some(exp) = exp {
+        warn_of_moment(alloc, b"the claim exp", exp, notes);
+        warn_of_end(alloc, iat.unwrap_or(0), exp, notes);
+    }
+}
+
+fn warn_of_end(alloc: Global, iat: u64, exp: u64, notes: &mut Notes) {
+    let about = Sentence::of(alloc, b"warning: the claim exp ").and_moment(alloc, exp);
+    if exp <= iat {
+        notes.say(about.and(b" isn't after iat ").and_moment(alloc, iat));
+    } else if notes.moment().is_some_and(|moment| exp <= moment) {
+        notes.say(about.and(b" is in the past"));
+    }
+}
+
+/// Says what looks wrong in claims of an entity statement that are sealed: names that look like those of claims, and a signer of this name
+/// that isn't among the keys of a configuration.
+pub fn warn_of_statement(alloc: Global, claims: &Json, kid: &Text, notes: &mut Notes) {
+    let members = object_members(claims);
+    warn_of_signer(alloc, members, kid, notes);
+    for member in members {
+        warn_of_name(alloc, member.name.as_slice(), notes);
+    }
+}
+
+fn moment_at(members: &[Member], name: &[u8]) -> Option<u64> {
+    match find(members, name) {
+        Some(tree) => count_below(tree, MOMENT_LIMIT),
+        None => None,
+    }
+}
+
+// A configuration is signed by a key that it has itself.
+fn warn_of_signer(alloc: Global, members: &[Member], kid: &Text, notes: &mut Notes) {
+    let (Some(Json::Text(iss)), Some(Json::Text(sub)), Some(set)) = (
+        find(members, b"iss"),
+        find(members, b"sub"),
+        find(members, b"jwks"),
+    ) else {
+        return;
+    };
+    if iss.as_slice() == sub.as_slice() && !has_key(set, kid.as_slice()) {
+        notes.say(
+            Sentence::of(alloc, b"warning: the signing key ")
+                .and(kid.as_slice())
+                .and(b" isn't in the claims' jwks, so no one can check the text by them"),
+        );
+    }
+}
+
+fn warn_of_name(alloc: Global, name: &[u8], notes: &mut Notes) {
+    if let Some(meant) = meant_by(name) {
+        notes.say(
+            Sentence::of(alloc, b"warning: the claim ")
+                .and(name)
+                .and(b" isn't known and is kept as it is; did you mean ")
+                .and(meant.as_bytes())
+                .and(b"?"),
+        );
+    }
+}
