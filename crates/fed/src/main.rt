@@ -1,21 +1,31 @@
 //! Layer 7, the program: `fed`, an authority and trust chain resolver of OpenID Federation 1.0.
 //!
-//! `main` makes the real outside, calls [`fed_commands::run`], which does all that the program does and carries what is proved of it,
-//! and ends with its status.
+//! `main` makes the real outside, calls [`fed_run::run_with_notes`], which does all that the program does and carries what is proved of
+//! it, and ends with its status. What a person reads goes to standard error, unless the environment has `FED_QUIET=1`. A service listens
+//! on 127.0.0.1, or on the IPv4 address in `FED_LISTEN`, and each connection leaves a line on standard error, unless the environment has
+//! `FED_LOG=off`.
 #![tactic(auto)]
 
-use fed_commands::run;
-use fed_ports::{Memory, RealClock, RealSink, RealSource, RealStore, Seq, Text};
+mod named_file;
+
+use fed_net::RealNetwork;
+use fed_ports::{Memory, RealClock, RealSink, RealSource, RealStore, Seq, Text, listen_address};
+use fed_run::{run, run_with_notes};
+use fed_words::{explain_waiting, read_service};
+use named_file::{explain_fault, value_of, warn_of_open_file};
+use plain_notes::{Notes, Sentence};
 use std::alloc::Global;
-use std::env::Env;
-use std::io::{Eprint, ErrorKind};
-use std::os::unix::fs::PermissionsExt;
+use std::env::{Env, VarError};
+use std::io::{Eprint, ErrorKind, IsTerminal};
 use std::process::ExitCode;
 use std::rt::Files;
-use std::{env, fs, str};
+use std::{env, str};
 
 // The status of words, or of a file, that aren't of their form.
 const FAULTY: u8 = 2;
+
+// The status of a file that can't be read or kept.
+const STORE_FAULT: u8 = 6;
 
 // The words after the program's name. Where one isn't UTF-8 a word stands for them that no command has.
 fn words<R: Env + AllocGlobal>(rt: &R) -> Result<Seq<Text>, Memory> {
@@ -33,47 +43,97 @@ fn words<R: Env + AllocGlobal>(rt: &R) -> Result<Seq<Text>, Memory> {
     Ok(words)
 }
 
-// The word behind `--ring`, where there is one.
-fn ring_file(words: &[Text]) -> Option<&str> {
-    match words {
-        [option, value, ..] if option.as_slice() == b"--ring".as_slice() => {
-            str::from_utf8(value.as_slice()).ok()
-        }
-        [_, rest @ ..] => ring_file(rest),
-        [] => None,
+// Whether nothing is to be said on standard error.
+fn is_quiet<R: Env + AllocGlobal>(rt: &R) -> bool {
+    env::var(rt, "FED_QUIET").is_ok_and(|value| value.as_str() == "1")
+}
+
+// Whether each connection leaves a line on standard error.
+fn is_logged<R: Env + AllocGlobal>(rt: &R) -> bool {
+    !env::var(rt, "FED_LOG").is_ok_and(|value| value.as_str() == "off")
+}
+
+// The four numbers of the address on which a service listens, or `None` where the environment names another.
+fn address<R: Env + AllocGlobal>(rt: &R) -> Option<[u8; 4]> {
+    match env::var(rt, "FED_LISTEN") {
+        Ok(value) => listen_address(value.as_bytes()),
+        Err(VarError::NotPresent) => Some([127, 0, 0, 1]),
+        Err(_) => None,
     }
 }
 
-// Says so where others than its owner can read or write the ring file.
-fn tell_of_open_file<R: Files + Eprint>(rt: &R, path: &str) {
-    let is_open = fs::metadata(rt, path).is_ok_and(|found| found.permissions().mode() & 0o077 != 0);
-    if is_open {
-        let _ = eprintln!(rt;
-            "fed: others than its owner can read {path} and so sign in the node's name; `chmod 600 {path}` keeps it to its owner"
-        );
+// Whether the words ask for a service.
+fn serves(alloc: Global, words: &[Text]) -> bool {
+    matches!(read_service(alloc, words), Ok(Some(_)))
+}
+
+// Says that there is no address to listen on.
+fn tell_of_address<R: Eprint>(rt: &R, alloc: Global) {
+    let mut notes = Notes::new(alloc, None);
+    notes.say(Sentence::of(
+        alloc,
+        b"FED_LISTEN isn't an IPv4 address, four numbers as 127.0.0.1",
+    ));
+    tell(rt, &notes);
+}
+
+// Writes the notes to standard error. Where that fails they are left out.
+fn tell<R: Eprint>(rt: &R, notes: &Notes) {
+    if let Ok(text) = str::from_utf8(notes.text()) {
+        let _ = eprint!(rt; "{text}");
     }
+}
+
+// Says what the command waits for.
+fn tell_of_waiting<R: Eprint>(rt: &R, alloc: Global, words: &[Text]) {
+    let mut notes = Notes::new(alloc, None);
+    explain_waiting(alloc, words, &mut notes);
+    tell(rt, &notes);
+}
+
+// Says what the system tells of the file that the words name.
+fn tell_of_file<R: Files + Eprint>(rt: &R, alloc: Global, words: &[Text], status: u8) {
+    let mut notes = Notes::new(alloc, None);
+    let named = value_of(words, b"--ring").or(value_of(words, b"--keys"));
+    match named.or(value_of(words, b"--config")) {
+        Some(path) if status == STORE_FAULT => explain_fault(rt, alloc, path, &mut notes),
+        _ => {}
+    }
+    match value_of(words, b"--ring") {
+        Some(path) if status != FAULTY => warn_of_open_file(rt, alloc, path, &mut notes),
+        _ => {}
+    }
+    tell(rt, &notes);
 }
 
 fn main(rt: HostRuntime) -> ExitCode {
+    let alloc = rt.alloc();
     let Ok(words) = words(&rt) else {
         return ExitCode::from(5);
     };
+    let address = address(&rt);
+    if address.is_none() && serves(alloc, words.as_slice()) {
+        tell_of_address(&rt, alloc);
+        return ExitCode::from(FAULTY);
+    }
+    let mut net = RealNetwork::new(&rt, address.unwrap_or([127, 0, 0, 1]), is_logged(&rt));
     let mut input = RealSource::new(rt.stdin());
     let mut out = RealSink::new(rt.stdout());
     let mut store = RealStore::new(&rt);
     let mut clock = RealClock::new(&rt);
-    let status = run(
-        &rt,
-        rt.alloc(),
-        &words,
-        &mut input,
-        &mut out,
-        &mut store,
-        &mut clock,
-    );
-    match ring_file(words.as_slice()) {
-        Some(path) if status != FAULTY => tell_of_open_file(&rt, path),
-        _ => {}
+    if is_quiet(&rt) {
+        let status = run(
+            &rt, alloc, &words, &mut input, &mut out, &mut store, &mut net, &mut clock,
+        );
+        return ExitCode::from(status);
     }
+    if rt.stdin().is_terminal() {
+        tell_of_waiting(&rt, alloc, words.as_slice());
+    }
+    let mut said = RealSink::new(rt.stderr());
+    let status = run_with_notes(
+        &rt, alloc, &words, &mut input, &mut out, &mut store, &mut net, &mut clock, &mut said,
+    );
+    tell_of_file(&rt, alloc, words.as_slice(), status);
     ExitCode::from(status)
 }

@@ -1,10 +1,11 @@
 -- From the ends of a run to its clauses.
-use Rattle.std.proofs.Common.{◌≡◌, ◌⊎◌, ◌≤◌, ℕ, List, refl, ap, ◌∙◌, subst, inl, inr, arith, lit≤}
-use Rattle.std.specs.Prelude.{Option}
+use Rattle.std.proofs.Common.{◌≡◌, ◌⊎◌, ◌≤◌, ℕ, List, refl, sym, ap, ◌∙◌, subst, inl, inr, arith, lit≤}
+use Rattle.std.specs.Prelude.{Option, None, false}
 use Rattle.fed_ports.specs.Bytes.{Appends}
 use Rattle.fed_base.specs.Counts.{Rose}
 use Rattle.fed_ports.specs.Stores.{Files}
-use Rattle.fed_commands.specs.Answers.{Answers, IsEnded, IsMomentFor, IsReached, Outside, Output, Readings, Stands, StopsAs, Tells, UsesClock, stop_status}
+use Rattle.fed_commands.specs.Answers.{Answers, IsEnded, IsMomentFor, IsReached, Outside, Output, Readings, Stands, StopsAs, Tells, UsesClock, named, reads_clock, stop_status, wants_input}
+use Rattle.fed_commands.specs.Runs.{IsRun, World, told_of}
 use Rattle.fed_commands.specs.declared.answer.Stop.{Stop}
 use Rattle.fed_commands.specs.declared.answer.Stop.TheVariants.{Source, Store, Memory}
 use Rattle.fed_words.specs.declared.command.Command.{Command}
@@ -169,3 +170,43 @@ clock_used c before now moment status is = record { read = λ reads. inl (is.rea
 -- and one for which memory is wanting before doesn't
 pub clock_unused : (c : Command) (before : Readings) → UsesClock c before before 5
 clock_unused c before = record { read = λ reads. inr (refl, refl); unread = λ other. refl }
+
+-- ---- all of it, where there was no reply
+
+not_done : (stop : Stop) → stop_status stop ≡ 0 → ⊥
+not_done Source is = absurd (omega (arith, is))
+not_done Store is = absurd (omega (arith, is))
+not_done Memory is = absurd (omega (arith, is))
+
+-- a run that stops has written and kept nothing
+pub run_stopped : {S D C : Type 0} → (c : Command) (stop : Stop) (before after : World S D C) (moment : ℕ) → after.files ≡ before.files → after.held ≡ before.held
+    → after.write_faults ≡ before.write_faults → StopsAs stop before.read_faults after.read_faults before.store_faults after.store_faults
+    → IsMomentFor c before.readings after.readings moment → (wants_input c ≡ false → after.input ≡ before.input) → (named c ≡ None → after.store ≡ before.store)
+    → (reads_clock c ≡ false → after.clock ≡ before.clock) → IsRun c before after (stop_status stop)
+run_stopped c stop before after moment files held sink faults uses input store clock = record {
+  answers = stopped_answers c after.readings.last (told_of before) (told_of after) stop files held;
+  sealed = λ name typ is done. absurd (not_done stop done);
+  source = stopped_source stop before.read_faults after.read_faults before.store_faults after.store_faults faults;
+  sink = subst (λ n. Tells 4 before.write_faults n (stop_status stop)) (sym sink) (stopped_sink stop before.write_faults);
+  store = stopped_store stop before.read_faults after.read_faults before.store_faults after.store_faults faults;
+  clock = clock_used c before.readings after.readings moment (stop_status stop) uses;
+  range = stopped_range stop;
+  input_apart = input;
+  store_apart = store;
+  clock_apart = clock;
+}
+
+-- and so has one for which memory is wanting before its command is known
+pub run_unread : {S D C : Type 0} → (c : Command) (before : World S D C) → IsRun c before before 5
+run_unread c before = record {
+  answers = stopped_answers c before.readings.last (told_of before) (told_of before) Memory refl refl;
+  sealed = λ name typ is done. absurd (not_done Memory done);
+  source = stopped_source Memory before.read_faults before.read_faults before.store_faults before.store_faults (refl, refl);
+  sink = stopped_sink Memory before.write_faults;
+  store = stopped_store Memory before.read_faults before.read_faults before.store_faults before.store_faults (refl, refl);
+  clock = clock_unused c before.readings;
+  range = stopped_range Memory;
+  input_apart = λ e. refl;
+  store_apart = λ e. refl;
+  clock_apart = λ e. refl;
+}

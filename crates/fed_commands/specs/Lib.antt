@@ -7,5 +7,6 @@ pub mod Keygens
 pub mod Operations
 pub mod Replies
 pub mod Rotations
+pub mod Runs
 pub mod Sealings
 pub mod Streams

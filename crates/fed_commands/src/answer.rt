@@ -12,6 +12,7 @@ use crate::operation::{File, Prepared, perform, prepare};
 use crate::reply::Reply;
 use fed_ports::{Failed, Memory, ReadEnd, Source, Store, StoreFault, Text, read_all};
 use fed_words::Command;
+use plain_notes::{Notes, explain_source, explain_unkept_file, explain_unread_file};
 use std::alloc::Global;
 
 /// Why there is no reply.
@@ -49,7 +50,12 @@ fn named(command: &Command) -> Option<&Text>
 }
 
 // The file that the command names.
-fn load<D: Store>(alloc: Global, command: &Command, store: &mut D) -> Result<File, Stop>
+fn load<D: Store>(
+    alloc: Global,
+    command: &Command,
+    store: &mut D,
+    notes: &mut Notes,
+) -> Result<File, Stop>
     ensures files { D.files store.new ≡ D.files store.old }
     ensures steady { OnOk result (D.store_faults store.new ≡ D.store_faults store.old) }
     ensures found { IfOk result (λ file. (bytes : Option (List ℕ)) × IsNamed command.now (D.files store.old) bytes × IsFileOf file bytes) }
@@ -63,31 +69,42 @@ fn load<D: Store>(alloc: Global, command: &Command, store: &mut D) -> Result<Fil
         Ok(Some(bytes)) => Ok(File::Whole(bytes)),
         Ok(None) => Ok(File::Absent),
         Err(StoreFault::TooLong) => Ok(File::TooLong),
-        Err(StoreFault::Failed) => Err(Stop::Store),
+        Err(StoreFault::Failed) => {
+            explain_unread_file(alloc, name, notes);
+            Err(Stop::Store)
+        }
         Err(StoreFault::Memory) => Err(Stop::Memory),
     }
 }
 
 // The text of the input, or `None` where it is too long.
-fn read_text<S: Source>(alloc: Global, input: &mut S) -> Result<Option<Text>, Stop>
+fn read_text<S: Source>(
+    alloc: Global,
+    input: &mut S,
+    notes: &mut Notes,
+) -> Result<Option<Text>, Stop>
     ensures read { IfOk result (IsTextRead (S.left input.old) (S.left input.new) (S.read_faults input.old) (S.read_faults input.new)) }
     ensures stops { IfErr result (λ stop. (store : ℕ) → StopsAs stop (S.read_faults input.old) (S.read_faults input.new) store store) }
 {
     match read_all(alloc, input) {
         Ok(bytes) => Ok(Some(without_line_end(bytes))),
-        Err(ReadEnd::Failed) => Err(Stop::Source),
+        Err(ReadEnd::Failed) => {
+            explain_source(alloc, notes);
+            Err(Stop::Source)
+        }
         Err(ReadEnd::TooLong) => Ok(None),
         Err(ReadEnd::Memory) => Err(Stop::Memory),
     }
 }
 
-/// The command's reply on its file and its input, at a moment in seconds since 1970. No file is changed.
+/// The command's reply on its file and its input, at a moment in seconds since 1970, with what is said of it. No file is changed.
 pub fn reply_to<S: Source, D: Store>(
     alloc: Global,
     command: &Command,
     moment: u64,
     input: &mut S,
     store: &mut D,
+    notes: &mut Notes,
 ) -> Result<Reply, Stop>
     ensures files { D.files store.new ≡ D.files store.old }
     ensures steady { MatchResult result
@@ -98,24 +115,36 @@ pub fn reply_to<S: Source, D: Store>(
     ensures input_apart { wants_input command.now ≡ false → input.new ≡ input.old }
     ensures store_apart { named command.now ≡ None → store.new ≡ store.old }
 {
-    let file = load(alloc, command, store)?;
-    match prepare(alloc, command, moment, &file)? {
+    let file = load(alloc, command, store, notes)?;
+    match prepare(alloc, command, moment, &file, notes)? {
         Prepared::Answered(reply) => Ok(reply),
         Prepared::WantsInput(operation) => {
-            let text = read_text(alloc, input)?;
-            Ok(perform(alloc, operation, text)?)
+            let text = read_text(alloc, input, notes)?;
+            Ok(perform(alloc, operation, text, notes)?)
         }
     }
 }
 
 /// Keeps the bytes, where there are some, as the file that the command names.
-pub fn keep<D: Store>(command: &Command, kept: Option<&Text>, store: &mut D) -> Result<(), Failed>
+pub fn keep<D: Store>(
+    alloc: Global,
+    command: &Command,
+    kept: Option<&Text>,
+    store: &mut D,
+    notes: &mut Notes,
+) -> Result<(), Failed>
     ensures kept { IsKeptAs command.now (D.files store.old) (D.files store.new) (option_copied kept.entry) result }
     ensures cause { HasCause (D.store_faults store.old) (D.store_faults store.new) result }
     ensures apart { named command.now ≡ None → store.new ≡ store.old }
 {
     match (named(command), kept) {
-        (Some(name), Some(bytes)) => store.keep(name, bytes.as_slice()),
+        (Some(name), Some(bytes)) => {
+            let kept = store.keep(name, bytes.as_slice());
+            if kept.is_err() {
+                explain_unkept_file(alloc, name, notes);
+            }
+            kept
+        }
         _ => Ok(()),
     }
 }

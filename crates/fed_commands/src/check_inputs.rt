@@ -4,8 +4,10 @@ ghost use Rattle.std.specs.Prelude.{◌≡◌, IfOk, option_map};
 ghost use Rattle.fed_commands.specs.Checks.{chain_in, keys_in};
 
 use fed_json::{TreeFault, copied_texts, read_tree};
+use fed_notes::explain_unless_list;
 use fed_ports::{Memory, Seq, Text};
 use jwk_set::{JwkSet, SetFault};
+use plain_notes::Notes;
 use std::alloc::Global;
 
 /// The keys of a file that is a key set in JSON (RFC 7517 section 5), or `None` where it is none.
@@ -25,10 +27,16 @@ pub fn read_keys(alloc: Global, file: &[u8]) -> Result<Option<JwkSet>, Memory>
 }
 
 /// The texts of an input that is a JSON list of texts, the leaf's first, or `None` where it is none.
-pub fn read_chain(alloc: Global, input: Text) -> Result<Option<Seq<Text>>, Memory>
+pub fn read_chain(
+    alloc: Global,
+    input: Text,
+    notes: &mut Notes,
+) -> Result<Option<Seq<Text>>, Memory>
     ensures { IfOk result (λ read. read ≡ chain_in input) }
 {
-    match read_tree(alloc, input.as_slice()) {
+    let read = read_tree(alloc, input.as_slice());
+    explain_unless_list(alloc, input.as_slice(), &read, notes);
+    match read {
         Ok(tree) => copied_texts(alloc, &tree),
         Err(TreeFault::Syntax) => Ok(None),
         Err(TreeFault::Memory) => Err(Memory),

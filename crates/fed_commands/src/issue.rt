@@ -11,11 +11,16 @@ ghost use Rattle.trust_mark.specs.declared.mark.Mark.{Mark as Claimed};
 ghost use Rattle.fed_commands.specs.Issues.{claims_read, issue_reply, of_object};
 ghost use Rattle.fed_commands.specs.Sealings.{IsSealedReply};
 
+use crate::claim_notes::warn_of_sealing;
 use crate::reply::{Reply, plain};
 use entity_statement::{Statement, StatementFault};
 use fed_json::{Json, TreeFault, is_whole, read_tree, write_tree};
+use fed_notes::{
+    explain_claims, explain_length, explain_mark_claims, explain_numbers, explain_unless_object,
+};
 use fed_ports::{Memory, Text};
 use fed_words::TextType;
+use plain_notes::Notes;
 use sealed::seal_payload;
 use slh_dsa::KeyPair;
 use std::alloc::Global;
@@ -27,28 +32,36 @@ const MOST_CLAIMS: usize = 180_000;
 /// The text of that type that the signer seals the claims in the input as, on its own line. A text of at most 262,144 bytes is sealed by
 /// each set in which the signer's key has its thumbprint.
 #[tactic(auto, unfolding(crate::specs::Issues::issue_reply, crate::specs::Issues::of_tree))]
-pub fn issue(alloc: Global, signer: &KeyPair, typ: TextType, input: Text) -> Result<Reply, Memory>
+pub fn issue(
+    alloc: Global,
+    signer: &KeyPair,
+    typ: TextType,
+    input: Text,
+    notes: &mut Notes,
+) -> Result<Reply, Memory>
     ensures reply { IfOk result (λ reply. reply ≡ issue_reply signer.now typ input) }
     ensures sealed { IfOk result (IsSealedReply signer.now) }
 {
-    let tree = match read_input(alloc, input) {
+    let tree = match read_input(alloc, input, notes) {
         Ok(tree) => tree,
         Err(TreeFault::Memory) => return Err(Memory),
         Err(TreeFault::Syntax) => return plain(alloc, 2, b"input\n"),
     };
     if is_object(&tree) {
-        seal_claims(alloc, signer, typ, tree)
+        seal_claims(alloc, signer, typ, tree, notes)
     } else {
         plain(alloc, 2, b"input\n")
     }
 }
 
 // The tree of the input, whose memory is free after it.
-fn read_input(alloc: Global, input: Text) -> Result<Json, TreeFault>
+fn read_input(alloc: Global, input: Text, notes: &mut Notes) -> Result<Json, TreeFault>
     ensures tree { Reads result (tree_in input) }
     ensures well_formed { IfOk result IsWellFormed }
 {
-    read_tree(alloc, input.as_slice())
+    let read = read_tree(alloc, input.as_slice());
+    explain_unless_object(alloc, input.as_slice(), &read, notes);
+    read
 }
 
 fn is_object(tree: &Json) -> bool
@@ -59,20 +72,29 @@ fn is_object(tree: &Json) -> bool
 
 // The same of claims that are an object.
 #[tactic(auto, unfolding(crate::specs::Issues::of_object, crate::specs::Issues::sealed_reply))]
-fn seal_claims(alloc: Global, signer: &KeyPair, typ: TextType, tree: Json) -> Result<Reply, Memory>
+fn seal_claims(
+    alloc: Global,
+    signer: &KeyPair,
+    typ: TextType,
+    tree: Json,
+    notes: &mut Notes,
+) -> Result<Reply, Memory>
     requires object { IsSome (as_object tree) }
     requires formed { IsWellFormed tree }
     ensures reply { IfOk result (λ reply. reply ≡ of_object signer.now typ tree) }
     ensures sealed { IfOk result (IsSealedReply signer.now) }
 {
     if !is_whole(&tree) {
+        explain_numbers(alloc, &tree, notes);
         return plain(alloc, 1, b"refused Form\n");
     }
     let payload = write_tree(alloc, &tree)?;
     if payload.len() > MOST_CLAIMS {
+        explain_length(alloc, payload.len(), notes);
         return plain(alloc, 1, b"refused TooLong\n");
     }
-    if !are_read(alloc, typ, tree)? {
+    warn_of_sealing(alloc, signer, typ, &tree, notes);
+    if !are_read(alloc, typ, tree, payload.as_slice(), notes)? {
         return plain(alloc, 1, b"refused Form\n");
     }
     let typ = typ.name(alloc)?;
@@ -85,37 +107,54 @@ fn seal_claims(alloc: Global, signer: &KeyPair, typ: TextType, tree: Json) -> Re
     })
 }
 
-// Whether the claims are those of a text of the type.
-fn are_read(alloc: Global, typ: TextType, claims: Json) -> Result<bool, Memory>
+// Whether the claims, whose compact JSON is the payload, are those of a text of the type.
+fn are_read(
+    alloc: Global,
+    typ: TextType,
+    claims: Json,
+    payload: &[u8],
+    notes: &mut Notes,
+) -> Result<bool, Memory>
     requires { IsWellFormed claims }
     ensures { IfOk result (λ read. read ≡ claims_read typ claims) }
 {
     match typ {
-        TextType::Statement => is_statement(alloc, claims),
-        TextType::Mark => is_mark(Mark::of_claims(alloc, &claims)),
-        TextType::Delegation => is_mark(delegation_of_claims(alloc, &claims)),
+        TextType::Statement => is_statement(alloc, claims, payload, notes),
+        TextType::Mark => is_mark(alloc, Mark::of_claims(alloc, &claims), notes),
+        TextType::Delegation => is_mark(alloc, delegation_of_claims(alloc, &claims), notes),
     }
 }
 
 // Whether a mark or a delegation was read, unless memory was wanting.
-fn is_mark(read: Result<Mark, MarkFault>) -> Result<bool, Memory>
+fn is_mark(alloc: Global, read: Result<Mark, MarkFault>, notes: &mut Notes) -> Result<bool, Memory>
     ensures { (expected : Result Claimed Fault) → Gives read expected → IfOk result (λ read. read ≡ is_ok expected) }
 {
     match read {
         Ok(_) => Ok(true),
         Err(MarkFault::Memory) => Err(Memory),
-        Err(_) => Ok(false),
+        Err(fault) => {
+            explain_mark_claims(alloc, &fault, notes);
+            Ok(false)
+        }
     }
 }
 
 // Whether the claims are those of an entity statement (OpenID Federation 1.0 section 3.1.1).
-fn is_statement(alloc: Global, claims: Json) -> Result<bool, Memory>
+fn is_statement(
+    alloc: Global,
+    claims: Json,
+    payload: &[u8],
+    notes: &mut Notes,
+) -> Result<bool, Memory>
     requires { IsWellFormed claims }
     ensures { IfOk result (λ read. read ≡ is_ok (claims_of_tree claims)) }
 {
     match Statement::of_claims(alloc, claims) {
         Ok(_) => Ok(true),
         Err(StatementFault::Memory) => Err(Memory),
-        Err(_) => Ok(false),
+        Err(fault) => {
+            explain_claims(alloc, payload, &fault, notes);
+            Ok(false)
+        }
     }
 }

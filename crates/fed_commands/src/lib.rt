@@ -1,15 +1,16 @@
 //! Layer 7, the program: what `fed` does with its words, its input, its files and its clock.
 //!
 //! A command is read from the words, looks at the file that it names, is answered or performed on the input, and its reply is kept and
-//! written. [`run`] does all of it over any source, sink, store and clock, and carries what is proved of the program; the program
-//! `fed` makes the real outside and calls it.
+//! written. [`run`] does all of it over any source, sink, store and clock, and carries what is proved of the program. [`run_with_notes`]
+//! does the same, and hands what a person is to read of it to one more sink; the program `fed` makes the real outside and calls it.
 #![tactic(auto)]
 
 mod answer;
 mod check;
 mod check_inputs;
 mod check_lines;
-mod help;
+mod claim_notes;
+mod file_notes;
 mod input;
 mod issue;
 mod keygen;
@@ -21,4 +22,5 @@ mod top;
 mod verify;
 mod verify_finding;
 
-pub use top::run;
+pub use output::write_all;
+pub use top::{run, run_with_notes};

@@ -4,21 +4,23 @@ ghost use Rattle.std.specs.Prelude.{◌≡◌, IfOk, List, ℕ, Option, Some, un
 ghost use Rattle.key_ring.specs.Rings.{Ring};
 ghost use Rattle.fed_commands.specs.Sealings.{IsSealedBySigner};
 ghost use Rattle.fed_commands.specs.Operations.{IsCheckPrepared, IsFileOf, IsKeygenPrepared, IsPerformed, IsPrepared, IsRingFound, IsRingPrepared, issue_prepared, rotate_prepared};
-ghost use Rattle.fed_commands.specs.Replies.{plain};
+ghost use Rattle.fed_commands.specs.Replies.{bad_input, plain};
 
 use crate::check::check;
 use crate::check_inputs::read_keys;
-use crate::help::{HELP, VERSION};
+use crate::file_notes::{explain_no_keys, explain_no_ring, warn_of_signer};
 use crate::issue::issue;
 use crate::keygen::keygen;
 use crate::reply::{Reply, plain};
 use crate::rotate::{add, retire, revoke};
 use crate::verify::verify;
 use entity_id::EntityId;
+use fed_notes::{explain_existing_file, explain_long_input};
 use fed_ports::{Duplicate, Memory, Text};
-use fed_words::{Act, Command, Moment, TextType};
+use fed_words::{Act, Command, HELP, Moment, TextType, VERSION};
 use jwk_set::JwkSet;
 use key_ring::{KeyRing, RingFault};
+use plain_notes::Notes;
 use std::alloc::Global;
 
 /// The file that a command names.
@@ -76,23 +78,29 @@ pub fn prepare(
     command: &Command,
     moment: u64,
     file: &File,
+    notes: &mut Notes,
 ) -> Result<Prepared, Memory>
     ensures { (bytes : Option (List ℕ)) → IsFileOf file.now bytes → IfOk result (IsPrepared command.now moment bytes) }
 {
     match command {
         Command::Verify(key) => Ok(Prepared::WantsInput(Operation::Verify(*key))),
-        Command::Keygen {
-            ring_file: _,
-            at,
-            exp,
-        } => prepare_keygen(alloc, *at, *exp, file),
-        Command::Issue { ring_file: _, typ } => prepare_issue(alloc, *typ, file),
-        Command::Rotate { ring_file: _, act } => prepare_rotate(alloc, act, file),
+        Command::Keygen { ring_file, at, exp } => prepare_keygen(
+            alloc, ring_file, *at, *exp, file, notes,
+        ),
+        Command::Issue { ring_file, typ } => prepare_issue(alloc, ring_file, *typ, file, notes),
+        Command::Rotate { ring_file, act } => prepare_rotate(alloc, ring_file, act, file, notes),
         Command::Check {
             anchor,
-            keys_file: _,
+            keys_file,
             at,
-        } => prepare_check(alloc, anchor, moment_or(*at, moment), file),
+        } => prepare_check(
+            alloc,
+            anchor,
+            keys_file,
+            moment_or(*at, moment),
+            file,
+            notes,
+        ),
         Command::Help => answered(alloc, 0, HELP),
         Command::Version => answered(alloc, 0, VERSION),
         Command::Faulty => answered(alloc, 2, b"words\n"),
@@ -116,12 +124,22 @@ fn answered(alloc: Global, status: u8, text: &[u8]) -> Result<Prepared, Memory>
 }
 
 // A key is made only where no file has the ring's name.
-fn prepare_keygen(alloc: Global, at: Moment, exp: Moment, file: &File) -> Result<Prepared, Memory>
+fn prepare_keygen(
+    alloc: Global,
+    name: &Text,
+    at: Moment,
+    exp: Moment,
+    file: &File,
+    notes: &mut Notes,
+) -> Result<Prepared, Memory>
     ensures { (bytes : Option (List ℕ)) → IsFileOf file.now bytes → IfOk result (IsKeygenPrepared at exp bytes) }
 {
     match file {
         File::Absent => Ok(Prepared::WantsInput(Operation::Keygen { at, exp })),
-        File::TooLong | File::Whole(_) => answered(alloc, 1, b"refused Exists\n"),
+        File::TooLong | File::Whole(_) => {
+            explain_existing_file(alloc, name, notes);
+            answered(alloc, 1, b"refused Exists\n")
+        }
     }
 }
 
@@ -140,28 +158,51 @@ fn open_ring(alloc: Global, file: &File) -> Result<Option<KeyRing>, Memory>
     }
 }
 
+// What is answered where there is no ring.
+fn no_ring(alloc: Global, name: &Text, file: &File, notes: &mut Notes) -> Result<Prepared, Memory>
+    ensures { IfOk result (λ prepared. prepared ≡ Prepared.Answered bad_input) }
+{
+    explain_no_ring(alloc, name, file, notes);
+    answered(alloc, 2, b"input\n")
+}
+
 // Claims are sealed by the signer of a ring.
-fn prepare_issue(alloc: Global, typ: TextType, file: &File) -> Result<Prepared, Memory>
+fn prepare_issue(
+    alloc: Global,
+    name: &Text,
+    typ: TextType,
+    file: &File,
+    notes: &mut Notes,
+) -> Result<Prepared, Memory>
     ensures { (bytes : Option (List ℕ)) → IsFileOf file.now bytes → IfOk result (IsRingPrepared (issue_prepared typ) bytes) }
 {
     match open_ring(alloc, file)? {
-        Some(ring) => Ok(Prepared::WantsInput(Operation::Issue { ring, typ })),
-        None => answered(alloc, 2, b"input\n"),
+        Some(ring) => {
+            warn_of_signer(alloc, name, file, notes);
+            Ok(Prepared::WantsInput(Operation::Issue { ring, typ }))
+        }
+        None => no_ring(alloc, name, file, notes),
     }
 }
 
 // A change is made of a ring.
-fn prepare_rotate(alloc: Global, act: &Act, file: &File) -> Result<Prepared, Memory>
+fn prepare_rotate(
+    alloc: Global,
+    name: &Text,
+    act: &Act,
+    file: &File,
+    notes: &mut Notes,
+) -> Result<Prepared, Memory>
     ensures { (bytes : Option (List ℕ)) → IsFileOf file.now bytes → IfOk result (IsRingPrepared (rotate_prepared act.now) bytes) }
 {
     match open_ring(alloc, file)? {
-        Some(ring) => change(alloc, act, ring),
-        None => answered(alloc, 2, b"input\n"),
+        Some(ring) => change(alloc, act, ring, notes),
+        None => no_ring(alloc, name, file, notes),
     }
 }
 
 // The seeds of a new key are those of the input; another change wants none.
-fn change(alloc: Global, act: &Act, ring: KeyRing) -> Result<Prepared, Memory>
+fn change(alloc: Global, act: &Act, ring: KeyRing, notes: &mut Notes) -> Result<Prepared, Memory>
     ensures { IfOk result (λ prepared. prepared ≡ rotate_prepared act.now (Some ring)) }
 {
     match act {
@@ -170,19 +211,26 @@ fn change(alloc: Global, act: &Act, ring: KeyRing) -> Result<Prepared, Memory>
             at: *at,
             exp: *exp,
         })),
-        Act::Retire(kid) => Ok(Prepared::Answered(retire(alloc, ring, kid)?)),
+        Act::Retire(kid) => Ok(Prepared::Answered(retire(alloc, ring, kid, notes)?)),
         Act::Revoke { kid, at, reason } => {
-            Ok(Prepared::Answered(revoke(alloc, ring, kid, *at, *reason)?))
+            Ok(Prepared::Answered(revoke(alloc, ring, kid, *at, *reason, notes)?))
         }
     }
 }
 
 // A chain is checked under the keys of a file.
-fn prepare_check(alloc: Global, anchor: &EntityId, at: u64, file: &File) -> Result<Prepared, Memory>
+fn prepare_check(
+    alloc: Global,
+    anchor: &EntityId,
+    name: &Text,
+    at: u64,
+    file: &File,
+    notes: &mut Notes,
+) -> Result<Prepared, Memory>
     ensures { (bytes : Option (List ℕ)) → IsFileOf file.now bytes → IfOk result (IsCheckPrepared anchor.now at bytes) }
 {
     let File::Whole(bytes) = file else {
-        return answered(alloc, 2, b"input\n");
+        return no_keys(alloc, name, file, notes);
     };
     match read_keys(alloc, bytes.as_slice())? {
         Some(keys) => Ok(Prepared::WantsInput(Operation::Check {
@@ -190,24 +238,38 @@ fn prepare_check(alloc: Global, anchor: &EntityId, at: u64, file: &File) -> Resu
             keys,
             at,
         })),
-        None => answered(alloc, 2, b"input\n"),
+        None => no_keys(alloc, name, file, notes),
     }
+}
+
+// What is answered where there are no keys.
+fn no_keys(alloc: Global, name: &Text, file: &File, notes: &mut Notes) -> Result<Prepared, Memory>
+    ensures { IfOk result (λ prepared. prepared ≡ Prepared.Answered bad_input) }
+{
+    explain_no_keys(alloc, name, file, notes);
+    answered(alloc, 2, b"input\n")
 }
 
 /// What is answered on the input, without its line end; an input that is too long is `None`. Claims and chains free its memory once they
 /// are read from it.
-pub fn perform(alloc: Global, operation: Operation, input: Option<Text>) -> Result<Reply, Memory>
+pub fn perform(
+    alloc: Global,
+    operation: Operation,
+    input: Option<Text>,
+    notes: &mut Notes,
+) -> Result<Reply, Memory>
     ensures performed { IfOk result (IsPerformed operation input) }
     ensures sealed { (ring : Ring) (typ : TextType) → operation ≡ Operation.Issue ring typ → IfOk result (IsSealedBySigner ring) }
 {
     let Some(input) = input else {
+        explain_long_input(alloc, notes);
         return plain(alloc, 2, b"input\n");
     };
     match operation {
-        Operation::Verify(key) => verify(alloc, &key, input.as_slice()),
-        Operation::Keygen { at, exp } => keygen(alloc, at, exp, input.as_slice()),
-        Operation::Issue { ring, typ } => issue(alloc, ring.signer(), typ, input),
-        Operation::Add { ring, at, exp } => add(alloc, ring, at, exp, input.as_slice()),
-        Operation::Check { anchor, keys, at } => check(alloc, &anchor, &keys, at, input),
+        Operation::Verify(key) => verify(alloc, &key, input.as_slice(), notes),
+        Operation::Keygen { at, exp } => keygen(alloc, at, exp, input.as_slice(), notes),
+        Operation::Issue { ring, typ } => issue(alloc, ring.signer(), typ, input, notes),
+        Operation::Add { ring, at, exp } => add(alloc, ring, at, exp, input.as_slice(), notes),
+        Operation::Check { anchor, keys, at } => check(alloc, &anchor, &keys, at, input, notes),
     }
 }

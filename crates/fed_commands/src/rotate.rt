@@ -6,10 +6,12 @@ ghost use Rattle.key_ring.specs.Changes.{add_key, kid_added, retire_key, revoke_
 ghost use Rattle.fed_commands.specs.Rotations.{IsRefusedAs, add_reply, change_reply};
 
 use crate::reply::{Reply, plain};
+use fed_notes::{explain_change, explain_seeds};
 use fed_ports::{Memory, MemoryStore, Seq, Text};
 use fed_words::Moment;
 use hex::FromHex;
 use key_ring::{KeyRing, RevokeReason, RingFault};
+use plain_notes::Notes;
 use std::alloc::Global;
 
 // The room for a ring's file, in bytes: 16 keys have less than half of it.
@@ -28,12 +30,16 @@ pub fn add(
     at: Moment,
     exp: Moment,
     input: &[u8],
+    notes: &mut Notes,
 ) -> Result<Reply, Memory>
     ensures { IfOk result (λ reply. reply ≡ add_reply ring at exp input.now) }
 {
     match <[u8; 48]>::from_hex(input) {
-        Ok(seeds) => add_key(alloc, ring, &seeds, at, exp),
-        Err(_) => plain(alloc, 2, b"input\n"),
+        Ok(seeds) => add_key(alloc, ring, &seeds, at, exp, notes),
+        Err(_) => {
+            explain_seeds(alloc, input, notes);
+            plain(alloc, 2, b"input\n")
+        }
     }
 }
 
@@ -43,6 +49,7 @@ fn add_key(
     seeds: &[u8; 48],
     at: Moment,
     exp: Moment,
+    notes: &mut Notes,
 ) -> Result<Reply, Memory>
     ensures { IfOk result (λ reply. reply ≡ change_reply ring (add_key seeds.now at exp) (kid_added seeds.now)) }
 {
@@ -50,19 +57,24 @@ fn add_key(
     let name = Text::new(alloc);
     match ring.rotate(alloc, &mut store, &name, seeds, at.seconds(), exp.seconds()) {
         Ok(kid) => changed(alloc, kid, store.file(b"")),
-        Err(fault) => refused(alloc, fault),
+        Err(fault) => refused(alloc, fault, notes),
     }
 }
 
 /// The reply where the key of that name retires.
-pub fn retire(alloc: Global, mut ring: KeyRing, kid: &Text) -> Result<Reply, Memory>
+pub fn retire(
+    alloc: Global,
+    mut ring: KeyRing,
+    kid: &Text,
+    notes: &mut Notes,
+) -> Result<Reply, Memory>
     ensures { IfOk result (λ reply. reply ≡ change_reply ring (retire_key kid.now) (codes "done")) }
 {
     let mut store = blank_store(alloc)?;
     let name = Text::new(alloc);
     match ring.retire(alloc, &mut store, &name, kid) {
         Ok(()) => changed(alloc, Text::of(alloc, b"done")?, store.file(b"")),
-        Err(fault) => refused(alloc, fault),
+        Err(fault) => refused(alloc, fault, notes),
     }
 }
 
@@ -73,6 +85,7 @@ pub fn revoke(
     kid: &Text,
     at: Moment,
     reason: RevokeReason,
+    notes: &mut Notes,
 ) -> Result<Reply, Memory>
     ensures { IfOk result (λ reply. reply ≡ change_reply ring (revoke_key kid.now at reason) (codes "done")) }
 {
@@ -80,7 +93,7 @@ pub fn revoke(
     let name = Text::new(alloc);
     match ring.revoke(alloc, &mut store, &name, kid, at.seconds(), reason) {
         Ok(()) => changed(alloc, Text::of(alloc, b"done")?, store.file(b"")),
-        Err(fault) => refused(alloc, fault),
+        Err(fault) => refused(alloc, fault, notes),
     }
 }
 
@@ -100,9 +113,10 @@ fn changed(alloc: Global, mut line: Text, file: Option<&[u8]>) -> Result<Reply, 
 }
 
 // The refusal of a change. The store has room for its one file, so the store's fault is want of memory.
-fn refused(alloc: Global, fault: RingFault) -> Result<Reply, Memory>
+fn refused(alloc: Global, fault: RingFault, notes: &mut Notes) -> Result<Reply, Memory>
     ensures { IfOk result (IsRefusedAs fault) }
 {
+    explain_change(alloc, &fault, notes);
     match fault {
         RingFault::Known(_) => plain(alloc, 1, b"refused Known\n"),
         RingFault::Unknown(_) => plain(alloc, 1, b"refused Unknown\n"),

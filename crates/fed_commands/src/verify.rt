@@ -4,18 +4,34 @@ ghost use Rattle.std.specs.Prelude.{IfOk};
 ghost use Rattle.fed_commands.specs.Findings.{IsVerified};
 
 use crate::reply::Reply;
-use crate::verify_finding::examine;
+use crate::verify_finding::{Finding, examine};
+use fed_notes::explain_verify;
 use fed_ports::Memory;
+use plain_notes::Notes;
 use std::alloc::Global;
 
 /// What is found of a configuration under a public key.
-pub fn verify(alloc: Global, key: &[u8; 32], text: &[u8]) -> Result<Reply, Memory>
+pub fn verify(
+    alloc: Global,
+    key: &[u8; 32],
+    text: &[u8],
+    notes: &mut Notes,
+) -> Result<Reply, Memory>
     ensures { IfOk result (IsVerified key.now text.now) }
 {
     let finding = examine(alloc, key, text)?;
+    explain_finding(alloc, &finding, text, notes);
     Ok(Reply {
         status: finding.status(),
         text: finding.line(alloc)?,
         kept: None,
     })
+}
+
+// Says why the text isn't valid.
+fn explain_finding(alloc: Global, finding: &Finding, text: &[u8], notes: &mut Notes) {
+    match finding {
+        Finding::Valid(_) => {},
+        Finding::Form | Finding::Names | Finding::Signature => explain_verify(alloc, text, notes),
+    }
 }

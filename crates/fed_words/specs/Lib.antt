@@ -1,4 +1,5 @@
 pub mod Acts
 pub mod Commands
 pub mod Options
+pub mod Services
 pub mod TextTypes

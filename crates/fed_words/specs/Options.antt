@@ -28,3 +28,14 @@ number_of word = if is_led word then number_after 0 word else None
 -- the moment that the option's value gives
 abbrev pub moment_in : List ℕ → List (List ℕ) → Option ℕ
 moment_in name words = option_and_then number_of (option_in name words)
+
+-- the number of the digits, from 1 up to the most that it may be
+abbrev pub if_counted : ℕ → ℕ → Option ℕ
+if_counted most n = if nat_le 1 n && nat_le n most then Some n else None
+
+abbrev pub count_of : ℕ → List ℕ → Option ℕ
+count_of most word = option_and_then (if_counted most) (number_of word)
+
+-- the number that the option's value gives
+abbrev pub count_in : List ℕ → ℕ → List (List ℕ) → Option ℕ
+count_in name most words = option_and_then (count_of most) (option_in name words)

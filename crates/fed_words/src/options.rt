@@ -1,9 +1,9 @@
 // Options, their values and numbers among the words.
 
-ghost use Rattle.std.specs.Prelude.{◌≡◌, ◌<◌, IfSome};
+ghost use Rattle.std.specs.Prelude.{◌≡◌, ◌<◌, ◌≤◌, IfSome};
 ghost use Rattle.std.specs.Option.{option_copied};
 ghost use Rattle.fed_base.specs.Moments.{moment_limit};
-ghost use Rattle.fed_words.specs.Options.{option_in, number_after, number_of, moment_in};
+ghost use Rattle.fed_words.specs.Options.{option_in, number_after, number_of, moment_in, count_in, count_of};
 
 use crate::moment::Moment;
 use fed_base::{MOMENT_LIMIT, Text};
@@ -35,14 +35,44 @@ pub fn moment_in(words: &[Text], name: &[u8]) -> Option<Moment>
     }
 }
 
-// The moment of these decimal digits, without sign and without a leading zero, below 2^62.
-fn moment_of(word: &[u8]) -> Option<Moment>
+/// The number that the option's value gives, from 1 up to the most that it may be.
+pub fn count_in(words: &[Text], name: &[u8], most: u64) -> Option<u64>
+    ensures number { result ≡ count_in name.now most words.now }
+    ensures within { IfSome result (λ n. (1 ≤ n) × (n ≤ most)) }
+{
+    let value = option_in(words, name)?;
+    count_of(value.as_slice(), most)
+}
+
+/// The number of these decimal digits, from 1 up to the most that it may be.
+pub(crate) fn count_of(word: &[u8], most: u64) -> Option<u64>
+    ensures number { result ≡ count_of most word.now }
+    ensures within { IfSome result (λ n. (1 ≤ n) × (n ≤ most)) }
+{
+    let number = number_of(word)?;
+    if 1 <= number && number <= most {
+        Some(number)
+    } else {
+        None
+    }
+}
+
+/// The moment of these decimal digits, without sign and without a leading zero, below 2^62.
+pub(crate) fn moment_of(word: &[u8]) -> Option<Moment>
     ensures { result ≡ number_of word.now }
+{
+    Some(Moment::of(number_of(word)?))
+}
+
+// The number of these decimal digits, without sign and without a leading zero, below 2^62.
+fn number_of(word: &[u8]) -> Option<u64>
+    ensures number { result ≡ number_of word.now }
+    ensures small { IfSome result (λ n. n < moment_limit) }
 {
     match word {
         [] => None,
         [b'0', _, ..] => None,
-        _ => Some(Moment::of(number_after(0, word)?)),
+        _ => number_after(0, word),
     }
 }
 

@@ -43,6 +43,10 @@ pub record At (P : Type 0) : Type 0 where
   pub store_faults : ℕ
   pub network_faults : ℕ
 
+abbrev pub at_moment : {P : Type 0} → Option Files → ServiceAt P → ℕ → ℕ → At P
+at_moment files service store_faults network_faults =
+    record { files = files; service = service; store_faults = store_faults; network_faults = network_faults }
+
 -- why there is no node
 abbrev pub end_without_node : NodeFault → ServiceEnd
 end_without_node node_fault.Input = ends.Input

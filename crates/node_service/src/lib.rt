@@ -4,6 +4,7 @@
 
 mod connections;
 mod node_files;
+mod notes;
 mod service;
 
 pub use service::{ServiceEnd, serve_authority};

@@ -7,8 +7,10 @@ ghost use Rattle.node_service.specs.Ends.{Ends, EndsOf};
 
 use crate::connections::{Stop, serve_connections};
 use crate::node_files::{NodeFault, open_authority};
+use crate::notes::{explain_accept, explain_port};
 use fed_ports::{Clock, Network, Store, Text};
 use fed_serve::Node;
+use plain_notes::Notes;
 use std::alloc::Global;
 
 /// How serving ended.
@@ -52,6 +54,7 @@ pub fn serve_authority<R, D: Store, N: Network, C: Clock>(
     store: &mut D,
     net: &mut N,
     clock: &mut C,
+    notes: &mut Notes,
 ) -> ServiceEnd
     ensures { Ends
         (λ peer. peer_at (N.Peer.left peer) (N.Peer.held peer) (N.Peer.read_faults peer) (N.Peer.write_faults peer))
@@ -69,8 +72,17 @@ pub fn serve_authority<R, D: Store, N: Network, C: Clock>(
           network_faults = N.faults net.new;
         }) result }
 {
-    match open_authority(alloc, config, store) {
-        Ok(registry) => serve_node(&Node { registry }, rt, alloc, port, connections, net, clock),
+    match open_authority(alloc, config, store, notes) {
+        Ok(registry) => serve_node(
+            &Node { registry },
+            rt,
+            alloc,
+            port,
+            connections,
+            net,
+            clock,
+            notes,
+        ),
         Err(fault) => ServiceEnd::from(fault),
     }
 }
@@ -84,6 +96,7 @@ fn serve_node<R, N: Network, C: Clock>(
     connections: u64,
     net: &mut N,
     clock: &mut C,
+    notes: &mut Notes,
 ) -> ServiceEnd
     ensures { EndsOf
         (λ peer. peer_at (N.Peer.left peer) (N.Peer.held peer) (N.Peer.read_faults peer) (N.Peer.write_faults peer))
@@ -98,11 +111,15 @@ fn serve_node<R, N: Network, C: Clock>(
         }) result }
 {
     if net.listen(port).is_err() {
+        explain_port(alloc, port, notes);
         return ServiceEnd::NetworkFailed;
     }
     match serve_connections(node, rt, alloc, net, clock, connections) {
         Ok(()) => ServiceEnd::Served,
-        Err(Stop::Network) => ServiceEnd::NetworkFailed,
+        Err(Stop::Network) => {
+            explain_accept(alloc, notes);
+            ServiceEnd::NetworkFailed
+        }
         Err(Stop::Memory) => ServiceEnd::Memory,
     }
 }

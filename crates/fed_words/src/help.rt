@@ -10,6 +10,7 @@ usage: fed verify PUB < TEXT
        fed rotate --ring FILE --act retire --kid KID
        fed rotate --ring FILE --act revoke --kid KID --at T --reason R
        fed check --anchor ID --keys FILE [--at T] < CHAIN
+       fed authority --config FILE --port P --connections N
        fed --help | --version
 
 verify   checks one entity configuration under the public key PUB, 43 base64url
@@ -30,6 +31,11 @@ check    checks a trust chain, a JSON list of texts from the leaf's up, for the
          anchor ID, whose keys are the key set in the file --keys, at the moment
          --at, or now. It writes `valid <leaf> <exp>` and the leaf's metadata on
          a second line, or `refused <place> <reason>`.
+authority
+         answers N connections over HTTP on port P, of 127.0.0.1 or the address in
+         FED_LISTEN, as the authority of the configuration in the file --config:
+         its configuration, statements, list, historical keys and marks' statuses.
+         It writes `served N`. FED_LOG=off leaves out the line of each connection.
 
 Options stand in any order. T is a moment in seconds since 1970, below 2^62. An
 input or a file has at most 4,194,304 bytes; one LF or CR LF may end an input.
@@ -39,6 +45,7 @@ status  0  the work is done              1  refused
            their form                    3  reading the input failed
         4  writing the output failed     5  memory was wanting
         6  reading or keeping a file failed
+        7  the network failed: the port is taken, or nobody can be accepted
 ";
 
 /// What `--version` writes.

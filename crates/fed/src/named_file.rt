@@ -1,0 +1,45 @@
+// What the system tells of the file that the words name.
+
+use fed_ports::Text;
+use plain_notes::{Notes, Sentence};
+use std::alloc::Global;
+use std::io::ErrorKind;
+use std::os::unix::fs::PermissionsExt;
+use std::rt::Files;
+use std::{fs, str};
+
+/// The word behind the option, where there is one.
+pub fn value_of<'a>(words: &'a [Text], name: &[u8]) -> Option<&'a str> {
+    match words {
+        [option, value, ..] if option.as_slice() == name => str::from_utf8(value.as_slice()).ok(),
+        [_, rest @ ..] => value_of(rest, name),
+        [] => None,
+    }
+}
+
+/// Says what keeps the file from being read or kept.
+pub fn explain_fault<R: Files>(rt: &R, alloc: Global, path: &str, notes: &mut Notes) {
+    if fs::metadata(rt, path).is_ok_and(|found| found.is_dir()) {
+        notes.say(Sentence::of(alloc, path.as_bytes()).and(b" is a folder, and not a file"));
+    } else if fs::open(rt, path).is_err_and(|error| error.kind() == ErrorKind::PermissionDenied) {
+        notes.say(Sentence::of(alloc, path.as_bytes()).and(b" isn't yours to read"));
+    } else if let Some((folder, _)) = path.rsplit_once('/') {
+        if !folder.is_empty() && fs::metadata(rt, folder).is_err() {
+            notes.say(Sentence::of(alloc, b"no such folder: ").and(folder.as_bytes()));
+        }
+    }
+}
+
+/// Says so where others than its owner can read or write the ring file.
+pub fn warn_of_open_file<R: Files>(rt: &R, alloc: Global, path: &str, notes: &mut Notes) {
+    let is_open = fs::metadata(rt, path).is_ok_and(|found| found.permissions().mode() & 0o077 != 0);
+    if is_open {
+        notes.say(
+            Sentence::of(alloc, b"others than its owner can read ")
+                .and(path.as_bytes())
+                .and(b" and so sign in the node's name; `chmod 600 ")
+                .and(path.as_bytes())
+                .and(b"` keeps it to its owner"),
+        );
+    }
+}

@@ -1,0 +1,43 @@
+-- Where a node's files aren't of their form, the line says so.
+use Rattle.std.proofs.Common.{◌≡◌, ◌⊎◌, ◌<◌, ℕ, sym, ◌∙◌, inl, inr, arith, lit<}
+use Rattle.fed_serve.specs.Moments.{PeerAt}
+use Rattle.node_service.specs.declared.service.ServiceEnd.{ServiceEnd}
+use Rattle.node_service.specs.declared.service.ServiceEnd.TheVariants as ends
+use Rattle.node_service.specs.Ends.{At, Ends, Order}
+use Rattle.fed_run.specs.Authorities.{HasNoNode, Outside, RunsAuthority, WritesLine, input_line}
+
+no_node : {P : Type 0} (at : P → PeerAt) (order : Order) (before now : At P) (end : ServiceEnd) → end ≡ ends.Input → Ends at order before now end
+    → HasNoNode order before now
+no_node at order before now end is e = record { none = e.input is; unserved = e.unserved is }
+
+-- no status above 4
+not_silent : (s n : ℕ) → s ≡ n → n < 5 → (s ≡ 5) ⊎ ((s ≡ 6) ⊎ (s ≡ 7)) → ⊥
+not_silent s n is small (inl e) = absurd (omega (arith, is, small, e))
+not_silent s n is small (inr (inl e)) = absurd (omega (arith, is, small, e))
+not_silent s n is small (inr (inr e)) = absurd (omega (arith, is, small, e))
+
+pub runs_input : {P : Type 0} (at : P → PeerAt) (order : Order) (before now : Outside P) (end : ServiceEnd) (status : ℕ) → end ≡ ends.Input
+    → Ends at order before.node now.node end → WritesLine 2 input_line before.held now.held before.write_faults now.write_faults status
+    → RunsAuthority at order before now status
+runs_input at order before now end status is e (inl (done, written, same)) = record {
+  done = λ zero. absurd (omega (arith, done, zero));
+  input = λ two. (no_node at order before.node now.node end is e, written);
+  cut = λ four. absurd (omega (arith, done, four));
+  sink = record { only = λ four. absurd (omega (arith, done, four)); always = λ less. absurd (omega (arith, same, less)) };
+  store = record { only = λ six. absurd (omega (arith, done, six)); always = λ less. absurd (cc (sym is ∙ e.store.always less)) };
+  network = record { only = λ seven. absurd (omega (arith, done, seven)); always = λ less. absurd (cc (sym is ∙ e.network.always less)) };
+  silent = λ either. absurd (not_silent status 2 done (lit< tt) either);
+  files = e.files;
+  range = inr (inl done);
+}
+runs_input at order before now end status is e (inr (four, (n, written), rose)) = record {
+  done = λ zero. absurd (omega (arith, four, zero));
+  input = λ two. absurd (omega (arith, four, two));
+  cut = λ _. (n, inr ((no_node at order before.node now.node end is e, written)));
+  sink = record { only = λ _. rose; always = λ _. four };
+  store = record { only = λ six. absurd (omega (arith, four, six)); always = λ less. absurd (cc (sym is ∙ e.store.always less)) };
+  network = record { only = λ seven. absurd (omega (arith, four, seven)); always = λ less. absurd (cc (sym is ∙ e.network.always less)) };
+  silent = λ either. absurd (not_silent status 4 four (lit< tt) either);
+  files = e.files;
+  range = inr (inr (inl four));
+}

@@ -1,0 +1,61 @@
+-- What `authority` does: the outside before and after, and the status.
+use Rattle.std.specs.Prelude.{◌≡◌, ◌⊎◌, ℕ, List, [], ◌∷◌, ◌++◌, take, codes, decimal, Option, None}
+use Rattle.fed_base.specs.Counts.{Rose}
+use Rattle.fed_ports.specs.Bytes.{Appends}
+use Rattle.authority_core.specs.Nodes.{Node}
+use Rattle.fed_commands.specs.Answers.{Tells}
+use Rattle.fed_serve.specs.Moments.{PeerAt}
+use Rattle.fed_words.specs.declared.service.Service.{Service}
+use Rattle.fed_words.specs.declared.service.Service.TheVariants.{Authority}
+use Rattle.node_service.specs.Ends.{At, HasServed, Order}
+use Rattle.node_service.specs.NodeFiles.{IsAuthorityAlone, IsNodeOf}
+
+-- the output, where it is told, and how often it failed; the files, the network and the clock
+pub record Outside (P : Type 0) : Type 0 where
+  pub held : Option (List ℕ)
+  pub write_faults : ℕ
+  pub node : At P
+
+abbrev pub outside : {P : Type 0} → Option (List ℕ) → ℕ → At P → Outside P
+outside held write_faults node = record { held = held; write_faults = write_faults; node = node }
+
+-- the line was written and the status says so, or a beginning of it was and the sink failed
+abbrev pub WritesLine : ℕ → List ℕ → Option (List ℕ) → Option (List ℕ) → ℕ → ℕ → ℕ → Type 0
+WritesLine status line old new before now result =
+    ((result ≡ status) × Appends old new line × (now ≡ before)) ⊎ ((result ≡ 4) × ((n : ℕ) × Appends old new (take n line)) × Rose before now)
+
+-- what is written once all are served
+abbrev pub served_line : ℕ → List ℕ
+served_line n = codes "served " ++ (decimal n ++ 10 ∷ [])
+
+-- what is written where a file isn't of its form
+abbrev pub input_line : List ℕ
+input_line = codes "input" ++ 10 ∷ []
+
+-- no file is that of a node that is an authority alone, where the files are told, and nobody was served
+pub record HasNoNode {P : Type 0} (order : Order) (before now : At P) : Type 0 where
+  pub none : (node : Node) → IsNodeOf before.files order.config node → IsAuthorityAlone node → before.files ≡ None
+  pub unserved : now.service ≡ before.service
+
+-- one field for each status
+pub record RunsAuthority {P : Type 0} (at : P → PeerAt) (order : Order) (before now : Outside P) (status : ℕ) : Type 0 where
+  -- all connections were served by the node of the file, and the line says so
+  pub done : status ≡ 0 → HasServed at order before.node now.node × Appends before.held now.held (served_line order.connections)
+  -- there is no such node, and the line says so
+  pub input : status ≡ 2 → HasNoNode order before.node now.node × Appends before.held now.held input_line
+  -- the sink failed, and a beginning of one of the two lines is written, each only where it was due
+  pub cut : status ≡ 4 → (n : ℕ) × ((HasServed at order before.node now.node × Appends before.held now.held (take n (served_line order.connections)))
+      ⊎ (HasNoNode order before.node now.node × Appends before.held now.held (take n input_line)))
+  -- each of these comes only where the count of faults rose, and always where it grew
+  pub sink : Tells 4 before.write_faults now.write_faults status
+  pub store : Tells 6 before.node.store_faults now.node.store_faults status
+  pub network : Tells 7 before.node.network_faults now.node.network_faults status
+  -- after these and want of memory nothing is written
+  pub silent : (status ≡ 5) ⊎ ((status ≡ 6) ⊎ (status ≡ 7)) → now.held ≡ before.held
+  -- no file is changed
+  pub files : now.node.files ≡ before.node.files
+  pub range : (status ≡ 0) ⊎ ((status ≡ 2) ⊎ ((status ≡ 4) ⊎ ((status ≡ 5) ⊎ ((status ≡ 6) ⊎ (status ≡ 7)))))
+
+-- what a service does, by what is asked for
+abbrev pub RunsService : {P : Type 0} → (P → PeerAt) → Service → Outside P → Outside P → ℕ → Type 0
+RunsService at (Authority config port connections) before now status = RunsAuthority at (record { config = config; connections = connections }) before now status

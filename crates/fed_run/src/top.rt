@@ -1,0 +1,187 @@
+// The top calls.
+
+ghost use Rattle.std.specs.Prelude.{◌≡◌, IfSome, None};
+ghost use Rattle.fed_commands.specs.Runs.{IsRun};
+ghost use Rattle.fed_words.specs.Commands.{command_of};
+ghost use Rattle.fed_words.specs.Services.{service_of};
+ghost use Rattle.fed_serve.specs.Moments.{clock_at, peer_at};
+ghost use Rattle.fed_run.specs.Authorities.{RunsService, outside};
+ghost use Rattle.node_service.specs.Connections.{service_at};
+ghost use Rattle.node_service.specs.Ends.{at_moment};
+
+use crate::authority::serve;
+use fed_commands::write_all;
+use fed_ports::{Clock, Network, Seq, Sink, Source, Store, Text};
+use fed_words::{Service, read_service};
+use plain_notes::Notes;
+use std::alloc::Global;
+
+/// Does all that the program does, and answers its exit status.
+///
+/// The words are those after the program's name. Where they ask for a service, others are answered over the network; any other command is
+/// done by [`fed_commands::run`], whose table of statuses holds with 7 added.
+///
+/// | Status | A service ends so | Written |
+/// |---|---|---|
+/// | 0 | all connections were served | `served N` |
+/// | 2 | a file isn't there, is too long or isn't of its form, or the node isn't of the kind that is asked for | `input` |
+/// | 4 | the sink failed | a beginning of the text |
+/// | 5 | memory was wanting | nothing |
+/// | 6 | the store failed | nothing |
+/// | 7 | the network failed to listen or to accept a connection | nothing |
+pub fn run<R, S: Source, K: Sink, D: Store, N: Network, C: Clock>(
+    rt: &R,
+    alloc: Global,
+    words: &Seq<Text>,
+    input: &mut S,
+    out: &mut K,
+    store: &mut D,
+    net: &mut N,
+    clock: &mut C,
+) -> u8
+    ensures command { service_of words.now ≡ None → (net.new ≡ net.old) × IsRun (command_of words.now)
+        (record {
+          input = input.old;
+          store = store.old;
+          clock = clock.old;
+          left = S.left input.old;
+          read_faults = S.read_faults input.old;
+          held = K.held out.old;
+          write_faults = K.write_faults out.old;
+          files = D.files store.old;
+          store_faults = D.store_faults store.old;
+          readings = record { count = C.readings clock.old; last = C.last clock.old; told = C.told clock.old };
+        })
+        (record {
+          input = input.new;
+          store = store.new;
+          clock = clock.new;
+          left = S.left input.new;
+          read_faults = S.read_faults input.new;
+          held = K.held out.new;
+          write_faults = K.write_faults out.new;
+          files = D.files store.new;
+          store_faults = D.store_faults store.new;
+          readings = record { count = C.readings clock.new; last = C.last clock.new; told = C.told clock.new };
+        }) result }
+    ensures service { IfSome (service_of words.now) (λ service. (input.new ≡ input.old) × RunsService
+        (λ peer. peer_at (N.Peer.left peer) (N.Peer.held peer) (N.Peer.read_faults peer) (N.Peer.write_faults peer)) service
+        (outside (K.held out.old) (K.write_faults out.old) (at_moment (D.files store.old)
+        (service_at (N.callers net.old) (N.settled net.old) (clock_at (C.readings clock.old) (C.last clock.old) (C.told clock.old)))
+        (D.store_faults store.old) (N.faults net.old)))
+        (outside (K.held out.new) (K.write_faults out.new) (at_moment (D.files store.new)
+        (service_at (N.callers net.new) (N.settled net.new) (clock_at (C.readings clock.new) (C.last clock.new) (C.told clock.new)))
+        (D.store_faults store.new) (N.faults net.new)))
+        result) }
+{
+    match read_service(alloc, words.as_slice()) {
+        Ok(None) => fed_commands::run(rt, alloc, words, input, out, store, clock),
+        Ok(Some(service)) => {
+            let mut notes = Notes::new(alloc, None);
+            serve_as(rt, alloc, &service, out, store, net, clock, &mut notes)
+        }
+        Err(_) => 5,
+    }
+}
+
+/// Does what [`run`] does, and then hands what a person is to read of it to `said`: lines that say why the status isn't 0, and what looks
+/// wrong where it is. A note for which memory is wanting, or that can't be written, changes nothing.
+pub fn run_with_notes<R, S: Source, K: Sink, D: Store, N: Network, C: Clock + Drop, W: Sink>(
+    rt: &R,
+    alloc: Global,
+    words: &Seq<Text>,
+    input: &mut S,
+    out: &mut K,
+    store: &mut D,
+    net: &mut N,
+    clock: &mut C,
+    said: &mut W,
+) -> u8
+    ensures command { service_of words.now ≡ None → (net.new ≡ net.old) × IsRun (command_of words.now)
+        (record {
+          input = input.old;
+          store = store.old;
+          clock = clock.old;
+          left = S.left input.old;
+          read_faults = S.read_faults input.old;
+          held = K.held out.old;
+          write_faults = K.write_faults out.old;
+          files = D.files store.old;
+          store_faults = D.store_faults store.old;
+          readings = record { count = C.readings clock.old; last = C.last clock.old; told = C.told clock.old };
+        })
+        (record {
+          input = input.new;
+          store = store.new;
+          clock = clock.new;
+          left = S.left input.new;
+          read_faults = S.read_faults input.new;
+          held = K.held out.new;
+          write_faults = K.write_faults out.new;
+          files = D.files store.new;
+          store_faults = D.store_faults store.new;
+          readings = record { count = C.readings clock.new; last = C.last clock.new; told = C.told clock.new };
+        }) result }
+    ensures service { IfSome (service_of words.now) (λ service. (input.new ≡ input.old) × RunsService
+        (λ peer. peer_at (N.Peer.left peer) (N.Peer.held peer) (N.Peer.read_faults peer) (N.Peer.write_faults peer)) service
+        (outside (K.held out.old) (K.write_faults out.old) (at_moment (D.files store.old)
+        (service_at (N.callers net.old) (N.settled net.old) (clock_at (C.readings clock.old) (C.last clock.old) (C.told clock.old)))
+        (D.store_faults store.old) (N.faults net.old)))
+        (outside (K.held out.new) (K.write_faults out.new) (at_moment (D.files store.new)
+        (service_at (N.callers net.new) (N.settled net.new) (clock_at (C.readings clock.new) (C.last clock.new) (C.told clock.new)))
+        (D.store_faults store.new) (N.faults net.new)))
+        result) }
+{
+    match read_service(alloc, words.as_slice()) {
+        Ok(None) => fed_commands::run_with_notes(rt, alloc, words, input, out, store, clock, said),
+        Ok(Some(service)) => {
+            let mut notes = Notes::new(alloc, None);
+            let status = serve_as(rt, alloc, &service, out, store, net, clock, &mut notes);
+            match write_all(said, notes.text()) {
+                Ok(()) | Err(_) => status,
+            }
+        }
+        Err(_) => 5,
+    }
+}
+
+// Serves what is asked for.
+fn serve_as<R, K: Sink, D: Store, N: Network, C: Clock>(
+    rt: &R,
+    alloc: Global,
+    service: &Service,
+    out: &mut K,
+    store: &mut D,
+    net: &mut N,
+    clock: &mut C,
+    notes: &mut Notes,
+) -> u8
+    ensures { RunsService
+        (λ peer. peer_at (N.Peer.left peer) (N.Peer.held peer) (N.Peer.read_faults peer) (N.Peer.write_faults peer)) service.now
+        (outside (K.held out.old) (K.write_faults out.old) (at_moment (D.files store.old)
+        (service_at (N.callers net.old) (N.settled net.old) (clock_at (C.readings clock.old) (C.last clock.old) (C.told clock.old)))
+        (D.store_faults store.old) (N.faults net.old)))
+        (outside (K.held out.new) (K.write_faults out.new) (at_moment (D.files store.new)
+        (service_at (N.callers net.new) (N.settled net.new) (clock_at (C.readings clock.new) (C.last clock.new) (C.told clock.new)))
+        (D.store_faults store.new) (N.faults net.new)))
+        result }
+{
+    match service {
+        Service::Authority {
+            config_file,
+            port,
+            connections,
+        } => serve(
+            rt,
+            alloc,
+            config_file,
+            *port,
+            *connections,
+            out,
+            store,
+            net,
+            clock,
+            notes,
+        ),
+    }
+}

@@ -1,0 +1,171 @@
+// The commands with their options.
+
+/// What the value of an option is.
+#[derive(Clone, Copy, Drop)]
+pub enum Form {
+    /// Any word.
+    Word,
+    /// A moment in seconds since 1970.
+    Moment,
+    /// How many connections are served.
+    Connections,
+    /// A port.
+    Port,
+    /// An entity identifier.
+    Identifier,
+    /// A type of text that is sealed.
+    TextType,
+    /// A change of a ring.
+    Act,
+    /// A reason of a revocation.
+    Reason,
+}
+
+/// An option.
+#[derive(Clone, Copy, PartialEq, Eq, Drop)]
+pub enum OptionName {
+    Act,
+    Anchor,
+    At,
+    Config,
+    Connections,
+    Exp,
+    Keys,
+    Kid,
+    Port,
+    Reason,
+    Ring,
+    Typ,
+}
+
+impl OptionName {
+    /// The option's word.
+    pub fn word(self) -> &'static [u8] {
+        match self {
+            OptionName::Act => b"--act",
+            OptionName::Anchor => b"--anchor",
+            OptionName::At => b"--at",
+            OptionName::Config => b"--config",
+            OptionName::Connections => b"--connections",
+            OptionName::Exp => b"--exp",
+            OptionName::Keys => b"--keys",
+            OptionName::Kid => b"--kid",
+            OptionName::Port => b"--port",
+            OptionName::Reason => b"--reason",
+            OptionName::Ring => b"--ring",
+            OptionName::Typ => b"--typ",
+        }
+    }
+
+    /// What stands for its value in a usage.
+    pub fn value(self) -> &'static [u8] {
+        match self {
+            OptionName::Act => b"ACT",
+            OptionName::Anchor => b"ID",
+            OptionName::At | OptionName::Exp => b"T",
+            OptionName::Config | OptionName::Keys | OptionName::Ring => b"FILE",
+            OptionName::Connections => b"N",
+            OptionName::Kid => b"KID",
+            OptionName::Port => b"P",
+            OptionName::Reason => b"R",
+            OptionName::Typ => b"TYP",
+        }
+    }
+
+    /// The form of its value.
+    pub fn form(self) -> Form {
+        match self {
+            OptionName::Act => Form::Act,
+            OptionName::Anchor => Form::Identifier,
+            OptionName::At | OptionName::Exp => Form::Moment,
+            OptionName::Config | OptionName::Keys | OptionName::Kid | OptionName::Ring =>
+                Form::Word,
+            OptionName::Connections => Form::Connections,
+            OptionName::Port => Form::Port,
+            OptionName::Reason => Form::Reason,
+            OptionName::Typ => Form::TextType,
+        }
+    }
+}
+
+/// How a command is called.
+#[derive(Clone, Copy, Drop)]
+pub struct Usage {
+    pub command: &'static str,
+    /// The value of `--act`, or nothing where the command has no such option.
+    pub act: &'static str,
+    /// The options that it needs.
+    pub needed: &'static [OptionName],
+    /// The options that it may have.
+    pub free: &'static [OptionName],
+    /// What stands for its standard input, or nothing where it reads none.
+    pub input: &'static str,
+}
+
+/// All commands but `verify`, which takes one word, and the flags, which stand alone.
+pub const USAGES: [Usage; 7] = [
+    Usage {
+        command: "keygen",
+        act: "",
+        needed: &[OptionName::Ring, OptionName::At, OptionName::Exp],
+        free: &[],
+        input: "SEEDS",
+    },
+    Usage {
+        command: "issue",
+        act: "",
+        needed: &[OptionName::Ring, OptionName::Typ],
+        free: &[],
+        input: "CLAIMS",
+    },
+    Usage {
+        command: "rotate",
+        act: "add",
+        needed: &[
+            OptionName::Ring,
+            OptionName::Act,
+            OptionName::At,
+            OptionName::Exp,
+        ],
+        free: &[],
+        input: "SEEDS",
+    },
+    Usage {
+        command: "rotate",
+        act: "retire",
+        needed: &[OptionName::Ring, OptionName::Act, OptionName::Kid],
+        free: &[],
+        input: "",
+    },
+    Usage {
+        command: "rotate",
+        act: "revoke",
+        needed: &[
+            OptionName::Ring,
+            OptionName::Act,
+            OptionName::Kid,
+            OptionName::At,
+            OptionName::Reason,
+        ],
+        free: &[],
+        input: "",
+    },
+    Usage {
+        command: "check",
+        act: "",
+        needed: &[OptionName::Anchor, OptionName::Keys],
+        free: &[OptionName::At],
+        input: "CHAIN",
+    },
+    Usage {
+        command: "authority",
+        act: "",
+        needed: &[
+            OptionName::Config,
+            OptionName::Port,
+            OptionName::Connections,
+        ],
+        free: &[],
+        input: "",
+    },
+];
