@@ -2,7 +2,8 @@
 
 ghost use Rattle.fed_json.specs.Forms.{IsWellFormed};
 
-use fed_base::{Memory, Text};
+use crate::words::{add_named, add_number, add_word};
+use fed_base::{Duplicate, Memory, Text};
 use fed_json::{Json, TreeFault, read_tree};
 use node_config::{ConfigFault, NodeConfig, ResolverConfig};
 use std::alloc::Global;
@@ -21,49 +22,43 @@ fn read(alloc: Global, tree: &Json) -> Result<Text, Memory>
 {
     match NodeConfig::read(alloc, tree) {
         Ok(node) => summary(alloc, &node),
-        Err(ConfigFault::Shape(member)) => {
-            let mut told = Text::of(alloc, b"Shape ")?;
-            told.append(member.as_slice())?;
-            Ok(told)
-        },
-        Err(ConfigFault::Memory) => Err(Memory),
+        Err(fault) => shape(alloc, fault.copy(alloc)?),
     }
+}
+
+/// Which member isn't of its form.
+pub(crate) fn shape(alloc: Global, fault: ConfigFault) -> Result<Text, Memory> {
+    let ConfigFault::Shape(member) = fault else {
+        return Err(Memory);
+    };
+    let mut told = Text::of(alloc, b"Shape")?;
+    add_word(&mut told, member.as_slice())?;
+    Ok(told)
 }
 
 // The identifier, the lifetime, how many subordinates and revoked marks there are, and the resolver.
 fn summary(alloc: Global, node: &NodeConfig) -> Result<Text, Memory> {
     let mut told = Text::of(alloc, node.id.text())?;
-    number(alloc, &mut told, b" lifetime ", node.lifetime)?;
-    number(
-        alloc,
-        &mut told,
-        b" subordinates ",
-        node.subordinates.len() as u64,
-    )?;
-    number(alloc, &mut told, b" revoked ", node.revoked.len() as u64)?;
+    add_named(alloc, &mut told, b"lifetime", node.lifetime)?;
+    let subordinates = node.subordinates.len() as u64;
+    add_named(alloc, &mut told, b"subordinates", subordinates)?;
+    add_named(alloc, &mut told, b"revoked", node.revoked.len() as u64)?;
     if let Some(resolver) = &node.resolver {
-        resolves(alloc, &mut told, resolver)?;
+        resolves(alloc, &mut told, &resolver.copy(alloc)?)?;
     }
     Ok(told)
 }
 
 fn resolves(alloc: Global, told: &mut Text, resolver: &ResolverConfig) -> Result<(), Memory> {
-    number(alloc, told, b" anchors ", resolver.anchors.len() as u64)?;
-    number(alloc, told, b" age ", resolver.age)?;
-    number(alloc, told, b" workers ", resolver.workers)?;
+    add_named(alloc, told, b"anchors", resolver.anchors.len() as u64)?;
+    add_named(alloc, told, b"age", resolver.age)?;
+    add_named(alloc, told, b"workers", resolver.workers)?;
     for route in resolver.routes.as_slice() {
-        told.append(b" ")?;
-        told.append(route.host.as_slice())?;
+        add_word(told, route.host.as_slice())?;
         for part in route.to.ip {
-            number(alloc, told, b" ", part as u64)?;
+            add_number(alloc, told, part as u64)?;
         }
-        number(alloc, told, b" ", route.to.port as u64)?;
+        add_number(alloc, told, route.to.port as u64)?;
     }
     Ok(())
-}
-
-fn number(alloc: Global, told: &mut Text, word: &[u8], n: u64) -> Result<(), Memory> {
-    let digits = format!(in alloc; "{n}")?;
-    told.append(word)?;
-    told.append(digits.as_bytes())
 }

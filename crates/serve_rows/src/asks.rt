@@ -1,0 +1,150 @@
+// Connections that are served.
+
+use crate::peers::Pieces;
+use crate::words::{add_number, add_word, bytes, cut, number};
+use crate::written::add_written;
+use fed_base::{Memory, Plain, Steps, Text};
+use fed_net::MemoryPeer;
+use fed_ports::{Clock, MemoryClock, Peer};
+use fed_serve::{Kind, Node, ServeFault, Served, serve_one};
+use std::alloc::Global;
+
+// The moment of the rows that give none.
+const MOMENT: u64 = 7;
+
+// How many bytes a peer takes at most.
+const ROOM: usize = 30_000;
+
+fn name(kind: Kind) -> &'static [u8] {
+    match kind {
+        Kind::Configuration => b"Configuration",
+        Kind::Fetch => b"Fetch",
+        Kind::List => b"List",
+        Kind::HistoricalKeys => b"HistoricalKeys",
+        Kind::Status => b"Status",
+        Kind::Resolve => b"Resolve",
+        Kind::AnchorKeys => b"AnchorKeys",
+        Kind::Other => b"Other",
+    }
+}
+
+fn fault(fault: ServeFault) -> &'static [u8] {
+    match fault {
+        ServeFault::ReadFault => b"ReadFault",
+        ServeFault::WriteFault => b"WriteFault",
+        ServeFault::Ended => b"Ended",
+        ServeFault::Worn(_) => b"Worn",
+    }
+}
+
+// What was answered: the kind and the status, or the fault.
+fn answered(alloc: Global, answer: Result<Served, ServeFault>) -> Result<Text, Memory> {
+    match answer {
+        Ok(served) => {
+            let mut out = Text::of(alloc, name(served.kind))?;
+            add_number(alloc, &mut out, served.status as u64)?;
+            Ok(out)
+        },
+        Err(why) => Text::of(alloc, fault(why)),
+    }
+}
+
+// Serves a peer at a moment: what was answered, how often the clock was read, and how many signatures were tested.
+fn served<R, P: Peer>(
+    rt: &R,
+    alloc: Global,
+    node: &Node,
+    t: u64,
+    peer: &mut P,
+) -> Result<Text, Memory> {
+    let mut clock = MemoryClock::new(alloc, &[t, 1, 2, 3])?;
+    let mut steps = Steps {
+        ledger: Plain::new(),
+    };
+    let answer = serve_one(node, rt, alloc, peer, &mut clock, &mut steps);
+    let mut out = answered(alloc, answer)?;
+    let next = clock.now();
+    add_word(&mut out, b"clock")?;
+    add_number(alloc, &mut out, if next == t { 0 } else { next })?;
+    add_word(&mut out, b"tests")?;
+    add_number(alloc, &mut out, steps.ledger.steps())?;
+    Ok(out)
+}
+
+// The same, and what the peer was given.
+fn served_in_memory<R>(
+    rt: &R,
+    alloc: Global,
+    node: &Node,
+    t: u64,
+    peer: &mut MemoryPeer,
+) -> Result<Text, Memory> {
+    let mut out = served(rt, alloc, node, t, peer)?;
+    add_written(alloc, &mut out, node, peer.as_slice())?;
+    Ok(out)
+}
+
+/// `ask MOMENT BYTES`: what is answered at a moment to these bytes, and written.
+pub(crate) fn ask<R>(rt: &R, alloc: Global, node: &Node, given: &str) -> Result<Text, Memory> {
+    let (t, parts) = cut(given);
+    let sent = bytes(alloc, parts)?;
+    let mut peer = MemoryPeer::new(alloc, sent.as_slice(), ROOM, &[], &[], 1000)?;
+    served_in_memory(rt, alloc, node, number(t), &mut peer)
+}
+
+/// `pieces MOST BYTES`: the same where each reading gives at most so many bytes.
+pub(crate) fn pieces<R>(rt: &R, alloc: Global, node: &Node, given: &str) -> Result<Text, Memory> {
+    let (most, parts) = cut(given);
+    let sent = bytes(alloc, parts)?;
+    let mut peer = Pieces::new(alloc, sent, number(most) as usize, ROOM)?;
+    let mut out = served(rt, alloc, node, MOMENT, &mut peer)?;
+    add_written(alloc, &mut out, node, peer.as_slice())?;
+    Ok(out)
+}
+
+/// `reads NUMBER BYTES`: the same where the reading of that number fails.
+pub(crate) fn reads<R>(rt: &R, alloc: Global, node: &Node, given: &str) -> Result<Text, Memory> {
+    let (call, parts) = cut(given);
+    let sent = bytes(alloc, parts)?;
+    let mut peer = MemoryPeer::new(alloc, sent.as_slice(), ROOM, &[number(call)], &[], 1000)?;
+    served_in_memory(rt, alloc, node, MOMENT, &mut peer)
+}
+
+/// `writes ROOM BYTES`: the same where the peer takes so many bytes and then fails.
+pub(crate) fn writes<R>(rt: &R, alloc: Global, node: &Node, given: &str) -> Result<Text, Memory> {
+    let (room, parts) = cut(given);
+    let sent = bytes(alloc, parts)?;
+    let room = number(room) as usize;
+    let mut peer = MemoryPeer::new(alloc, sent.as_slice(), room.min(ROOM), &[], &[], 1000)?;
+    served_in_memory(rt, alloc, node, MOMENT, &mut peer)
+}
+
+// Whether these bytes are told as ended, with nothing written and no reading of the clock.
+fn is_ended<R>(rt: &R, alloc: Global, node: &Node, sent: &[u8]) -> Result<bool, Memory> {
+    let mut peer = MemoryPeer::new(alloc, sent, ROOM, &[], &[], 1000)?;
+    let told = served(rt, alloc, node, MOMENT, &mut peer)?;
+    Ok(told.as_slice() == b"Ended clock 0 tests 0".as_slice() && peer.as_slice().is_empty())
+}
+
+/// `cut BYTES`: how often the bytes are told as ended, with nothing written and no reading of the clock, where they are cut before each of
+/// them in turn, and how many they are.
+pub(crate) fn cut_short<R>(
+    rt: &R,
+    alloc: Global,
+    node: &Node,
+    given: &str,
+) -> Result<Text, Memory> {
+    let whole = bytes(alloc, given)?;
+    let whole = whole.as_slice();
+    let mut ended: u64 = 0;
+    for len in 0..whole.len() {
+        if is_ended(rt, alloc, node, &whole[..len])? {
+            ended = ended.saturating_add(1);
+        }
+    }
+    let mut out = Text::of(alloc, b"Ended")?;
+    add_number(alloc, &mut out, ended)?;
+    add_word(&mut out, b"of")?;
+    add_number(alloc, &mut out, whole.len() as u64)?;
+    Ok(out)
+}
