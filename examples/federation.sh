@@ -1,0 +1,73 @@
+#!/usr/bin/env bash
+# Starts a federation on loopback: a trust anchor, an intermediate below it and a leaf, each answering for itself on a port of its own. Gets
+# every statement with curl, checks the chain that they make, and stops all that it started.
+set -euo pipefail
+here=$(cd "$(dirname "$0")/.." && pwd)
+folder=$(mktemp -d)
+started=()
+stop() {
+    for id in "${started[@]}"; do kill "$id" 2>/dev/null || true; done
+    wait
+    rm -r "$folder"
+}
+trap stop EXIT
+cd "$folder"
+now=$(date +%s)
+
+# a free port of this machine
+port() { python3 -c 'import socket; s = socket.socket(); s.bind(("127.0.0.1", 0)); print(s.getsockname()[1])'; }
+
+# key NAME: a ring file with one new key, good for a year, and the key that others see
+key() {
+    head -c 48 /dev/urandom | od -An -v -tx1 | tr -d ' \n' |
+        "$here/fed" keygen --ring "$1.ring" --at "$now" --exp $((now + 31536000))
+    chmod 600 "$1.ring"
+}
+
+# start NAME PORT: answers as the node of NAME.json
+start() {
+    "$here/fed" authority --config "$1.json" --port "$2" --connections 1000 >"$1.out" 2>"$1.log" &
+    started+=($!)
+}
+
+# get FILE URL: what is there, once somebody answers
+get() {
+    curl --silent --fail --retry 30 --retry-connrefused --retry-delay 1 --output "$1" "$2"
+    echo "  $(wc -c <"$1") bytes from $2"
+}
+
+anchor_port=$(port) middle_port=$(port) leaf_port=$(port)
+anchor=http://127.0.0.1:$anchor_port middle=http://127.0.0.1:$middle_port leaf=http://127.0.0.1:$leaf_port
+anchor_key=$(key anchor) middle_key=$(key middle) leaf_key=$(key leaf)
+
+cat >anchor.json <<END
+{"entity_id":"$anchor","ring":"anchor.ring","lifetime":86400,
+ "metadata":{"federation_entity":{"organization_name":"The trust anchor"}},
+ "subordinates":[{"entity_id":"$middle","jwks":{"keys":[$middle_key]},"intermediate":true,
+   "metadata_policy":{"openid_relying_party":{"grant_types":{"subset_of":["authorization_code","refresh_token"]}}}}]}
+END
+cat >middle.json <<END
+{"entity_id":"$middle","ring":"middle.ring","lifetime":86400,"authority_hints":["$anchor"],
+ "subordinates":[{"entity_id":"$leaf","jwks":{"keys":[$leaf_key]},"entity_types":["openid_relying_party"],
+   "metadata_policy":{"openid_relying_party":{"contacts":{"add":["help@middle.example"]}}}}]}
+END
+cat >leaf.json <<END
+{"entity_id":"$leaf","ring":"leaf.ring","lifetime":86400,"authority_hints":["$middle"],
+ "metadata":{"openid_relying_party":{"client_name":"A","grant_types":["authorization_code","implicit"]}}}
+END
+
+start anchor "$anchor_port"
+start middle "$middle_port"
+start leaf "$leaf_port"
+echo "a trust anchor at $anchor, an intermediate at $middle, a leaf at $leaf:"
+get leaf.jwt "$leaf/.well-known/openid-federation"
+get middle-about-leaf.jwt "$middle/fetch?sub=$leaf"
+get anchor-about-middle.jwt "$anchor/fetch?sub=$middle"
+get anchor.jwt "$anchor/.well-known/openid-federation"
+get list.json "$anchor/list?intermediate=true"
+echo "the anchor's intermediates: $(cat list.json)"
+
+echo "[\"$(cat leaf.jwt)\",\"$(cat middle-about-leaf.jwt)\",\"$(cat anchor-about-middle.jwt)\",\"$(cat anchor.jwt)\"]" >chain.json
+echo "{\"keys\":[$anchor_key]}" >anchor.keys
+echo "the leaf's chain:"
+"$here/fed" check --anchor "$anchor" --keys anchor.keys <chain.json
