@@ -1,0 +1,40 @@
+# What bash completes the words of fed by. completions/make wrote it from completions/words.
+_fed() {
+    local word=${COMP_WORDS[COMP_CWORD]} before=${COMP_WORDS[COMP_CWORD - 1]} act= at offered=
+    COMPREPLY=()
+    case $before in
+        *[\<\>]*) before=--files ;;
+    esac
+    case $COMP_CWORD:$before in
+        1:*) offered='verify keygen issue rotate check authority --help --version' ;;
+        *:--act) offered='add retire revoke' ;;
+        *:--reason) offered='unspecified compromised superseded' ;;
+        *:--typ) offered='entity-statement+jwt trust-mark+jwt trust-mark-delegation+jwt' ;;
+        *:--config | *:--keys | *:--ring | *:--files)
+            compopt -o filenames 2>/dev/null
+            mapfile -t COMPREPLY < <(compgen -f -- "$word")
+            return
+            ;;
+        *:--anchor | *:--at | *:--connections | *:--exp | *:--kid | *:--port) return ;;
+        *)
+            for ((at = 2; at < COMP_CWORD; at++)); do
+                [[ ${COMP_WORDS[at]} == --act ]] && act=${COMP_WORDS[at + 1]}
+            done
+            case ${COMP_WORDS[1]}:$act in
+                authority:) offered='--config --port --connections' ;;
+                check:) offered='--anchor --keys --at' ;;
+                issue:) offered='--ring --typ' ;;
+                keygen:) offered='--ring --at --exp' ;;
+                rotate:) offered='--ring --act --at --exp --kid --reason' ;;
+                rotate:add) offered='--ring --act --at --exp' ;;
+                rotate:retire) offered='--ring --act --kid' ;;
+                rotate:revoke) offered='--ring --act --kid --at --reason' ;;
+            esac
+            for ((at = 2; at < COMP_CWORD; at++)); do
+                [[ ${COMP_WORDS[at]} == --* ]] && offered=" $offered " && offered=${offered/ ${COMP_WORDS[at]} / }
+            done
+            ;;
+    esac
+    mapfile -t COMPREPLY < <(compgen -W "$offered" -- "$word")
+}
+complete -F _fed fed

@@ -1,0 +1,55 @@
+# What fish completes the words of fed by. completions/make wrote it from completions/words.
+function __fed_offered
+    set -l words (commandline -opc)
+    set -l act ''
+    set -l offered
+    switch (count $words):$words[-1]
+        case '1:*'
+            printf '%s\n' verify\t'checks an entity configuration under a public key' keygen\t'makes a key and the file of its ring' issue\t'signs claims by a ring'\''s newest live key' rotate\t'changes a key ring' check\t'checks a trust chain for its trust anchor' authority\t'answers connections as an authority' --help\t'shows every command' --version\t'shows the version'
+            return
+        case '*:--act'
+            printf '%s\n' add retire revoke
+            return
+        case '*:--reason'
+            printf '%s\n' unspecified compromised superseded
+            return
+        case '*:--typ'
+            printf '%s\n' entity-statement+jwt trust-mark+jwt trust-mark-delegation+jwt
+            return
+        case '*:--config' '*:--keys' '*:--ring' '*:--anchor' '*:--at' '*:--connections' '*:--exp' '*:--kid' '*:--port'
+            return
+    end
+    if set -l at (contains -i -- --act $words)
+        set act $words[(math $at + 1)]
+    end
+    switch $words[2]:$act
+        case authority:
+            set offered --config\t'the file of the node'\''s configuration' --port\t'the port that is listened on, 1 to 65535' --connections\t'how many connections are answered, 1 to 1000000'
+        case check:
+            set offered --anchor\t'the trust anchor'\''s identifier' --keys\t'the file of the trust anchor'\''s key set' --at\t'from when, or for which moment, in seconds since 1970'
+        case issue:
+            set offered --ring\t'the file of the key ring' --typ\t'which type of text is signed'
+        case keygen:
+            set offered --ring\t'the file of the key ring' --at\t'from when, or for which moment, in seconds since 1970' --exp\t'until when, in seconds since 1970'
+        case rotate:
+            set offered --ring\t'the file of the key ring' --act\t'what is changed' --at\t'from when, or for which moment, in seconds since 1970' --exp\t'until when, in seconds since 1970' --kid\t'the name of a key of the ring' --reason\t'why the key is revoked'
+        case rotate:add
+            set offered --ring\t'the file of the key ring' --act\t'what is changed' --at\t'from when, or for which moment, in seconds since 1970' --exp\t'until when, in seconds since 1970'
+        case rotate:retire
+            set offered --ring\t'the file of the key ring' --act\t'what is changed' --kid\t'the name of a key of the ring'
+        case rotate:revoke
+            set offered --ring\t'the file of the key ring' --act\t'what is changed' --kid\t'the name of a key of the ring' --at\t'from when, or for which moment, in seconds since 1970' --reason\t'why the key is revoked'
+    end
+    for option in $offered
+        contains -- (string split -m 1 \t -- $option)[1] $words
+        or printf '%s\n' $option
+    end
+end
+
+function __fed_wants_file
+    contains -- (commandline -opc)[-1] --config --keys --ring
+end
+
+complete -c fed -f
+complete -c fed -a '(__fed_offered)'
+complete -c fed -n __fed_wants_file -F
