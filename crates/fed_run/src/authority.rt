@@ -49,7 +49,7 @@ pub(crate) fn serve<R, K: Sink, D: Store, N: Network, C: Clock>(
     clock: &mut C,
     notes: &mut Notes,
 ) -> u8
-    ensures { RunsAuthority
+    ensures runs { RunsAuthority
         (λ peer. peer_at (N.Peer.left peer) (N.Peer.held peer) (N.Peer.read_faults peer) (N.Peer.write_faults peer))
         (record { config = config.now; connections = connections })
         (outside (K.held out.old) (K.write_faults out.old) (at_moment (D.files store.old)
@@ -59,6 +59,7 @@ pub(crate) fn serve<R, K: Sink, D: Store, N: Network, C: Clock>(
         (service_at (N.callers net.new) (N.settled net.new) (clock_at (C.readings clock.new) (C.last clock.new) (C.told clock.new)))
         (D.store_faults store.new) (N.faults net.new)))
         result }
+    ensures exchanges { N.exchanges net.new ≡ N.exchanges net.old }
 {
     let Ok(line) = served_line(alloc, connections) else {
         explain_memory(alloc, notes);

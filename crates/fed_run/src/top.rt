@@ -73,6 +73,7 @@ pub fn run<R, S: Source, K: Sink, D: Store, N: Network, C: Clock>(
         (service_at (N.callers net.new) (N.settled net.new) (clock_at (C.readings clock.new) (C.last clock.new) (C.told clock.new)))
         (D.store_faults store.new) (N.faults net.new)))
         result) }
+    ensures exchanges { N.exchanges net.new ≡ N.exchanges net.old }
 {
     match read_service(alloc, words.as_slice()) {
         Ok(None) => fed_commands::run(rt, alloc, words, input, out, store, clock),
@@ -131,6 +132,7 @@ pub fn run_with_notes<R, S: Source, K: Sink, D: Store, N: Network, C: Clock + Dr
         (service_at (N.callers net.new) (N.settled net.new) (clock_at (C.readings clock.new) (C.last clock.new) (C.told clock.new)))
         (D.store_faults store.new) (N.faults net.new)))
         result) }
+    ensures exchanges { N.exchanges net.new ≡ N.exchanges net.old }
 {
     match read_service(alloc, words.as_slice()) {
         Ok(None) => fed_commands::run_with_notes(rt, alloc, words, input, out, store, clock, said),
@@ -156,7 +158,7 @@ fn serve_as<R, K: Sink, D: Store, N: Network, C: Clock>(
     clock: &mut C,
     notes: &mut Notes,
 ) -> u8
-    ensures { RunsService
+    ensures runs { RunsService
         (λ peer. peer_at (N.Peer.left peer) (N.Peer.held peer) (N.Peer.read_faults peer) (N.Peer.write_faults peer)) service.now
         (outside (K.held out.old) (K.write_faults out.old) (at_moment (D.files store.old)
         (service_at (N.callers net.old) (N.settled net.old) (clock_at (C.readings clock.old) (C.last clock.old) (C.told clock.old)))
@@ -165,6 +167,7 @@ fn serve_as<R, K: Sink, D: Store, N: Network, C: Clock>(
         (service_at (N.callers net.new) (N.settled net.new) (clock_at (C.readings clock.new) (C.last clock.new) (C.told clock.new)))
         (D.store_faults store.new) (N.faults net.new)))
         result }
+    ensures exchanges { N.exchanges net.new ≡ N.exchanges net.old }
 {
     match service {
         Service::Authority {

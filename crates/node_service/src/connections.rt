@@ -54,6 +54,7 @@ fn serve_next<R, N: Network, C: Clock, G: Ledger>(
         (service_at (N.callers net.old) (N.settled net.old) (clock_at (C.readings clock.old) (C.last clock.old) (C.told clock.old)))
         (service_at (N.callers net.new) (N.settled net.new) (clock_at (C.readings clock.new) (C.last clock.new) (C.told clock.new)))) }
     ensures listens { N.listens net.new }
+    ensures exchanges { N.exchanges net.new ≡ N.exchanges net.old }
     ensures cause { NetworkCause (N.faults net.old) (N.faults net.new) result }
 {
     let mut peer = net.accept()?;
@@ -77,6 +78,7 @@ pub(crate) fn serve_connections<R, N: Network, C: Clock>(
         node.now.registry connections
         (service_at (N.callers net.old) (N.settled net.old) (clock_at (C.readings clock.old) (C.last clock.old) (C.told clock.old)))
         (service_at (N.callers net.new) (N.settled net.new) (clock_at (C.readings clock.new) (C.last clock.new) (C.told clock.new)))) }
+    ensures exchanges { N.exchanges net.new ≡ N.exchanges net.old }
     ensures cause { NetworkCause (N.faults net.old) (N.faults net.new) result }
 {
     let mut steps = Steps {

@@ -56,7 +56,7 @@ pub fn serve_authority<R, D: Store, N: Network, C: Clock>(
     clock: &mut C,
     notes: &mut Notes,
 ) -> ServiceEnd
-    ensures { Ends
+    ensures ends { Ends
         (λ peer. peer_at (N.Peer.left peer) (N.Peer.held peer) (N.Peer.read_faults peer) (N.Peer.write_faults peer))
         (record { config = config.now; connections = connections })
         (record {
@@ -71,6 +71,7 @@ pub fn serve_authority<R, D: Store, N: Network, C: Clock>(
           store_faults = D.store_faults store.new;
           network_faults = N.faults net.new;
         }) result }
+    ensures exchanges { N.exchanges net.new ≡ N.exchanges net.old }
 {
     match open_authority(alloc, config, store, notes) {
         Ok(registry) => serve_node(
@@ -98,7 +99,7 @@ fn serve_node<R, N: Network, C: Clock>(
     clock: &mut C,
     notes: &mut Notes,
 ) -> ServiceEnd
-    ensures { EndsOf
+    ensures ends { EndsOf
         (λ peer. peer_at (N.Peer.left peer) (N.Peer.held peer) (N.Peer.read_faults peer) (N.Peer.write_faults peer))
         node.now.registry connections
         (record {
@@ -109,6 +110,7 @@ fn serve_node<R, N: Network, C: Clock>(
           service = service_at (N.callers net.new) (N.settled net.new) (clock_at (C.readings clock.new) (C.last clock.new) (C.told clock.new));
           faults = N.faults net.new;
         }) result }
+    ensures exchanges { N.exchanges net.new ≡ N.exchanges net.old }
 {
     if net.listen(port).is_err() {
         explain_port(alloc, port, notes);

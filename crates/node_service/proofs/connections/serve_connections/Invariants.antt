@@ -4,7 +4,8 @@ use Rattle.node_service.specs.Connections.{Serves, service_at}
 use Rattle.node_service.proofs.connections.serve_connections.Given as goal
 
 abbrev pub invariant-connections : goal.invariant-connections
-invariant-connections g l = (l.served ≤ l.connections) × g.N.Network.listens l.net × (g.N.Network.faults l.net ≡ g.N.Network.faults l.initial.net)
+invariant-connections g l = (l.served ≤ l.connections) × g.N.Network.listens l.net × (g.N.Network.exchanges l.net ≡ g.N.Network.exchanges l.initial.net)
+    × (g.N.Network.faults l.net ≡ g.N.Network.faults l.initial.net)
     × Serves (λ peer. peer_at (g.N.Peer.Source.left peer) (g.N.Peer.Sink.held peer) (g.N.Peer.Source.read_faults peer) (g.N.Peer.Sink.write_faults peer))
     l.node.registry l.served
     (service_at (g.N.Network.callers l.initial.net) (g.N.Network.settled l.initial.net) (clock_at (g.C.Clock.readings l.initial.clock) (g.C.Clock.last l.initial.clock) (g.C.Clock.told l.initial.clock)))
