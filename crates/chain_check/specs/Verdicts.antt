@@ -15,8 +15,9 @@ use Rattle.chain_check.specs.Signatures.{CurrentAt, SignedAt}
 use Rattle.chain_check.specs.Validity.{Case, chain_of, IsValid, ToNames, ToTimes, ToSignatures, ToLimits, ResolvesTo}
 use Rattle.chain_check.specs.Resolving.{FailsToResolve}
 
--- the first failure of a chain: of the first class that it doesn't pass, the least place. The classes are Form, Names,
--- Times, Signature, limits (PathLength before Name at one place), Conflict and Policy
+-- the first failure of a chain: of the first class that it doesn't pass, the least place, and of a Conflict the place at
+-- which merging from the anchor down fails first (its highest). The classes are Form, Names, Times, Signature, limits
+-- (PathLength before Name at one place), Conflict and Policy
 abbrev pub IsFirstFailure : Case → ℕ → Reason → Type 0
 IsFirstFailure case place Form = LosesForm case.texts place
 IsFirstFailure case place Names = ToNames case × LosesNames (chain_of case) case.anchor place

@@ -5,7 +5,8 @@ use policy_merge::Operator;
 use std::alloc::Global;
 
 /// Why a chain isn't valid at a place. Of several reasons the first in this order is told, and of several places the
-/// least; at one place the length of the path comes before the names.
+/// least; at one place the length of the path comes before the names, and a `Conflict` has the place at which merging
+/// from the anchor down fails first, its highest.
 #[derive(Drop)]
 pub enum Reason {
     /// The text doesn't read as a statement, the chain is empty (at place 0) or has more than ten texts (at place 10).
