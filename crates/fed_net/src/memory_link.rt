@@ -50,6 +50,8 @@ impl Link for MemoryLink {
 
     ghost web = { λ link. Some (page_of link.pages) };
 
+    ghost gave = { λ _ _ _ _. Unit {0} };
+
     fn get(&mut self, alloc: Global, url: &Text) -> Result<Page, LinkFault>
         ensures calls { link_calls self.new ≡ next_count (link_calls self.old) }
         ensures page { Serves (Some (link_web self.old)) url.now result }

@@ -1,6 +1,6 @@
 // A network in memory, which tells its exchanges and its callers.
 
-ghost use Rattle.std.specs.Prelude.{◌≡◌, true, Some, [], IfOk, IfSome, option_copied};
+ghost use Rattle.std.specs.Prelude.{◌≡◌, Some, [], IfOk, IfSome, option_copied};
 ghost use Rattle.fed_net.specs.MemoryNetworks.{sent_of, told_of, IsOpen};
 
 use crate::memory_connections::Connections;
@@ -16,7 +16,7 @@ pub struct MemoryNetwork {
     answers: Seq<Text>,
     room: usize,
     connections: Connections,
-    listening: bool,
+    listening: Option<u16>,
     callers: Vec<MemoryPeer>,
     settled: Vec<MemoryPeer>,
     plan: CallPlan,
@@ -47,7 +47,7 @@ impl MemoryNetwork {
             answers,
             room,
             connections,
-            listening: false,
+            listening: None,
             callers: callers.into_vec(),
             settled,
             plan,
@@ -77,7 +77,7 @@ impl Network for MemoryNetwork {
 
     ghost is_open = { λ network. IsOpen network.connections };
 
-    ghost listens = { λ network. network.listening ≡ true };
+    ghost port = { λ network. network.listening };
 
     ghost exchanges = { λ network. told_of network.connections };
 
@@ -116,12 +116,12 @@ impl Network for MemoryNetwork {
         self.connections.shut();
     }
 
-    fn listen(&mut self, _port: u16) -> Result<(), Failed> {
+    fn listen(&mut self, to: u16) -> Result<(), Failed> {
         if self.plan.next_fails() {
             self.faults = self.faults.saturating_add(1);
             return Err(Failed);
         }
-        self.listening = true;
+        self.listening = Some(to);
         Ok(())
     }
 
@@ -146,7 +146,7 @@ impl Network for MemoryNetwork {
             answers,
             room: self.room,
             connections,
-            listening: false,
+            listening: None,
             callers: Vec::new(alloc),
             settled: Vec::new(alloc),
             plan,

@@ -1,6 +1,6 @@
 // The system's TCP. It tells no bytes and no callers.
 
-ghost use Rattle.std.specs.Prelude.{◌≡◌, ◌≤◌, true, None, is_some, length, IfSome, IfNone};
+ghost use Rattle.std.specs.Prelude.{◌≡◌, ◌≤◌, true, None, is_some, option_map, length, IfSome, IfNone};
 
 use crate::real_peer::RealPeer;
 use crate::timed::{left, read, write};
@@ -32,6 +32,7 @@ pub struct RealNetwork<
     stream: Option<TcpStream>,
     opened: Option<Instant>,
     listener: Option<TcpListener>,
+    port: u16,
     faults: u64,
 }
 
@@ -51,6 +52,7 @@ impl<
             stream: None,
             opened: None,
             listener: None,
+            port: 0,
             faults: 0,
         }
     }
@@ -83,7 +85,7 @@ impl<'a, R: Net<Listener = TcpListener, Stream = TcpStream> + SystemClock + Epri
 
     ghost is_open = { λ network. is_some network.stream ≡ true };
 
-    ghost listens = { λ network. is_some network.listener ≡ true };
+    ghost port = { λ network. option_map (λ _. network.port) network.listener };
 
     ghost exchanges = { λ _. None };
 
@@ -138,10 +140,11 @@ impl<'a, R: Net<Listener = TcpListener, Stream = TcpStream> + SystemClock + Epri
         self.stream = None;
     }
 
-    fn listen(&mut self, port: u16) -> Result<(), Failed> {
-        match self.rt.bind(socket_address(self.ip, port)) {
+    fn listen(&mut self, to: u16) -> Result<(), Failed> {
+        match self.rt.bind(socket_address(self.ip, to)) {
             Ok(listener) => {
                 self.listener = Some(listener);
+                self.port = to;
                 Ok(())
             }
             Err(_) => {
@@ -180,6 +183,7 @@ impl<'a, R: Net<Listener = TcpListener, Stream = TcpStream> + SystemClock + Epri
             stream: None,
             opened: None,
             listener: None,
+            port: 0,
             faults: 0,
         })
     }

@@ -1,7 +1,9 @@
 // Where pages are asked for.
 
-ghost use Rattle.std.specs.Prelude.{◌≡◌, ℕ, Option};
+ghost use Rattle.std.specs.Prelude.{◌≡◌, ℕ, List, Option, Result as AnyResult};
 ghost use Rattle.fed_base.specs.Counts.{next_count};
+ghost use Rattle.fed_ports.specs.declared.link.LinkFault.{LinkFault as AnyFault};
+ghost use Rattle.fed_ports.specs.declared.page.Page.{Page as AnyPage};
 ghost use Rattle.fed_ports.specs.Webs.{Web, Serves, HasLinkCause};
 
 use crate::page::Page;
@@ -42,10 +44,14 @@ pub trait Link {
     /// The page of each URL, where the link tells them.
     ghost web: { Self → Option Web };
 
+    /// What the link says of one call: how it stood before and after it, the URL, and the answer.
+    ghost gave: { Self → Self → List ℕ → AnyResult AnyPage AnyFault → Type 0 };
+
     /// The page of this URL, `NoRoute` where there is none. It changes no page, whatever it answers.
     fn get(&mut self, alloc: Global, url: &Text) -> Result<Page, LinkFault>
         ensures calls { calls self.new ≡ next_count (calls self.old) }
         ensures page { Serves (web self.old) url.now result }
         ensures web { web self.new ≡ web self.old }
+        ensures gave { gave self.old self.new url.now result }
         ensures cause { HasLinkCause (link_faults self.old) (link_faults self.new) result };
 }

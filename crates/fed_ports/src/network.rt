@@ -1,6 +1,6 @@
 // Connections to others and from others.
 
-ghost use Rattle.std.specs.Prelude.{◌≡◌, ◌<◌, ◌≤◌, ◌==◌, ◌∷◌, [], ℕ, List, length, take, Option, IfSome, IfOk, OnOk, OnErr};
+ghost use Rattle.std.specs.Prelude.{◌≡◌, ◌<◌, ◌≤◌, ◌==◌, ◌∷◌, [], ℕ, List, length, take, true, is_some, Option, Some, None, IfSome, IfOk, OnOk, OnErr};
 ghost use Rattle.fed_ports.specs.Causes.{HasCause};
 ghost use Rattle.fed_ports.specs.Exchanges.{Exchange, fresh, with_sent, with_received, with_failure, Changed, AddedOrSilent};
 ghost use Rattle.fed_ports.specs.Lists.{Added, Gave};
@@ -20,8 +20,8 @@ pub trait Network: Sized + Send {
     /// A connection is open.
     ghost is_open: { Self → Type 0 };
 
-    /// Connections are accepted.
-    ghost listens: { Self → Type 0 };
+    /// The port to which connections are accepted, where it listens.
+    ghost port: { Self → Option ℕ };
 
     /// An exchange for each `open`, in order, where the network tells them.
     ghost exchanges: { Self → Option (List Exchange) };
@@ -39,7 +39,7 @@ pub trait Network: Sized + Send {
         ensures added { OnOk result (Added (exchanges self.old) (fresh to.now ∷ []) (exchanges self.new)) }
         ensures err { OnErr result (AddedOrSilent (exchanges self.old) (with_failure (fresh to.now)) (exchanges self.new)) }
         ensures none { OnErr result (is_open self.new → ⊥) }
-        ensures listens { listens self.old → listens self.new }
+        ensures port { port self.new ≡ port self.old }
         ensures callers { callers self.new ≡ callers self.old }
         ensures settled { settled self.new ≡ settled self.old }
         ensures cause { HasCause (faults self.old) (faults self.new) result };
@@ -52,7 +52,7 @@ pub trait Network: Sized + Send {
         ensures sent { IfOk result (λ n. Changed (exchanges self.old) (with_sent (take n piece.now)) (exchanges self.new)) }
         ensures err { OnErr result (Changed (exchanges self.old) with_failure (exchanges self.new)) }
         ensures open { is_open self.new }
-        ensures listens { listens self.old → listens self.new }
+        ensures port { port self.new ≡ port self.old }
         ensures callers { callers self.new ≡ callers self.old }
         ensures settled { settled self.new ≡ settled self.old }
         ensures cause { HasCause (faults self.old) (faults self.new) result };
@@ -67,7 +67,7 @@ pub trait Network: Sized + Send {
         ensures err { OnErr result (Changed (exchanges self.old) with_failure (exchanges self.new)) }
         ensures buffer { OnErr result (into.new ≡ into.old) }
         ensures open { is_open self.new }
-        ensures listens { listens self.old → listens self.new }
+        ensures port { port self.new ≡ port self.old }
         ensures callers { callers self.new ≡ callers self.old }
         ensures settled { settled self.new ≡ settled self.old }
         ensures cause { HasCause (faults self.old) (faults self.new) result };
@@ -77,14 +77,15 @@ pub trait Network: Sized + Send {
         requires { is_open self.old }
         ensures none { is_open self.new → ⊥ }
         ensures exchanges { exchanges self.new ≡ exchanges self.old }
-        ensures listens { listens self.old → listens self.new }
+        ensures port { port self.new ≡ port self.old }
         ensures callers { callers self.new ≡ callers self.old }
         ensures settled { settled self.new ≡ settled self.old }
         ensures faults { faults self.new ≡ faults self.old };
 
     /// Listens on that port for the connections of others.
-    fn listen(&mut self, port: u16) -> Result<(), Failed>
-        ensures listens { OnOk result (listens self.new) }
+    fn listen(&mut self, to: u16) -> Result<(), Failed>
+        ensures port { OnOk result (port self.new ≡ Some to) }
+        ensures as_before { OnErr result (port self.new ≡ port self.old) }
         ensures open { is_open self.old → is_open self.new }
         ensures exchanges { exchanges self.new ≡ exchanges self.old }
         ensures callers { callers self.new ≡ callers self.old }
@@ -93,10 +94,10 @@ pub trait Network: Sized + Send {
 
     /// Accepts the next connection. `Failed` takes no caller away.
     fn accept(&mut self) -> Result<Self::Peer, Failed>
-        requires { listens self.old }
+        requires { is_some (port self.old) ≡ true }
         ensures next { IfOk result (λ peer. Gave (callers self.old) (peer ∷ []) (callers self.new)) }
         ensures err { OnErr result (callers self.new ≡ callers self.old) }
-        ensures listens { listens self.new }
+        ensures port { port self.new ≡ port self.old }
         ensures open { is_open self.old → is_open self.new }
         ensures exchanges { exchanges self.new ≡ exchanges self.old }
         ensures settled { settled self.new ≡ settled self.old }
@@ -106,7 +107,7 @@ pub trait Network: Sized + Send {
     fn settle(&mut self, alloc: Global, peer: Self::Peer) -> Result<(), Memory>
         ensures settled { OnOk result (Added (settled self.old) (peer ∷ []) (settled self.new)) }
         ensures err { OnErr result (settled self.new ≡ settled self.old) }
-        ensures listens { listens self.old → listens self.new }
+        ensures port { port self.new ≡ port self.old }
         ensures open { is_open self.old → is_open self.new }
         ensures exchanges { exchanges self.new ≡ exchanges self.old }
         ensures callers { callers self.new ≡ callers self.old }
@@ -116,7 +117,7 @@ pub trait Network: Sized + Send {
     fn another(&self, alloc: Global) -> Result<Self, Memory>
         ensures faults { IfOk result (λ network. faults network ≡ 0) }
         ensures shut { IfOk result (λ network. is_open network → ⊥) }
-        ensures silent { IfOk result (λ network. listens network → ⊥) }
+        ensures silent { IfOk result (λ network. port network ≡ None) }
         ensures exchanges { IfOk result (λ network. IfSome (exchanges network) (λ told. told ≡ [])) }
         ensures settled { IfOk result (λ network. IfSome (settled network) (λ told. told ≡ [])) };
 }

@@ -1,6 +1,7 @@
 -- What a link over a network answers and leaves.
-use Rattle.std.specs.Prelude.{◌≡◌, ◌⊎◌, ℕ, false, List, [], ◌∷◌, Option, Some}
+use Rattle.std.specs.Prelude.{◌≡◌, ◌⊎◌, ℕ, false, List, [], ◌∷◌, Option, Some, Result, Ok, Err}
 use Rattle.fed_ports.specs.declared.address.Address.{Address}
+use Rattle.fed_ports.specs.declared.link.LinkFault.{LinkFault}
 use Rattle.fed_ports.specs.declared.page.Page.{Page}
 use Rattle.fed_ports.specs.declared.page.Page.TheVariants.{NoRoute}
 use Rattle.fed_ports.specs.Exchanges.{Exchange}
@@ -39,6 +40,11 @@ pub record AsksFor (routes : List Route) (text : List ℕ) (old new : Option (Li
 
 abbrev pub Leaves : List Route → List ℕ → Option (List Exchange) → Option (List Exchange) → Type 0
 Leaves routes text old new = (new ≡ old) ⊎ AsksFor routes text old new
+
+-- what a call answered: the page of the URL, and else what it left
+abbrev pub GotOrLeft : List Route → List ℕ → Option (List Exchange) → Option (List Exchange) → Result Page LinkFault → Type 0
+GotOrLeft routes text old new (Ok p) = Gets routes text old new p
+GotOrLeft routes text old new (Err fault) = Leaves routes text old new
 
 -- the network that a link holds
 abbrev pub link_network : {N : Type 0} → HttpLink N → N

@@ -3,7 +3,7 @@
 ghost use Rattle.std.specs.Prelude.{◌≡◌, ◌⊎◌, None, IfOk, OnErr};
 ghost use Rattle.fed_base.specs.Counts.{next_count};
 ghost use Rattle.fed_ports.specs.Webs.{HasLinkCause, Serves};
-ghost use Rattle.http_plain.specs.Links.{Gets, Leaves, link_calls, link_network, link_routes};
+ghost use Rattle.http_plain.specs.Links.{GotOrLeft, Gets, Leaves, link_calls, link_network, link_routes};
 
 use crate::exchange::exchange;
 use crate::inflow::Break;
@@ -50,6 +50,10 @@ impl<N: Network> Link for HttpLink<N> {
     ghost link_faults = { λ link. N.faults link.net };
 
     ghost web = { λ _. None };
+
+    // The routes stay, and what was answered is by the one exchange of the call, at most.
+    ghost gave = { λ old new url result. (link_routes new ≡ link_routes old)
+        × GotOrLeft (link_routes old) url (N.exchanges (link_network old)) (N.exchanges (link_network new)) result };
 
     /// The page of a URL. The connection is shut before every answer that follows an open.
     fn get(&mut self, alloc: Global, url: &Text) -> Result<Page, LinkFault>
