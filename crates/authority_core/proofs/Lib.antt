@@ -1,10 +1,13 @@
 mod BelowLaws
 mod ConfigurationLaws
 mod IssueLaws
+mod LengthLaws
 mod ListLaws
 mod Members
 mod MetadataLaws
 mod ReadLaws
 mod Responses
+mod StatementLengths
 mod StatusLaws
+mod TextLengths
 mod Wholes

@@ -28,7 +28,7 @@ use Rattle.node_config.specs.Nodes.{Subordinate}
 use Rattle.trust_mark.specs.Claims.{status_type_name}
 use Rattle.authority_core.specs.Answers.{configuration_response, fetch_response, good, historical_response, not_found, statement_response, status_response}
 use Rattle.authority_core.specs.Issued.{configuration_claims, historical_claims, historical_tree, historical_type, signed_by, statement_claims}
-use Rattle.authority_core.specs.Issues.{IsIssue, IsReadable, Issue, NamesSigner, SaysAs, issue_by}
+use Rattle.authority_core.specs.Issues.{IsIssue, Issue, NamesSigner, SaysAs, issue_by}
 use Rattle.authority_core.specs.Nodes.{Node, registered}
 use Rattle.authority_core.specs.ReadBack.{ReadsAs, claims_about}
 use Rattle.authority_core.specs.Statuses.{status_claims, status_of}
@@ -81,6 +81,12 @@ pub answer-live : (r : Answer) (ring : Ring) (keys : List ℕ) → signer_seeds 
 answer-live (Err e) ring keys signs named sealed = tt
 answer-live (Ok x) ring keys signs named sealed = λ short. sealed (live_set ring) (record { short = short; named = named keys signs })
 
+-- and it is
+pub short-live : (r : Answer) (ring : Ring) → IfOk r (λ x. length x.body ≤ max_bytes → IsSealedBy x.body (live_set ring)) → IfOk r (λ x. length x.body ≤ max_bytes)
+    → IfOk r (λ x. IsSealedBy x.body (live_set ring))
+short-live (Err e) ring sealed short = tt
+short-live (Ok x) ring sealed short = sealed short
+
 -- ---- what it is
 
 -- the parts of a sealed text say what is stated
@@ -100,13 +106,13 @@ issued issue tree has back reads sealed short own =
 pub answer-issued : (r : Answer) (node : Node) (keys : List ℕ) (tree stated : Json) (claims : Claims) (small : Type 0) → signer_seeds node.ring ≡ Some keys → tree ≡ stated
     → (small → ReadsAs tree claims) → (claims.iss ≡ claims.sub → NamesSigner keys claims.keys) → IfOk r (λ x. IsSealedFor keys x.body)
     → IfOk r (λ x. length x.body ≤ max_bytes → HasParts keys statement_type (compact tree) x.body) → IfOk r (λ _. nesting tree ≤ 127 → tree_in (compact tree) ≡ Some tree)
-    → IfOk r (λ x. small → IsReadable x.body stated → IsIssue (issue_by node x.body claims))
-answer-issued (Err e) node keys tree stated claims small signs made reads own sealed splits back = tt
-answer-issued (Ok x) node keys tree stated claims small signs made reads own sealed splits back = λ now readable.
-    let shallow : nesting tree ≤ 127 = subst (λ y. nesting y ≤ 127) (sym made) readable.shallow in
+    → IfOk r (λ x. length x.body ≤ max_bytes) → IfOk r (λ x. small → nesting stated ≤ 127 → IsIssue (issue_by node x.body claims))
+answer-issued (Err e) node keys tree stated claims small signs made reads own sealed splits back short = tt
+answer-issued (Ok x) node keys tree stated claims small signs made reads own sealed splits back short = λ now nested.
+    let shallow : nesting tree ≤ 127 = subst (λ y. nesting y ≤ 127) (sym made) nested in
     let issue : Issue = record { seeds = keys; text = x.body; claims = claims } in
     subst (λ seeds. IsIssue (record { seeds = seeds; text = x.body; claims = claims })) (sym (ap (λ o. unwrap_or o []) signs))
-    (issued issue tree (splits readable.short) (back shallow) (reads now) sealed readable.short own)
+    (issued issue tree (splits short) (back shallow) (reads now) sealed short own)
 
 -- ---- subjects that are registered, and those that aren't
 
@@ -122,8 +128,11 @@ none-some : (o : Option Subordinate) → o ≡ None → IsSome o → ⊥
 none-some None none some = cc some
 none-some (Some s) none some = cc none
 
-pub stranger-sealed : (r : Answer) (node : Node) (sub : List ℕ) → registered sub node.settings ≡ None → IfOk r (λ x. IsSome (registered sub node.settings) → length x.body ≤ max_bytes → IsSealedBy x.body (live_set node.ring))
-stranger-sealed r node sub none = always r _ (λ x some short. absurd (none-some _ none some))
+pub stranger-sealed : (r : Answer) (node : Node) (sub : List ℕ) → registered sub node.settings ≡ None → IfOk r (λ x. IsSome (registered sub node.settings) → IsSealedBy x.body (live_set node.ring))
+stranger-sealed r node sub none = always r _ (λ x some. absurd (none-some _ none some))
+
+pub stranger-short : (r : Answer) (node : Node) (sub : List ℕ) → registered sub node.settings ≡ None → IfOk r (λ x. IsSome (registered sub node.settings) → length x.body ≤ max_bytes)
+stranger-short r node sub none = always r _ (λ x some. absurd (none-some _ none some))
 
 pub stranger-reads : (r : Answer) (node : Node) (t : ℕ) (sub : List ℕ) → registered sub node.settings ≡ None
     → IfOk r (λ x. (s : Subordinate) → registered sub node.settings ≡ Some s → t < moment_limit → ReadsAs (statement_claims node.settings s t) (claims_about node.settings s t))
@@ -140,7 +149,7 @@ subordinate-reads r node t sub s claims below found made reads =
     (subst (λ c. ReadsAs c (claims_about node.settings s t)) made (reads small (found-below node.settings.id sub node.settings.subordinates s below found))))
 
 pub stranger-issues : (r : Answer) (node : Node) (t : ℕ) (sub : List ℕ) → registered sub node.settings ≡ None
-    → IfOk r (λ x. (s : Subordinate) → registered sub node.settings ≡ Some s → t < moment_limit → IsReadable x.body (statement_claims node.settings s t)
+    → IfOk r (λ x. (s : Subordinate) → registered sub node.settings ≡ Some s → t < moment_limit → nesting (statement_claims node.settings s t) ≤ 127
     → IsIssue (issue_by node x.body (claims_about node.settings s t)))
 stranger-issues r node t sub none = always r _ (λ x s found. let bad = sym none ∙ found in cc bad)
 
@@ -148,11 +157,11 @@ pub subordinate-issues : (r : Answer) (node : Node) (t : ℕ) (sub keys : List �
     → are_below node.settings.id node.settings.subordinates ≡ true → registered sub node.settings ≡ Some s → claims ≡ statement_claims node.settings s t
     → (t < moment_limit → node.settings.id ≢ s.entity.id → ReadsAs claims (claims_about node.settings s t)) → IfOk r (λ x. IsSealedFor keys x.body)
     → IfOk r (λ x. length x.body ≤ max_bytes → HasParts keys statement_type (compact claims) x.body) → IfOk r (λ _. nesting claims ≤ 127 → tree_in (compact claims) ≡ Some claims)
-    → IfOk r (λ x. (other : Subordinate) → registered sub node.settings ≡ Some other → t < moment_limit → IsReadable x.body (statement_claims node.settings other t)
+    → IfOk r (λ x. length x.body ≤ max_bytes) → IfOk r (λ x. (other : Subordinate) → registered sub node.settings ≡ Some other → t < moment_limit → nesting (statement_claims node.settings other t) ≤ 127
     → IsIssue (issue_by node x.body (claims_about node.settings other t)))
-subordinate-issues r node t sub keys s claims signs below found made reads sealed splits back =
+subordinate-issues r node t sub keys s claims signs below found made reads sealed splits back short =
     let apart = found-below node.settings.id sub node.settings.subordinates s below found in
     whatever r _ _ (answer-issued r node keys claims (statement_claims node.settings s t) (claims_about node.settings s t) (t < moment_limit) signs made
-    (λ small. reads small apart) (λ own. absurd (apart own)) sealed splits back)
+    (λ small. reads small apart) (λ own. absurd (apart own)) sealed splits back short)
     (λ x is other same. let one : s ≡ other = (let e = sym found ∙ same in cc e) in
-    subst (λ (y : Subordinate). t < moment_limit → IsReadable x.body (statement_claims node.settings y t) → IsIssue (issue_by node x.body (claims_about node.settings y t))) one is)
+    subst (λ (y : Subordinate). t < moment_limit → nesting (statement_claims node.settings y t) ≤ 127 → IsIssue (issue_by node x.body (claims_about node.settings y t))) one is)

@@ -1,5 +1,5 @@
 -- The node of a configuration file and a ring, or the first member that isn't of its form.
-use Rattle.std.specs.Prelude.{codes, map, IsTrue, Result, Ok, Err, if◌then◌else◌}
+use Rattle.std.specs.Prelude.{◌≡◌, codes, map, IsTrue, Result, Ok, Err, if◌then◌else◌}
 use Rattle.fed_base.specs.Answers.{◌>>=◌}
 use Rattle.fed_json.specs.declared.tree.Json.{Json}
 use Rattle.key_ring.specs.Rings.{Ring}
@@ -17,6 +17,10 @@ unfoldable pub sizes_of : Node → Result (Unit {0}) ConfigFault
 sizes_of node =
     if states_itself_shortly node then (if states_all_shortly node.settings then Ok tt else Err (Shape (codes "subordinates")))
     else Err (Shape (codes "metadata"))
+
+-- the same as a fact
+abbrev pub StatesShortly : Node → Type 0
+StatesShortly node = sizes_of node ≡ Ok tt
 
 -- the node, where what it would state is short
 abbrev pub if_short : Node → Result Node ConfigFault

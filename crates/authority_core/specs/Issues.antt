@@ -1,12 +1,10 @@
 -- What an authority issues: texts that read as what it states and are sealed by it; and what a chain of such texts may be
 -- refused for (OpenID Federation 1.0 sections 3, 4 and 10.2).
-use Rattle.std.specs.Prelude.{◌≡◌, ◌<◌, ◌≤◌, ◌⊎◌, ℕ, List, [], map, length, Some, Ok, slice_get, unwrap_or}
+use Rattle.std.specs.Prelude.{◌≡◌, ◌<◌, ◌⊎◌, ℕ, List, [], map, length, Some, Ok, slice_get, unwrap_or}
 use Rattle.std.specs.List.{AllByRecursion}
 use Rattle.fed_base.specs.Places.{FailsFirst}
-use Rattle.fed_json.specs.declared.tree.Json.{Json}
-use Rattle.fed_json.specs.Forms.{nesting}
 use Rattle.jws_form.specs.declared.compact.Compact.{Compact}
-use Rattle.jws_form.specs.Compact.{IsCompact, max_bytes}
+use Rattle.jws_form.specs.Compact.{IsCompact}
 use Rattle.jwk_set.specs.declared.jwk.Jwk.{Jwk}
 use Rattle.jwk_set.specs.KeySets.{key_named}
 use Rattle.slh_hash.specs.declared.params.TheConstants.{P128S}
@@ -58,11 +56,6 @@ pub record IsIssue (issue : Issue) : Type 0 where
 -- what a node issues is signed by the newest live key of its ring
 abbrev pub issue_by : Node → List ℕ → Claims → Issue
 issue_by node text claims = record { seeds = unwrap_or (signer_seeds node.ring) []; text = text; claims = claims }
-
--- a text is short enough to be read, and what it states isn't nested too deep for that (RFC 8259 section 9)
-pub record IsReadable (text : List ℕ) (tree : Json) : Type 0 where
-  pub short : length text ≤ max_bytes
-  pub shallow : nesting tree ≤ 127
 
 -- ---- chains of what is issued
 

@@ -3,6 +3,7 @@ pub mod Configurations
 pub mod Endpoints
 pub mod Issued
 pub mod Issues
+pub mod Lengths
 pub mod Nodes
 pub mod ReadBack
 pub mod Stages

@@ -7,6 +7,7 @@
 mod answers;
 mod claims;
 pub mod laws;
+mod lengths;
 mod metadata;
 mod query;
 mod registry;

@@ -5,7 +5,7 @@ ghost use Rattle.std.specs.List.{AllByRecursion};
 ghost use Rattle.std.specs.Option.{option_copied};
 ghost use Rattle.std.specs.Str.{IsUtf8};
 ghost use Rattle.fed_base.specs.Moments.{moment_limit};
-ghost use Rattle.fed_json.specs.Forms.{IsWellFormed, IsWhole};
+ghost use Rattle.fed_json.specs.Forms.{IsWellFormed, IsWhole, nesting};
 ghost use Rattle.fed_json.specs.declared.tree.Json.{List as ListTree, Text as TextTree};
 ghost use Rattle.jws_form.specs.Compact.{max_bytes};
 ghost use Rattle.key_ring.specs.Sets.{live_set, signer_seeds};
@@ -18,7 +18,7 @@ ghost use Rattle.trust_mark.specs.Counts.{CountsAtMost, counted};
 ghost use Rattle.authority_core.specs.Answers.{configuration_response, fetch_response, historical_response, list_response, status_response};
 ghost use Rattle.authority_core.specs.Configurations.{node_in};
 ghost use Rattle.authority_core.specs.Issued.{configuration_claims, ids_of, statement_claims};
-ghost use Rattle.authority_core.specs.Issues.{IsIssue, IsReadable, issue_by};
+ghost use Rattle.authority_core.specs.Issues.{IsIssue, issue_by};
 ghost use Rattle.authority_core.specs.Nodes.{is_for, registered};
 ghost use Rattle.authority_core.specs.ReadBack.{ReadsAs, claims_about, own_claims};
 ghost use Rattle.authority_core.specs.Statuses.{status_tests};
@@ -52,7 +52,7 @@ pub struct Registry {
 
 impl Model for Registry {
     ghost use Rattle.key_ring.specs.Sets.{IsNamedIn, live_set, signer_seeds};
-    ghost use Rattle.authority_core.specs.Configurations.{IsAbove};
+    ghost use Rattle.authority_core.specs.Configurations.{IsAbove, StatesShortly};
     ghost use Rattle.authority_core.specs.Nodes.{IsStatable, Node, node_of};
     ghost use Rattle.fed_json.specs.contracts.tree.Json as json;
     ghost use Rattle.std.specs.Coded.{codes};
@@ -64,7 +64,7 @@ impl Model for Registry {
     ghost view = { λ registry. node_of registry.config registry.ring };
 
     ghost invariant = { λ registry. IsStatable registry.config × IsNamedIn (signer_seeds registry.ring) (live_set registry.ring)
-        × IsAbove registry.config };
+        × IsAbove registry.config × StatesShortly (node_of registry.config registry.ring) };
 }
 
 impl Registry {
@@ -112,12 +112,13 @@ impl Registry {
     /// The node's entity configuration at a moment, in seconds since 1970.
     pub fn configuration(&self, alloc: Global, t: u64) -> Result<Response, Memory>
         ensures response { IfOk result (λ response. response ≡ configuration_response self.now t) }
-        ensures sealed { IfOk result (λ response. length response.body ≤ max_bytes → IsSealedBy response.body (live_set self.now.ring)) }
+        ensures short { IfOk result (λ response. length response.body ≤ max_bytes) }
+        ensures sealed { IfOk result (λ response. IsSealedBy response.body (live_set self.now.ring)) }
         // A text of the type of statements with this payload reads as what is configured.
         ensures reads_back { IfOk result (λ _. t < moment_limit
             → ReadsAs (configuration_claims self.now t) (own_claims self.now.settings (live_set self.now.ring) t)) }
-        // A body that isn't too long or too deep to be read is a statement that reads so.
-        ensures issued { IfOk result (λ response. t < moment_limit → IsReadable response.body (configuration_claims self.now t)
+        // The body is a statement that reads so, where what is stated isn't nested too deep for that.
+        ensures issued { IfOk result (λ response. t < moment_limit → nesting (configuration_claims self.now t) ≤ 127
             → IsIssue (issue_by self.now response.body (own_claims self.now.settings (live_set self.now.ring) t))) }
     {
         let claims = configuration_claims(alloc, &self.config, &self.ring, t)?;
@@ -133,14 +134,15 @@ impl Registry {
     /// The statement about a subordinate at a moment, in seconds since 1970, or 404 `not_found` where no subordinate has that identifier.
     pub fn fetch(&self, alloc: Global, t: u64, sub: &Text) -> Result<Response, Memory>
         ensures response { IfOk result (λ response. response ≡ fetch_response self.now t sub.now) }
-        ensures sealed { IfOk result (λ response. IsSome (registered sub.now self.now.settings) → length response.body ≤ max_bytes
+        ensures short { IfOk result (λ response. IsSome (registered sub.now self.now.settings) → length response.body ≤ max_bytes) }
+        ensures sealed { IfOk result (λ response. IsSome (registered sub.now self.now.settings)
             → IsSealedBy response.body (live_set self.now.ring)) }
         // A text of the type of statements with this payload reads as what is configured of the subordinate.
         ensures reads_back { IfOk result (λ _. (s : Subordinate) → registered sub.now self.now.settings ≡ Some s → t < moment_limit
             → ReadsAs (statement_claims self.now.settings s t) (claims_about self.now.settings s t)) }
-        // A body that isn't too long or too deep to be read is a statement that reads so.
+        // The body is a statement that reads so, where what is stated isn't nested too deep for that.
         ensures issued { IfOk result (λ response. (s : Subordinate) → registered sub.now self.now.settings ≡ Some s → t < moment_limit
-            → IsReadable response.body (statement_claims self.now.settings s t)
+            → nesting (statement_claims self.now.settings s t) ≤ 127
             → IsIssue (issue_by self.now response.body (claims_about self.now.settings s t))) }
     {
         let Some(s) = registered(self.config.subordinates.as_slice(), sub) else {

@@ -12,6 +12,7 @@ ghost use Rattle.authority_core.specs.Stages.{IsFaultOf};
 ghost use Rattle.key_ring.specs.Sets.{IsNamedIn, live_set, signer_seeds};
 
 use crate::claims::{configuration_claims, statement_claims};
+use crate::lengths::after_statement;
 use fed_base::{MOMENT_LIMIT, Memory, Text};
 use fed_json::{Json, write_tree};
 use key_ring::KeyRing;
@@ -19,7 +20,7 @@ use node_config::{ConfigFault, NodeConfig, SubordinateConfig};
 use std::alloc::Global;
 
 // How many bytes claims have at most.
-const MOST_BYTES: usize = 180_000;
+const MOST_BYTES: u64 = 180_000;
 
 /// Nothing where what the node states is short enough, and else `metadata` or `subordinates`.
 #[tactic(auto, unfolding(crate::specs::Configurations::sizes_of))]
@@ -74,11 +75,14 @@ fn states_all_shortly(alloc: Global, node: &NodeConfig) -> Result<bool, Memory>
     Ok(true)
 }
 
-// Whether the statement about that subordinate is.
+// Whether the statement about that subordinate is. It is written only where it may be longer.
 fn states_shortly(alloc: Global, node: &NodeConfig, s: &SubordinateConfig) -> Result<bool, Memory>
     requires { IsSubordinate s.now }
     ensures { IfOk result (λ short. short ≡ states_shortly (told node.now) (told_subordinate s.now)) }
 {
+    if after_statement(MOST_BYTES, node, s).is_some() {
+        return Ok(true);
+    }
     let claims = statement_claims(alloc, node, s, MOMENT_LIMIT - 1)?;
     is_short(alloc, &claims)
 }
@@ -88,5 +92,5 @@ fn is_short(alloc: Global, claims: &Json) -> Result<bool, Memory>
     ensures { IfOk result (λ short. short ≡ is_short claims.now) }
 {
     let text = write_tree(alloc, claims)?;
-    Ok(text.len() <= MOST_BYTES)
+    Ok(text.len() as u64 <= MOST_BYTES)
 }

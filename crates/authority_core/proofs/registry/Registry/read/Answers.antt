@@ -22,4 +22,5 @@ invariant_of-result c = (
   record { own = c.in_ok-config.ensures.own; about = c.in_ok-config.ensures.about },
   c.in_ok-check_sizes.ensures.signer,
   below-configuration c.args.config.now (told c.in_ok-config.config) c.in_ok-config.ensures.exact,
+  c.in_ok-check_sizes.ensures.sizes,
 )
