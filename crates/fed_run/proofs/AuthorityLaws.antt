@@ -26,6 +26,9 @@ runs_input at order before now end status is e (inl (done, written, same)) = rec
   sink = record { only = λ four. absurd (omega (arith, done, four)); always = λ less. absurd (omega (arith, same, less)) };
   store = record { only = λ six. absurd (omega (arith, done, six)); always = λ less. absurd (cc (sym is ∙ e.store.always less)) };
   network = record { only = λ seven. absurd (omega (arith, done, seven)); always = λ less. absurd (cc (sym is ∙ e.network.always less)) };
+  unread = λ six. absurd (omega (arith, done, six));
+  failed = λ seven. absurd (omega (arith, done, seven));
+  dropped = λ five. absurd (omega (arith, done, five));
   silent = λ either. absurd (not_silent status 2 done (lit< tt) either);
   files = e.files;
   range = inr (inl done);
@@ -37,6 +40,9 @@ runs_input at order before now end status is e (inr (four, (n, written), rose)) 
   sink = record { only = λ _. rose; always = λ _. four };
   store = record { only = λ six. absurd (omega (arith, four, six)); always = λ less. absurd (cc (sym is ∙ e.store.always less)) };
   network = record { only = λ seven. absurd (omega (arith, four, seven)); always = λ less. absurd (cc (sym is ∙ e.network.always less)) };
+  unread = λ six. absurd (omega (arith, four, six));
+  failed = λ seven. absurd (omega (arith, four, seven));
+  dropped = λ five. absurd (omega (arith, four, five));
   silent = λ either. absurd (not_silent status 4 four (lit< tt) either);
   files = e.files;
   range = inr (inr (inl four));

@@ -7,7 +7,7 @@ use Rattle.fed_commands.specs.Answers.{Tells}
 use Rattle.fed_serve.specs.Moments.{PeerAt}
 use Rattle.fed_words.specs.declared.service.Service.{Service}
 use Rattle.fed_words.specs.declared.service.Service.TheVariants.{Authority}
-use Rattle.node_service.specs.Ends.{At, HasServed, Order}
+use Rattle.node_service.specs.Ends.{At, HasDropped, HasFailed, HasServed, Order}
 use Rattle.node_service.specs.NodeFiles.{IsAuthorityAlone, IsNodeOf}
 
 -- the output, where it is told, and how often it failed; the files, the network and the clock
@@ -40,16 +40,20 @@ pub record HasNoNode {P : Type 0} (order : Order) (before now : At P) : Type 0 w
 -- one field for each status
 pub record RunsAuthority {P : Type 0} (at : P → PeerAt) (order : Order) (before now : Outside P) (status : ℕ) : Type 0 where
   -- all connections were served by the node of the file, and the line says so
-  pub done : status ≡ 0 → HasServed at order before.node now.node × Appends before.held now.held (served_line order.connections)
+  pub done : status ≡ 0 → HasServed at order before.node now.node × Appends before.held now.held (served_line order.post.connections)
   -- there is no such node, and the line says so
   pub input : status ≡ 2 → HasNoNode order before.node now.node × Appends before.held now.held input_line
   -- the sink failed, and a beginning of one of the two lines is written, each only where it was due
-  pub cut : status ≡ 4 → (n : ℕ) × ((HasServed at order before.node now.node × Appends before.held now.held (take n (served_line order.connections)))
+  pub cut : status ≡ 4 → (n : ℕ) × ((HasServed at order before.node now.node × Appends before.held now.held (take n (served_line order.post.connections)))
       ⊎ (HasNoNode order before.node now.node × Appends before.held now.held (take n input_line)))
   -- each of these comes only where the count of faults rose, and always where it grew
   pub sink : Tells 4 before.write_faults now.write_faults status
   pub store : Tells 6 before.node.store_faults now.node.store_faults status
   pub network : Tells 7 before.node.network_faults now.node.network_faults status
+  -- who was served before one of these, and before memory was wanting
+  pub unread : status ≡ 6 → now.node.service ≡ before.node.service
+  pub failed : status ≡ 7 → HasFailed at order before.node now.node
+  pub dropped : status ≡ 5 → (now.node.service ≡ before.node.service) ⊎ HasDropped at order before.node now.node
   -- after these and want of memory nothing is written
   pub silent : (status ≡ 5) ⊎ ((status ≡ 6) ⊎ (status ≡ 7)) → now.held ≡ before.held
   -- no file is changed
@@ -58,4 +62,4 @@ pub record RunsAuthority {P : Type 0} (at : P → PeerAt) (order : Order) (befor
 
 -- what a service does, by what is asked for
 abbrev pub RunsService : {P : Type 0} → (P → PeerAt) → Service → Outside P → Outside P → ℕ → Type 0
-RunsService at (Authority config port connections) before now status = RunsAuthority at (record { config = config; connections = connections }) before now status
+RunsService at (Authority config port connections) before now status = RunsAuthority at (record { config = config; post = record { port = port; connections = connections } }) before now status

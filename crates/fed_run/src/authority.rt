@@ -51,12 +51,12 @@ pub(crate) fn serve<R, K: Sink, D: Store, N: Network, C: Clock>(
 ) -> u8
     ensures runs { RunsAuthority
         (λ peer. peer_at (N.Peer.left peer) (N.Peer.held peer) (N.Peer.read_faults peer) (N.Peer.write_faults peer))
-        (record { config = config.now; connections = connections })
+        (record { config = config.now; post = record { port = port; connections = connections } })
         (outside (K.held out.old) (K.write_faults out.old) (at_moment (D.files store.old)
-        (service_at (N.callers net.old) (N.settled net.old) (clock_at (C.readings clock.old) (C.last clock.old) (C.told clock.old)))
+        (service_at (N.port net.old) (N.callers net.old) (N.settled net.old) (clock_at (C.readings clock.old) (C.last clock.old) (C.told clock.old)))
         (D.store_faults store.old) (N.faults net.old)))
         (outside (K.held out.new) (K.write_faults out.new) (at_moment (D.files store.new)
-        (service_at (N.callers net.new) (N.settled net.new) (clock_at (C.readings clock.new) (C.last clock.new) (C.told clock.new)))
+        (service_at (N.port net.new) (N.callers net.new) (N.settled net.new) (clock_at (C.readings clock.new) (C.last clock.new) (C.told clock.new)))
         (D.store_faults store.new) (N.faults net.new)))
         result }
     ensures exchanges { N.exchanges net.new ≡ N.exchanges net.old }

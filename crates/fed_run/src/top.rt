@@ -67,10 +67,10 @@ pub fn run<R, S: Source, K: Sink, D: Store, N: Network, C: Clock>(
     ensures service { IfSome (service_of words.now) (λ service. (input.new ≡ input.old) × RunsService
         (λ peer. peer_at (N.Peer.left peer) (N.Peer.held peer) (N.Peer.read_faults peer) (N.Peer.write_faults peer)) service
         (outside (K.held out.old) (K.write_faults out.old) (at_moment (D.files store.old)
-        (service_at (N.callers net.old) (N.settled net.old) (clock_at (C.readings clock.old) (C.last clock.old) (C.told clock.old)))
+        (service_at (N.port net.old) (N.callers net.old) (N.settled net.old) (clock_at (C.readings clock.old) (C.last clock.old) (C.told clock.old)))
         (D.store_faults store.old) (N.faults net.old)))
         (outside (K.held out.new) (K.write_faults out.new) (at_moment (D.files store.new)
-        (service_at (N.callers net.new) (N.settled net.new) (clock_at (C.readings clock.new) (C.last clock.new) (C.told clock.new)))
+        (service_at (N.port net.new) (N.callers net.new) (N.settled net.new) (clock_at (C.readings clock.new) (C.last clock.new) (C.told clock.new)))
         (D.store_faults store.new) (N.faults net.new)))
         result) }
     ensures exchanges { N.exchanges net.new ≡ N.exchanges net.old }
@@ -126,10 +126,10 @@ pub fn run_with_notes<R, S: Source, K: Sink, D: Store, N: Network, C: Clock + Dr
     ensures service { IfSome (service_of words.now) (λ service. (input.new ≡ input.old) × RunsService
         (λ peer. peer_at (N.Peer.left peer) (N.Peer.held peer) (N.Peer.read_faults peer) (N.Peer.write_faults peer)) service
         (outside (K.held out.old) (K.write_faults out.old) (at_moment (D.files store.old)
-        (service_at (N.callers net.old) (N.settled net.old) (clock_at (C.readings clock.old) (C.last clock.old) (C.told clock.old)))
+        (service_at (N.port net.old) (N.callers net.old) (N.settled net.old) (clock_at (C.readings clock.old) (C.last clock.old) (C.told clock.old)))
         (D.store_faults store.old) (N.faults net.old)))
         (outside (K.held out.new) (K.write_faults out.new) (at_moment (D.files store.new)
-        (service_at (N.callers net.new) (N.settled net.new) (clock_at (C.readings clock.new) (C.last clock.new) (C.told clock.new)))
+        (service_at (N.port net.new) (N.callers net.new) (N.settled net.new) (clock_at (C.readings clock.new) (C.last clock.new) (C.told clock.new)))
         (D.store_faults store.new) (N.faults net.new)))
         result) }
     ensures exchanges { N.exchanges net.new ≡ N.exchanges net.old }
@@ -161,10 +161,10 @@ fn serve_as<R, K: Sink, D: Store, N: Network, C: Clock>(
     ensures runs { RunsService
         (λ peer. peer_at (N.Peer.left peer) (N.Peer.held peer) (N.Peer.read_faults peer) (N.Peer.write_faults peer)) service.now
         (outside (K.held out.old) (K.write_faults out.old) (at_moment (D.files store.old)
-        (service_at (N.callers net.old) (N.settled net.old) (clock_at (C.readings clock.old) (C.last clock.old) (C.told clock.old)))
+        (service_at (N.port net.old) (N.callers net.old) (N.settled net.old) (clock_at (C.readings clock.old) (C.last clock.old) (C.told clock.old)))
         (D.store_faults store.old) (N.faults net.old)))
         (outside (K.held out.new) (K.write_faults out.new) (at_moment (D.files store.new)
-        (service_at (N.callers net.new) (N.settled net.new) (clock_at (C.readings clock.new) (C.last clock.new) (C.told clock.new)))
+        (service_at (N.port net.new) (N.callers net.new) (N.settled net.new) (clock_at (C.readings clock.new) (C.last clock.new) (C.told clock.new)))
         (D.store_faults store.new) (N.faults net.new)))
         result }
     ensures exchanges { N.exchanges net.new ≡ N.exchanges net.old }

@@ -1,10 +1,14 @@
 -- Connections that were served, and others after them.
-use Rattle.std.proofs.Common.{rules, ◌≡◌, ◌+◌, ℕ, List, [], ◌∷◌, ◌++◌, length, map, Option, Some, None, option_map, refl, sym, ap, ap₂, ◌∙◌, subst, append_assoc, append-nil, length-append}
+use Rattle.std.proofs.Common.{rules, ◌≡◌, ◌+◌, ◌<◌, ℕ, List, [], ◌∷◌, ◌++◌, length, map, Option, Some, None, option_map, refl, sym, ap, ap₂, ◌∙◌, subst, append_assoc, append-nil, length-append}
 use Rattle.std.proofs.lemmas.List.{map-append}
 use Rattle.std.specs.List.{AllByRecursion}
 use Rattle.fed_ports.specs.Lists.{Added, Gave}
 use Rattle.authority_core.specs.Nodes.{Node}
 use Rattle.fed_serve.specs.Moments.{ClockAt, PeerAt}
+use Rattle.std.specs.Prelude.{Err}
+use Rattle.node_service.specs.declared.connections.Stop.{Stop}
+use Rattle.node_service.specs.declared.connections.Stop.TheVariants.{Network, Memory}
+use Rattle.node_service.specs.Ends.{NextOf, StopsAfter}
 use Rattle.node_service.specs.Connections.{AreServed, Connection, ReadInTurn, ServiceAt, Serves, came_of, gone_of}
 
 gave_after : {A : Type 0} (xs ys : List A) (a b c : Option (List A)) → Gave a xs b → Gave b ys c → Gave a (xs ++ ys) c
@@ -26,6 +30,7 @@ read_after (x ∷ cs) ds a b c one next = (one.0, read_after cs ds x.clock' b c 
 served_after : {P : Type 0} (at : P → PeerAt) (node : Node) (cs ds : List (Connection P)) (a b c : ServiceAt P) → AreServed at node cs a b → AreServed at node ds b c
     → AreServed at node (cs ++ ds) a c
 served_after at node cs ds a b c one next = record {
+  port = next.port ∙ one.port;
   accepted = subst (λ came. Gave a.callers came c.callers) (sym (map-append came_of cs ds)) (gave_after (map came_of cs) (map came_of ds) a.callers b.callers c.callers one.accepted next.accepted);
   answered = all_after _ cs ds one.answered next.answered;
   settled = subst (λ gone. Added a.settled gone c.settled) (sym (map-append gone_of cs ds)) (added_after (map gone_of cs) (map gone_of ds) a.settled b.settled c.settled one.settled next.settled);
@@ -47,7 +52,13 @@ added_none (Some xs) = ap Some (sym (append-nil xs))
 
 -- before the first, none was served
 pub serves_none : {P : Type 0} (at : P → PeerAt) (node : Node) (a : ServiceAt P) → Serves at node 0 a a
-serves_none at node a = ([], refl, record { accepted = gave_none a.callers; answered = tt; settled = added_none a.settled; clocks = refl })
+serves_none at node a = ([], refl, record { port = refl; accepted = gave_none a.callers; answered = tt; settled = added_none a.settled; clocks = refl })
 
 pub serves_all : {P : Type 0} (at : P → PeerAt) (node : Node) (m n : ℕ) (a b : ServiceAt P) → m ≡ n → Serves at node m a b → Serves at node n a b
 serves_all at node m n a b same served = (served.0, served.1 ∙ same, served.2)
+
+-- so many were served, fewer than are to be, and then none was accepted, or one was dropped
+pub stops_after : {P : Type 0} (at : P → PeerAt) (node : Node) (m n : ℕ) (a b c : ServiceAt P) (stop : Stop) → m < n → Serves at node m a b → NextOf at node b c (Err stop)
+    → StopsAfter at node n a c (Err stop)
+stops_after at node m n a b c Network fewer served same = record { count = m; fewer = fewer; served = subst (λ now. Serves at node m a now) (sym same) served }
+stops_after at node m n a b c Memory fewer served dropped = record { then = b; served = record { count = m; fewer = fewer; served = served }; dropped = dropped }

@@ -1,5 +1,5 @@
 -- Connections that are accepted, served and settled, one after the other.
-use Rattle.std.specs.Prelude.{◌≡◌, ℕ, List, [], ◌∷◌, length, map, Option, Result}
+use Rattle.std.specs.Prelude.{◌≡◌, ◌<◌, ℕ, List, [], ◌∷◌, length, map, Option, Some, Result}
 use Rattle.std.specs.List.{AllByRecursion}
 use Rattle.fed_ports.specs.Lists.{Added, Gave}
 use Rattle.authority_core.specs.Nodes.{Node}
@@ -25,14 +25,20 @@ came_of c = c.came
 abbrev pub gone_of : {P : Type 0} → Connection P → P
 gone_of c = c.gone
 
--- a service at one moment: the callers to come and those that were settled, where the network tells them, and the clock
+-- a service at one moment: the port that it listens on, the callers to come and those that were settled, where the network tells them,
+-- and the clock
 pub record ServiceAt (P : Type 0) : Type 0 where
+  pub port : Option ℕ
   pub callers : Option (List P)
   pub settled : Option (List P)
   pub clock : ClockAt
 
-abbrev pub service_at : {P : Type 0} → Option (List P) → Option (List P) → ClockAt → ServiceAt P
-service_at callers settled clock = record { callers = callers; settled = settled; clock = clock }
+abbrev pub service_at : {P : Type 0} → Option ℕ → Option (List P) → Option (List P) → ClockAt → ServiceAt P
+service_at port callers settled clock = record { port = port; callers = callers; settled = settled; clock = clock }
+
+-- the same, where it listens on this port
+abbrev pub on_port : {P : Type 0} → ℕ → ServiceAt P → ServiceAt P
+on_port port service = record service { port = Some port }
 
 -- the node answered the connection, whose peers are seen so
 abbrev pub IsAnswered : {P : Type 0} → (P → PeerAt) → Node → Connection P → Type 0
@@ -46,6 +52,7 @@ ReadInTurn before (c ∷ cs) now = (c.clock ≡ before) × ReadInTurn c.clock' c
 
 -- these connections, the first of the callers to come, were accepted, answered and settled in order
 pub record AreServed {P : Type 0} (at : P → PeerAt) (node : Node) (connections : List (Connection P)) (before now : ServiceAt P) : Type 0 where
+  pub port : now.port ≡ before.port
   pub accepted : Gave before.callers (map came_of connections) now.callers
   pub answered : AllByRecursion (IsAnswered at node) connections
   pub settled : Added before.settled (map gone_of connections) now.settled
@@ -54,3 +61,24 @@ pub record AreServed {P : Type 0} (at : P → PeerAt) (node : Node) (connections
 -- so many were
 abbrev pub Serves : {P : Type 0} → (P → PeerAt) → Node → ℕ → ServiceAt P → ServiceAt P → Type 0
 Serves {P} at node n before now = (connections : List (Connection P)) × (length connections ≡ n) × AreServed at node connections before now
+
+-- fewer than so many were
+pub record ServesFewer {P : Type 0} (at : P → PeerAt) (node : Node) (n : ℕ) (before now : ServiceAt P) : Type 0 where
+  pub count : ℕ
+  pub fewer : count < n
+  pub served : Serves at node count before now
+
+-- the next connection was accepted and answered, and then dropped in place of being settled
+pub record DropsNext {P : Type 0} (at : P → PeerAt) (node : Node) (before now : ServiceAt P) : Type 0 where
+  pub connection : Connection P
+  pub port : now.port ≡ before.port
+  pub accepted : Gave before.callers (connection.came ∷ []) now.callers
+  pub answered : IsAnswered at node connection
+  pub settled : now.settled ≡ before.settled
+  pub clocks : ReadInTurn before.clock (connection ∷ []) now.clock
+
+-- fewer than so many were, and the next one was dropped
+pub record ServesAndDrops {P : Type 0} (at : P → PeerAt) (node : Node) (n : ℕ) (before now : ServiceAt P) : Type 0 where
+  pub then : ServiceAt P
+  pub served : ServesFewer at node n before then
+  pub dropped : DropsNext at node then now

@@ -1,5 +1,5 @@
 -- How serving as an authority ends.
-use Rattle.std.specs.Prelude.{◌≡◌, ◌<◌, ℕ, List, Option, None, Result, Ok, Err}
+use Rattle.std.specs.Prelude.{◌≡◌, ◌⊎◌, ◌<◌, ℕ, List, Option, None, Result, Ok, Err}
 use Rattle.fed_base.specs.Counts.{Rose}
 use Rattle.fed_ports.specs.Stores.{Files}
 use Rattle.authority_core.specs.Nodes.{Node}
@@ -10,7 +10,7 @@ use Rattle.node_service.specs.declared.node_files.NodeFault.{NodeFault}
 use Rattle.node_service.specs.declared.node_files.NodeFault.TheVariants as node_fault
 use Rattle.node_service.specs.declared.service.ServiceEnd.{ServiceEnd}
 use Rattle.node_service.specs.declared.service.ServiceEnd.TheVariants as ends
-use Rattle.node_service.specs.Connections.{ServiceAt, Serves}
+use Rattle.node_service.specs.Connections.{DropsNext, ServesAndDrops, ServesFewer, ServiceAt, Serves, on_port}
 use Rattle.node_service.specs.NodeFiles.{IsAuthorityAlone, IsNodeOf}
 
 -- the network failed only where its count of faults rose, which else is as before
@@ -19,22 +19,43 @@ NetworkCause before now (Ok done) = now ≡ before
 NetworkCause before now (Err stop.Network) = Rose before now
 NetworkCause before now (Err stop.Memory) = now ≡ before
 
--- what is asked for: the name of a configuration file, and how many connections are to be served
+-- what becomes of the next connection: it is served; or none is accepted; or it is answered and dropped
+abbrev pub NextOf : {P : Type 0} → (P → PeerAt) → Node → ServiceAt P → ServiceAt P → Result Unit Stop → Type 0
+NextOf at node before now (Ok done) = Serves at node 1 before now
+NextOf at node before now (Err stop.Network) = now ≡ before
+NextOf at node before now (Err stop.Memory) = DropsNext at node before now
+
+-- what becomes of so many connections: all are served; or the network fails before, or the next one is dropped
+abbrev pub StopsAfter : {P : Type 0} → (P → PeerAt) → Node → ℕ → ServiceAt P → ServiceAt P → Result Unit Stop → Type 0
+StopsAfter at node n before now (Ok done) = Serves at node n before now
+StopsAfter at node n before now (Err stop.Network) = ServesFewer at node n before now
+StopsAfter at node n before now (Err stop.Memory) = ServesAndDrops at node n before now
+
+-- on which port how many connections are to be served
+pub record Post : Type 0 where
+  pub port : ℕ
+  pub connections : ℕ
+
+-- what is asked for: the name of a configuration file, and what is to be served
 pub record Order : Type 0 where
   pub config : List ℕ
-  pub connections : ℕ
+  pub post : Post
 
 -- a service and its network's count of faults, at one moment
 pub record NetworkAt (P : Type 0) : Type 0 where
   pub service : ServiceAt P
   pub faults : ℕ
 
--- how the serving of connections ended: all were served, or the network failed, or memory was wanting
-abbrev pub EndsOf : {P : Type 0} → (P → PeerAt) → Node → ℕ → NetworkAt P → NetworkAt P → ServiceEnd → Type 0
-EndsOf at node n before now ends.Served = Serves at node n before.service now.service × (now.faults ≡ before.faults)
-EndsOf at node n before now ends.NetworkFailed = Rose before.faults now.faults
-EndsOf at node n before now ends.Memory = now.faults ≡ before.faults
-EndsOf at node n before now end = ⊥
+-- nobody was listened to; or fewer than so many were served on the port, and then the network failed
+abbrev pub FailsAfter : {P : Type 0} → (P → PeerAt) → Node → Post → ServiceAt P → ServiceAt P → Type 0
+FailsAfter at node post before now = (now ≡ before) ⊎ ServesFewer at node post.connections (on_port post.port before) now
+
+-- how the serving of connections on a port ended: all were served, or the network failed, or memory was wanting to settle one
+abbrev pub EndsOf : {P : Type 0} → (P → PeerAt) → Node → Post → NetworkAt P → NetworkAt P → ServiceEnd → Type 0
+EndsOf at node post before now ends.Served = Serves at node post.connections (on_port post.port before.service) now.service × (now.faults ≡ before.faults)
+EndsOf at node post before now ends.NetworkFailed = FailsAfter at node post before.service now.service × Rose before.faults now.faults
+EndsOf at node post before now ends.Memory = ServesAndDrops at node post.connections (on_port post.port before.service) now.service × (now.faults ≡ before.faults)
+EndsOf at node post before now end = ⊥
 
 -- the files, where they are told, and the service, at one moment
 pub record At (P : Type 0) : Type 0 where
@@ -53,24 +74,47 @@ end_without_node node_fault.Input = ends.Input
 end_without_node node_fault.Store = ends.StoreFailed
 end_without_node node_fault.Memory = ends.Memory
 
--- so many connections were served by the node of the file
+-- a node of the file, which is an authority alone
+pub record IsOrdered (order : Order) (files : Option Files) (node : Node) : Type 0 where
+  pub is_node : IsNodeOf files order.config node
+  pub is_authority : IsAuthorityAlone node
+
+-- so many connections were served on the port by the node of the file
 pub record HasServed {P : Type 0} (at : P → PeerAt) (order : Order) (before now : At P) : Type 0 where
   pub node : Node
-  pub is_node : IsNodeOf before.files order.config node
-  pub is_authority : IsAuthorityAlone node
-  pub serves : Serves at node order.connections before.service now.service
+  pub is : IsOrdered order before.files node
+  pub serves : Serves at node order.post.connections (on_port order.post.port before.service) now.service
+
+-- the node of the file listened to nobody, or served fewer than so many on the port
+pub record HasFailed {P : Type 0} (at : P → PeerAt) (order : Order) (before now : At P) : Type 0 where
+  pub node : Node
+  pub is : IsOrdered order before.files node
+  pub after : FailsAfter at node order.post before.service now.service
+
+-- the node of the file served fewer than so many on the port, and dropped the next one
+pub record HasDropped {P : Type 0} (at : P → PeerAt) (order : Order) (before now : At P) : Type 0 where
+  pub node : Node
+  pub is : IsOrdered order before.files node
+  pub after : ServesAndDrops at node order.post.connections (on_port order.post.port before.service) now.service
 
 -- the end comes only where that count of faults rose, and always where it grew
 pub record Tells (result fault : ServiceEnd) (before now : ℕ) : Type 0 where
   pub only : result ≡ fault → Rose before now
   pub always : before < now → result ≡ fault
 
+-- how serving as an authority ends, and what was done
 pub record Ends {P : Type 0} (at : P → PeerAt) (order : Order) (before now : At P) (result : ServiceEnd) : Type 0 where
   -- all connections were served
   pub served : result ≡ ends.Served → HasServed at order before now
-  -- a file isn't of its form, or the node isn't an authority alone; nobody was served
+  -- a file isn't of its form, or the node isn't an authority alone
   pub input : result ≡ ends.Input → (node : Node) → IsNodeOf before.files order.config node → IsAuthorityAlone node → before.files ≡ None
   pub unserved : result ≡ ends.Input → now.service ≡ before.service
+  -- a file couldn't be read
   pub store : Tells result ends.StoreFailed before.store_faults now.store_faults
+  pub unread : result ≡ ends.StoreFailed → now.service ≡ before.service
+  -- the network failed to listen, or to accept the next connection
   pub network : Tells result ends.NetworkFailed before.network_faults now.network_faults
+  pub failed : result ≡ ends.NetworkFailed → HasFailed at order before now
+  -- memory was wanting before the port was taken, or to settle a connection
+  pub memory : result ≡ ends.Memory → (now.service ≡ before.service) ⊎ HasDropped at order before now
   pub files : now.files ≡ before.files

@@ -1,9 +1,9 @@
 // Connections, one after the other.
 
-ghost use Rattle.std.specs.Prelude.{◌≡◌, OnOk};
+ghost use Rattle.std.specs.Prelude.{◌≡◌, true, is_some};
 ghost use Rattle.fed_serve.specs.Moments.{clock_at, peer_at};
-ghost use Rattle.node_service.specs.Connections.{Serves, service_at};
-ghost use Rattle.node_service.specs.Ends.{NetworkCause};
+ghost use Rattle.node_service.specs.Connections.{service_at};
+ghost use Rattle.node_service.specs.Ends.{NetworkCause, NextOf, StopsAfter};
 
 use fed_ports::{Clock, Failed, Ledger, Memory, Network, Plain, Steps};
 use fed_serve::{Node, serve_one};
@@ -47,13 +47,13 @@ fn serve_next<R, N: Network, C: Clock, G: Ledger>(
     clock: &mut C,
     steps: &mut Steps<G>,
 ) -> Result<(), Stop>
-    requires { N.listens net.old }
-    ensures served { OnOk result (Serves
+    requires { is_some (N.port net.old) ≡ true }
+    ensures next { NextOf
         (λ peer. peer_at (N.Peer.left peer) (N.Peer.held peer) (N.Peer.read_faults peer) (N.Peer.write_faults peer))
-        node.now.registry 1
-        (service_at (N.callers net.old) (N.settled net.old) (clock_at (C.readings clock.old) (C.last clock.old) (C.told clock.old)))
-        (service_at (N.callers net.new) (N.settled net.new) (clock_at (C.readings clock.new) (C.last clock.new) (C.told clock.new)))) }
-    ensures listens { N.listens net.new }
+        node.now.registry
+        (service_at (N.port net.old) (N.callers net.old) (N.settled net.old) (clock_at (C.readings clock.old) (C.last clock.old) (C.told clock.old)))
+        (service_at (N.port net.new) (N.callers net.new) (N.settled net.new) (clock_at (C.readings clock.new) (C.last clock.new) (C.told clock.new))) result }
+    ensures port { N.port net.new ≡ N.port net.old }
     ensures exchanges { N.exchanges net.new ≡ N.exchanges net.old }
     ensures cause { NetworkCause (N.faults net.old) (N.faults net.new) result }
 {
@@ -72,12 +72,12 @@ pub(crate) fn serve_connections<R, N: Network, C: Clock>(
     clock: &mut C,
     connections: u64,
 ) -> Result<(), Stop>
-    requires { N.listens net.old }
-    ensures served { OnOk result (Serves
+    requires { is_some (N.port net.old) ≡ true }
+    ensures served { StopsAfter
         (λ peer. peer_at (N.Peer.left peer) (N.Peer.held peer) (N.Peer.read_faults peer) (N.Peer.write_faults peer))
         node.now.registry connections
-        (service_at (N.callers net.old) (N.settled net.old) (clock_at (C.readings clock.old) (C.last clock.old) (C.told clock.old)))
-        (service_at (N.callers net.new) (N.settled net.new) (clock_at (C.readings clock.new) (C.last clock.new) (C.told clock.new)))) }
+        (service_at (N.port net.old) (N.callers net.old) (N.settled net.old) (clock_at (C.readings clock.old) (C.last clock.old) (C.told clock.old)))
+        (service_at (N.port net.new) (N.callers net.new) (N.settled net.new) (clock_at (C.readings clock.new) (C.last clock.new) (C.told clock.new))) result }
     ensures exchanges { N.exchanges net.new ≡ N.exchanges net.old }
     ensures cause { NetworkCause (N.faults net.old) (N.faults net.new) result }
 {

@@ -58,16 +58,16 @@ pub fn serve_authority<R, D: Store, N: Network, C: Clock>(
 ) -> ServiceEnd
     ensures ends { Ends
         (λ peer. peer_at (N.Peer.left peer) (N.Peer.held peer) (N.Peer.read_faults peer) (N.Peer.write_faults peer))
-        (record { config = config.now; connections = connections })
+        (record { config = config.now; post = record { port = port; connections = connections } })
         (record {
           files = D.files store.old;
-          service = service_at (N.callers net.old) (N.settled net.old) (clock_at (C.readings clock.old) (C.last clock.old) (C.told clock.old));
+          service = service_at (N.port net.old) (N.callers net.old) (N.settled net.old) (clock_at (C.readings clock.old) (C.last clock.old) (C.told clock.old));
           store_faults = D.store_faults store.old;
           network_faults = N.faults net.old;
         })
         (record {
           files = D.files store.new;
-          service = service_at (N.callers net.new) (N.settled net.new) (clock_at (C.readings clock.new) (C.last clock.new) (C.told clock.new));
+          service = service_at (N.port net.new) (N.callers net.new) (N.settled net.new) (clock_at (C.readings clock.new) (C.last clock.new) (C.told clock.new));
           store_faults = D.store_faults store.new;
           network_faults = N.faults net.new;
         }) result }
@@ -101,13 +101,13 @@ fn serve_node<R, N: Network, C: Clock>(
 ) -> ServiceEnd
     ensures ends { EndsOf
         (λ peer. peer_at (N.Peer.left peer) (N.Peer.held peer) (N.Peer.read_faults peer) (N.Peer.write_faults peer))
-        node.now.registry connections
+        node.now.registry (record { port = port; connections = connections })
         (record {
-          service = service_at (N.callers net.old) (N.settled net.old) (clock_at (C.readings clock.old) (C.last clock.old) (C.told clock.old));
+          service = service_at (N.port net.old) (N.callers net.old) (N.settled net.old) (clock_at (C.readings clock.old) (C.last clock.old) (C.told clock.old));
           faults = N.faults net.old;
         })
         (record {
-          service = service_at (N.callers net.new) (N.settled net.new) (clock_at (C.readings clock.new) (C.last clock.new) (C.told clock.new));
+          service = service_at (N.port net.new) (N.callers net.new) (N.settled net.new) (clock_at (C.readings clock.new) (C.last clock.new) (C.told clock.new));
           faults = N.faults net.new;
         }) result }
     ensures exchanges { N.exchanges net.new ≡ N.exchanges net.old }
