@@ -1,6 +1,7 @@
 pub mod CheckLaws
 pub mod FindingLaws
 pub mod KeygenLaws
+pub mod NotedLaws
 pub mod ReadLaws
 pub mod ReplyLaws
 pub mod RingLaws

@@ -4,6 +4,7 @@ pub mod Configurations
 pub mod Findings
 pub mod Issues
 pub mod Keygens
+pub mod Noted
 pub mod Operations
 pub mod Replies
 pub mod Rotations

@@ -22,5 +22,5 @@ mod top;
 mod verify;
 mod verify_finding;
 
-pub use output::write_all;
+pub use output::{hand_notes, write_all};
 pub use top::{run, run_with_notes};

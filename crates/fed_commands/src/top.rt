@@ -3,11 +3,12 @@
 ghost use Rattle.std.specs.Prelude.{◌≡◌, ◌≤◌, None, false};
 ghost use Rattle.fed_commands.specs.Answers.{Answers, Tells, UsesClock, IsEnded, IsMomentFor, named, reads_clock, stop_status, wants_input};
 ghost use Rattle.fed_words.specs.Commands.{command_of};
+ghost use Rattle.fed_commands.specs.Noted.{HandsNotes};
 ghost use Rattle.fed_commands.specs.Runs.{IsRun};
 ghost use Rattle.fed_commands.specs.Sealings.{IssuesSealed};
 
 use crate::answer::{Stop, keep, reply_to};
-use crate::output::write_all;
+use crate::output::{hand_notes, write_all};
 use crate::reply::Reply;
 use fed_ports::{Clock, Seq, Sink, Source, Store, Text};
 use fed_words::{Command, explain_command, read_command};
@@ -68,7 +69,7 @@ pub fn run_with_notes<R, S: Source, K: Sink, D: Store, C: Clock + Drop, N: Sink>
     clock: &mut C,
     said: &mut N,
 ) -> u8
-    ensures { IsRun (command_of words.now)
+    ensures run { IsRun (command_of words.now)
         (record {
           input = input.old;
           store = store.old;
@@ -93,12 +94,13 @@ pub fn run_with_notes<R, S: Source, K: Sink, D: Store, C: Clock + Drop, N: Sink>
           store_faults = D.store_faults store.new;
           readings = record { count = C.readings clock.new; last = C.last clock.new; told = C.told clock.new };
         }) result }
+    // What is handed to `said` are notes, or a beginning of them.
+    ensures said { HandsNotes (N.held said.old) (N.held said.new) }
 {
     let mut notes = Notes::new(alloc, moment_of_notes(alloc, clock));
     let status = answer(alloc, words, input, out, store, clock, &mut notes);
-    match write_all(said, notes.text()) {
-        Ok(()) | Err(_) => status,
-    }
+    hand_notes(said, &notes);
+    status
 }
 
 // The moment of another clock.

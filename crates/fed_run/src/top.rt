@@ -1,6 +1,7 @@
 // The top calls.
 
 ghost use Rattle.std.specs.Prelude.{◌≡◌, IfSome, None};
+ghost use Rattle.fed_commands.specs.Noted.{HandsNotes};
 ghost use Rattle.fed_commands.specs.Runs.{IsRun};
 ghost use Rattle.fed_words.specs.Commands.{command_of};
 ghost use Rattle.fed_words.specs.Services.{service_of};
@@ -10,7 +11,7 @@ ghost use Rattle.node_service.specs.Connections.{service_at};
 ghost use Rattle.node_service.specs.Ends.{at_moment};
 
 use crate::authority::serve;
-use fed_commands::write_all;
+use fed_commands::hand_notes;
 use fed_ports::{Clock, Network, Seq, Sink, Source, Store, Text};
 use fed_words::{Service, read_service};
 use plain_notes::Notes;
@@ -133,15 +134,16 @@ pub fn run_with_notes<R, S: Source, K: Sink, D: Store, N: Network, C: Clock + Dr
         (D.store_faults store.new) (N.faults net.new)))
         result) }
     ensures exchanges { N.exchanges net.new ≡ N.exchanges net.old }
+    // What is handed to `said` are notes, or a beginning of them.
+    ensures said { HandsNotes (W.held said.old) (W.held said.new) }
 {
     match read_service(alloc, words.as_slice()) {
         Ok(None) => fed_commands::run_with_notes(rt, alloc, words, input, out, store, clock, said),
         Ok(Some(service)) => {
             let mut notes = Notes::new(alloc, None);
             let status = serve_as(rt, alloc, &service, out, store, net, clock, &mut notes);
-            match write_all(said, notes.text()) {
-                Ok(()) | Err(_) => status,
-            }
+            hand_notes(said, &notes);
+            status
         }
         Err(_) => 5,
     }
