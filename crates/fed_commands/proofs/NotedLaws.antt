@@ -12,7 +12,7 @@ appends-none (Some held) = ap Some (sym (append-nil held))
 
 -- none were
 pub hands-none : (old : Option (List ℕ)) → HandsNotes old old
-hands-none old = record { text = []; plain = tt; count = 0; written = appends-none old }
+hands-none old = record { text = []; plain = refl; count = 0; written = appends-none old }
 
 -- they were written, or a beginning of them
 pub hands-written : {E : Type 0} → (old new : Option (List ℕ)) (before now : ℕ) (text : List ℕ) (result : Result Unit E) → IsNotes text → IsWritten old new before now text result

@@ -1,10 +1,13 @@
 -- Where a node's files aren't of their form, the line says so.
-use Rattle.std.proofs.Common.{◌≡◌, ◌⊎◌, ◌<◌, ℕ, sym, ◌∙◌, inl, inr, arith, lit<}
+use Rattle.std.proofs.Common.{◌≡◌, ◌⊎◌, ◌<◌, ℕ, subst, sym, ◌∙◌, inl, inr, arith, lit<}
 use Rattle.fed_serve.specs.Moments.{PeerAt}
 use Rattle.node_service.specs.declared.service.ServiceEnd.{ServiceEnd}
 use Rattle.node_service.specs.declared.service.ServiceEnd.TheVariants as ends
 use Rattle.node_service.specs.Ends.{At, Ends, Order}
-use Rattle.fed_run.specs.Authorities.{HasNoNode, Outside, RunsAuthority, WritesLine, input_line}
+use Rattle.std.specs.Prelude.{List}
+use Rattle.fed_words.specs.declared.service.Service.{Service}
+use Rattle.fed_words.specs.declared.service.Service.TheVariants.{Authority}
+use Rattle.fed_run.specs.Authorities.{HasNoNode, Outside, RunsAuthority, RunsService, WritesLine, input_line}
 
 no_node : {P : Type 0} (at : P → PeerAt) (order : Order) (before now : At P) (end : ServiceEnd) → end ≡ ends.Input → Ends at order before now end
     → HasNoNode order before now
@@ -47,3 +50,8 @@ runs_input at order before now end status is e (inr (four, (n, written), rose)) 
   files = e.files;
   range = inr (inr (inl four));
 }
+
+-- a service is run as an authority's is, where it is one
+pub runs_service : {P : Type 0} (at : P → PeerAt) (service : Service) (before now : Outside P) (status : ℕ) (config : List ℕ) (port connections : ℕ) → service ≡ Authority config port connections
+    → RunsAuthority at (record { config = config; post = record { port = port; connections = connections } }) before now status → RunsService at service before now status
+runs_service at service before now status config port connections is runs = subst (λ s. RunsService at s before now status) (sym is) runs

@@ -87,5 +87,5 @@ ends_with at order files files' service service' a b m n node ends.Memory same s
   memory = λ _. inr (record { node = node; is = is; after = of.0 });
   files = same;
 }
-ends_with at order files files' service service' a b m n node ends.Input same steady is ()
-ends_with at order files files' service service' a b m n node ends.StoreFailed same steady is ()
+ends_with at order files files' service service' a b m n node ends.Input same steady is of = elim of [ ]
+ends_with at order files files' service service' a b m n node ends.StoreFailed same steady is of = elim of [ ]
