@@ -1,6 +1,6 @@
 -- What has become of a trust mark.
 use Rattle.std.proofs.Common.{◌≡◌, ℕ, List, Bool, true, false, cond, Option, Some, None, Result, Ok, Err, refl, sym, ap, ◌∙◌, subst, arith}
-use Rattle.std.specs.Prelude.{IfOk, MatchResult, is_some}
+use Rattle.std.specs.Prelude.{IfOk, IfSome, MatchResult, is_some}
 use Rattle.fed_base.specs.declared.faults.Memory.{Memory}
 use Rattle.fed_json.specs.declared.tree.Json.{Json}
 use Rattle.fed_json.specs.Forms.{IsWhole}
@@ -23,8 +23,6 @@ use Rattle.trust_mark.specs.Counts.{CountsAtMost, counted, tests_under}
 use Rattle.trust_mark.specs.Marks.{mark_of}
 use Rattle.trust_mark.specs.declared.mark.Mark.{Mark}
 use Rattle.authority_core.specs.Nodes.{Node}
-use Rattle.authority_core.specs.declared.status.ReadMark.{ReadMark}
-use Rattle.authority_core.specs.Stages.{IsMarkRead}
 use Rattle.authority_core.specs.Statuses.{if_issued_by, mark_by, own_mark, status_tests}
 
 -- ---- the mark that a text reads as
@@ -37,6 +35,16 @@ mark-read id text compact o parts is =
 pub mark-none : (id : Identifier) (text : List ℕ) → None ≡ result_ok (splitting text) → mark_by id text ≡ None
 unfolding mark_by mark_of
 mark-none id text parts = ap (λ r. option_and_then (λ (c : Compact). result_ok (mark_claims c)) r >>= if_issued_by id) (sym parts)
+
+-- the parts of a text
+pub parts-some : (text : List ℕ) (o : Option Compact) (compact : Compact) → o ≡ Some compact → o ≡ result_ok (splitting text) → IfSome o (IsCompact text)
+    → (Some compact ≡ result_ok (splitting compact.whole)) × IsCompact compact.whole compact × (compact.whole ≡ text)
+parts-some text o compact is exact found =
+    let form : IsCompact text compact = subst (λ p. IfSome p (IsCompact text)) is found in (
+      subst (λ x. Some compact ≡ result_ok (splitting x)) (sym form.whole_is) (sym is ∙ exact),
+      subst (λ x. IsCompact x compact) (sym form.whole_is) form,
+      form.whole_is,
+    )
 
 -- ---- the node's own mark
 
@@ -67,15 +75,6 @@ unfolding status_tests
 tests-some node text whole kept mark before now reads same keys count =
     count ∙ (λ i. counted (tests_under (keys i) (same i)) before)
     ∙ sym (ap (λ o. counted (option_map_or (λ (m : Mark). tests_under (kept_set node.ring) text) o 0) before) reads)
-
--- ---- what was read
-
-pub read-some : (id : Identifier) (text : List ℕ) (o : Option ReadMark) (read : ReadMark) → o ≡ Some read → IsMarkRead id text o
-    → (mark_by id text ≡ Some read.mark) × (read.compact.whole ≡ text) × IsCompact read.compact.whole read.compact
-read-some id text o read is reads = subst (IsMarkRead id text) is reads
-
-pub read-none : (id : Identifier) (text : List ℕ) (o : Option ReadMark) → o ≡ None → IsMarkRead id text o → mark_by id text ≡ None
-read-none id text o is reads = subst (IsMarkRead id text) is reads
 
 -- ---- counts of calls that want memory later
 

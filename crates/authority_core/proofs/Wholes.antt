@@ -1,9 +1,9 @@
 -- The claims that a node states have a text.
-use Rattle.std.proofs.Common.{◌≡◌, ◌<◌, ◌^◌, ℕ, pos, List, [], ◌∷◌, ◌++◌, codes, map, true, not, ◌&&◌, Bool, Option, Some, None, refl, ap, ◌∙◌, append_assoc, rules, arith}
+use Rattle.std.proofs.Common.{◌≡◌, ◌<◌, ◌^◌, ℕ, pos, List, [], ◌∷◌, ◌++◌, codes, map, true, not, ◌&&◌, Bool, Option, Some, None, Result, Ok, Err, refl, ap, ◌∙◌, append_assoc, rules, arith}
 use Rattle.std.proofs.lemmas.Bool.{lt-ltb}
 use Rattle.std.proofs.lemmas.Str.{is_utf8-from_IsUtf8}
 use Rattle.std.specs.List.{list_all}
-use Rattle.std.specs.Prelude.{IfSome}
+use Rattle.std.specs.Prelude.{IfSome, OnOk}
 use Rattle.std.specs.Str.{IsUtf8, is_utf8}
 use Rattle.fed_base.specs.Values.{if_there}
 use Rattle.fed_json.specs.declared.tree.Json.{Json, Int, Object, Text, the_lemmas}
@@ -21,8 +21,9 @@ use Rattle.key_ring.specs.Sets.{live_set}
 use Rattle.node_config.specs.Nodes.{Settings, Subordinate}
 use Rattle.node_config.specs.Stated.{AreAbout, AreOwn}
 use Rattle.authority_core.specs.Endpoints.{own_metadata}
-use Rattle.authority_core.specs.Issued.{claim, configuration_claims, end_of, historical_tree, issue_members, statement_claims}
+use Rattle.authority_core.specs.Issued.{claim, configuration_claims, configuration_members, end_of, historical_tree, issue_members, statement_claims, statement_members}
 use Rattle.authority_core.specs.Nodes.{Node}
+use Rattle.authority_core.specs.Stages.{historical_members, making_members}
 
 -- a member has a text
 abbrev good : Member → Bool
@@ -157,20 +158,54 @@ refusal_whole ms is =
 onto : (m n x rest : List Member) → n ≡ m ++ x → n ++ rest ≡ m ++ (x ++ rest)
 onto m n x rest added = ap (λ l. l ++ rest) added ∙ append_assoc m x rest
 
-pub configuration-joined : (node : Node) (t : ℕ) (set : List Jwk) (metadata : Json) (sub : Member) (m0 m1 m2 m3 m4 m5 m6 m7 : List Member)
-    → set ≡ live_set node.ring → metadata ≡ own_metadata node.settings → sub ≡ text_member (codes "sub") node.settings.id → m0 ≡ []
-    → m1 ≡ m0 ++ claim (codes "authority_hints") node.settings.claims.hints → m2 ≡ m1 ++ issue_members node.settings set t
-    → m3 ≡ m2 ++ member_of (codes "metadata") metadata ∷ [] → m4 ≡ m3 ++ sub ∷ []
-    → m5 ≡ m4 ++ claim (codes "trust_mark_issuers") node.settings.claims.issuers → m6 ≡ m5 ++ claim (codes "trust_mark_owners") node.settings.claims.owners
-    → m7 ≡ m6 ++ claim (codes "trust_marks") node.settings.claims.marks → Object m7 ≡ configuration_claims node t
+pub configuration-joined : (settings : Settings) (t : ℕ) (set : List Jwk) (metadata : Json) (sub : Member) (m0 m1 m2 m3 m4 m5 m6 m7 m8 : List Member)
+    → metadata ≡ own_metadata settings → sub ≡ text_member (codes "sub") settings.id → m1 ≡ m0 ++ claim (codes "authority_hints") settings.claims.hints
+    → m2 ≡ m1 ++ making_members settings t → m3 ≡ m2 ++ member_of (codes "jwks") (set_tree set) ∷ [] → m4 ≡ m3 ++ member_of (codes "metadata") metadata ∷ [] → m5 ≡ m4 ++ sub ∷ []
+    → m6 ≡ m5 ++ claim (codes "trust_mark_issuers") settings.claims.issuers → m7 ≡ m6 ++ claim (codes "trust_mark_owners") settings.claims.owners
+    → m8 ≡ m7 ++ claim (codes "trust_marks") settings.claims.marks → m8 ≡ m0 ++ configuration_members settings set t
+configuration-joined settings t set metadata sub m0 m1 m2 m3 m4 m5 m6 m7 m8 own named first second third fourth fifth sixth seventh eighth =
+    let claims = settings.claims in
+    let g = claim (codes "trust_mark_owners") claims.owners ++ claim (codes "trust_marks") claims.marks in
+    let f = claim (codes "trust_mark_issuers") claims.issuers ++ g in
+    let e = (sub ∷ []) ++ f in
+    let d = (member_of (codes "metadata") metadata ∷ []) ++ e in
+    let c = (member_of (codes "jwks") (set_tree set) ∷ []) ++ d in
+    let b = making_members settings t ++ c in
+    eighth ∙ onto m6 m7 _ (claim (codes "trust_marks") claims.marks) seventh ∙ onto m5 m6 _ g sixth ∙ onto m4 m5 _ f fifth ∙ onto m3 m4 _ e fourth ∙ onto m2 m3 _ d third
+    ∙ onto m1 m2 _ c second ∙ onto m0 m1 _ b first
+    ∙ (λ i. m0 ++ (claim (codes "authority_hints") claims.hints ++ (issue_members settings set t ++ (member_of (codes "metadata") (own i) ∷ (named i ∷ f)))))
+
+pub configuration-tree : (node : Node) (t : ℕ) (set : List Jwk) (m0 m : List Member) → m0 ≡ [] → set ≡ live_set node.ring → m ≡ m0 ++ configuration_members node.settings set t
+    → Object m ≡ configuration_claims node t
 unfolding configuration_claims
-configuration-joined node t set metadata sub m0 m1 m2 m3 m4 m5 m6 m7 keys own named none first second third fourth fifth sixth seventh =
-    let claims = node.settings.claims in
-    let f = claim (codes "trust_mark_owners") claims.owners ++ claim (codes "trust_marks") claims.marks in
-    let e = claim (codes "trust_mark_issuers") claims.issuers ++ f in
-    let d = (sub ∷ []) ++ e in
-    let c = (member_of (codes "metadata") metadata ∷ []) ++ d in
-    let b = issue_members node.settings set t ++ c in
-    ap Object (seventh ∙ onto m5 m6 _ (claim (codes "trust_marks") claims.marks) sixth ∙ onto m4 m5 _ f fifth ∙ onto m3 m4 _ e fourth ∙ onto m2 m3 _ d third ∙ onto m1 m2 _ c second ∙ onto m0 m1 _ b first
-    ∙ ap (λ l. l ++ (claim (codes "authority_hints") claims.hints ++ b)) none)
-    ∙ (λ i. Object (claim (codes "authority_hints") claims.hints ++ (issue_members node.settings (keys i) t ++ (member_of (codes "metadata") (own i) ∷ (named i ∷ e)))))
+configuration-tree node t set m0 m none keys is =
+    ap Object (is ∙ ap (λ l. l ++ configuration_members node.settings set t) none) ∙ ap (λ s. Object (configuration_members node.settings s t)) keys
+
+-- ---- the members of the statement about a subordinate
+
+pub statement-joined : (settings : Settings) (s : Subordinate) (t : ℕ) (sub : Member) (m0 m1 m2 m3 m4 m5 m6 m7 : List Member)
+    → sub ≡ text_member (codes "sub") s.entity.id → m1 ≡ m0 ++ claim (codes "constraints") s.claims.constraints → m2 ≡ m1 ++ making_members settings t
+    → m3 ≡ m2 ++ member_of (codes "jwks") (set_tree s.entity.keys) ∷ [] → m4 ≡ m3 ++ claim (codes "metadata") s.claims.metadata
+    → m5 ≡ m4 ++ claim (codes "metadata_policy") s.claims.policy → m6 ≡ m5 ++ claim (codes "metadata_policy_crit") s.claims.policy_crit → m7 ≡ m6 ++ sub ∷ []
+    → m7 ≡ m0 ++ statement_members settings s t
+statement-joined settings s t sub m0 m1 m2 m3 m4 m5 m6 m7 named first second third fourth fifth sixth seventh =
+    let f = claim (codes "metadata_policy_crit") s.claims.policy_crit ++ sub ∷ [] in
+    let e = claim (codes "metadata_policy") s.claims.policy ++ f in
+    let d = claim (codes "metadata") s.claims.metadata ++ e in
+    let c = (member_of (codes "jwks") (set_tree s.entity.keys) ∷ []) ++ d in
+    let b = making_members settings t ++ c in
+    seventh ∙ onto m5 m6 _ (sub ∷ []) sixth ∙ onto m4 m5 _ f fifth ∙ onto m3 m4 _ e fourth ∙ onto m2 m3 _ d third ∙ onto m1 m2 _ c second ∙ onto m0 m1 _ b first
+    ∙ (λ i. m0 ++ (claim (codes "constraints") s.claims.constraints ++ (issue_members settings s.entity.keys t
+    ++ (claim (codes "metadata") s.claims.metadata ++ (claim (codes "metadata_policy") s.claims.policy ++ (claim (codes "metadata_policy_crit") s.claims.policy_crit ++ named i ∷ []))))))
+
+pub statement-tree : (settings : Settings) (s : Subordinate) (t : ℕ) (m0 m : List Member) → m0 ≡ [] → m ≡ m0 ++ statement_members settings s t → Object m ≡ statement_claims settings s t
+unfolding statement_claims
+statement-tree settings s t m0 m none is = ap Object (is ∙ ap (λ l. l ++ statement_members settings s t) none)
+
+pub historical-tree : (id : List ℕ) (keys : Json) (t : ℕ) (m0 m : List Member) → m0 ≡ [] → m ≡ m0 ++ historical_members id keys t → Object m ≡ historical_tree id keys t
+historical-tree id keys t m0 m none is = ap Object (is ∙ ap (λ l. l ++ historical_members id keys t) none)
+
+-- what holds in any case
+pub always : {X E : Type 0} (r : Result X E) (P : Type 0) → P → OnOk r P
+always (Ok x) P p = p
+always (Err e) P p = tt

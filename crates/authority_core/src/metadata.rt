@@ -1,6 +1,7 @@
 // The metadata of a node's configuration, with its endpoints.
 
 ghost use Rattle.std.specs.Prelude.{◌≡◌, ◌++◌, [], IfOk, OnOk, IsTrue, map, is_some, true};
+ghost use Rattle.entity_id.specs.Identifiers.{IsIdentifier};
 ghost use Rattle.fed_json.specs.Forms.{rising};
 ghost use Rattle.fed_json.specs.Metadata.{IsMetadata};
 ghost use Rattle.fed_json.specs.Trees.{member_name, object_members as members_of};
@@ -87,16 +88,24 @@ fn members_over(alloc: Global, upper: &[Member], own: &[Member]) -> Result<Seq<M
 }
 
 // The endpoints that the node has.
-#[tactic(auto, unfolding(crate::specs::Endpoints::endpoints_of))]
 fn endpoints(alloc: Global, node: &NodeConfig) -> Result<Seq<Member>, Memory>
     ensures members { IfOk result (λ endpoints. endpoints ≡ endpoints_of (told node.now)) }
     ensures formed { IfOk result (λ endpoints. formed is_value endpoints ≡ true) }
 {
+    let mut all = Seq::new(alloc);
+    push_endpoints(alloc, &mut all, node)?;
+    Ok(all)
+}
+
+// Adds the endpoints that the node has.
+fn push_endpoints(alloc: Global, all: &mut Seq<Member>, node: &NodeConfig) -> Result<(), Memory>
+    ensures members { OnOk result (all.old ≡ [] → all.new ≡ endpoints_of (told node.now)) }
+    ensures identifier { OnOk result (IsIdentifier node.now.id) }
+{
     let id = node.id.text();
     let above = has_any(node);
-    let mut all = Seq::new(alloc);
     push_where(
-        &mut all,
+        all,
         above,
         endpoint(alloc, id, b"federation_fetch_endpoint", b"/fetch")?,
     )?;
@@ -107,12 +116,12 @@ fn endpoints(alloc: Global, node: &NodeConfig) -> Result<Seq<Member>, Memory>
         b"/historical-keys",
     )?)?;
     push_where(
-        &mut all,
+        all,
         above,
         endpoint(alloc, id, b"federation_list_endpoint", b"/list")?,
     )?;
     push_where(
-        &mut all,
+        all,
         resolves(node),
         endpoint(alloc, id, b"federation_resolve_endpoint", b"/resolve")?,
     )?;
@@ -122,7 +131,7 @@ fn endpoints(alloc: Global, node: &NodeConfig) -> Result<Seq<Member>, Memory>
         b"federation_trust_mark_status_endpoint",
         b"/trust-mark-status",
     )?)?;
-    Ok(all)
+    Ok(())
 }
 
 // Whether the node has subordinates.

@@ -76,9 +76,21 @@ impl Registry {
         requires { IsWellFormed config.now }
         ensures { Gives result (node_in config.now ring) }
     {
-        let config = NodeConfig::read(alloc, config)?;
-        check_sizes(alloc, &config, &ring)?;
-        Ok(Registry { config, ring })
+        let config = match NodeConfig::read(alloc, config) {
+            Ok(config) => config,
+            Err(fault) => {
+                drop(ring);
+                return Err(fault);
+            }
+        };
+        match check_sizes(alloc, &config, &ring) {
+            Ok(()) => Ok(Registry { config, ring }),
+            Err(fault) => {
+                drop(config);
+                drop(ring);
+                Err(fault)
+            }
+        }
     }
 
     /// What the node is called.

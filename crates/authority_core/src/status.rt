@@ -1,18 +1,18 @@
 // What has become of a trust mark.
 
-ghost use Rattle.std.specs.Prelude.{◌≡◌, ◌↔◌, IfOk, IfSome, IsTrue, MatchResult};
+ghost use Rattle.std.specs.Prelude.{◌≡◌, ◌↔◌, Some, IfOk, IfSome, IsTrue, MatchResult};
 ghost use Rattle.std.specs.Option.{option_and_then};
 ghost use Rattle.std.specs.Result.{result_ok};
 ghost use Rattle.jws_form.specs.Compact.{IsCompact};
 ghost use Rattle.jws_form.specs.Splitting.{splitting};
+ghost use Rattle.key_ring.specs.Sets.{kept_set};
 ghost use Rattle.sealed.specs.Deciding.{is_sealed_by};
 ghost use Rattle.sealed.specs.Seals.{IsSealedBy};
 ghost use Rattle.trust_mark.specs.Claims.{mark_claims};
 ghost use Rattle.trust_mark.specs.Counts.{counted, tests_under};
 ghost use Rattle.trust_mark.specs.Stages.{Tells};
 ghost use Rattle.authority_core.specs.Nodes.{node_of};
-ghost use Rattle.authority_core.specs.Stages.{IsMarkRead};
-ghost use Rattle.authority_core.specs.Statuses.{has_ended, if_issued_by, mark_by, own_mark, standing, status_of, status_tests};
+ghost use Rattle.authority_core.specs.Statuses.{has_ended, if_issued_by, own_mark, standing, status_of, status_tests};
 
 use crate::query::is_among;
 use entity_id::EntityId;
@@ -82,35 +82,52 @@ fn own_mark<L: Ledger>(
         (λ _. L.count steps.new.ledger ≡ counted (status_tests (node_of node.now ring.now) text.now) (L.count steps.old.ledger))
         (λ _. L.count steps.new.ledger ≡ L.count steps.old.ledger) }
 {
-    let Some(read) = mark_by(alloc, &node.id, text)? else {
-        return Ok(None);
-    };
-    let kept = ring.kept_set(alloc)?;
-    if !is_sealed(alloc, &read.compact, &kept, steps)? {
-        return Ok(None);
-    }
-    Ok(Some(read.mark))
-}
-
-// A mark and the parts of the text that it was read from.
-#[derive(Drop)]
-struct ReadMark {
-    compact: Compact,
-    mark: Mark,
-}
-
-// The mark that the text reads as, where it names that issuer.
-#[tactic(auto, unfolding(crate::specs::Statuses::mark_by, trust_mark::specs::Marks::mark_of))]
-fn mark_by(alloc: Global, id: &EntityId, text: &Text) -> Result<Option<ReadMark>, Memory>
-    ensures { IfOk result (IsMarkRead id.now text.now) }
-{
-    let Some(compact) = parts(alloc, text)? else {
-        return Ok(None);
-    };
-    match mark_in(alloc, id, &compact)? {
-        Some(mark) => Ok(Some(ReadMark { compact, mark })),
+    match parts(alloc, text)? {
+        Some(compact) => own_mark_in(alloc, node, ring, &compact, steps),
         None => Ok(None),
     }
+}
+
+// The mark of the node's own that the parts of a text are.
+fn own_mark_in<L: Ledger>(
+    alloc: Global,
+    node: &NodeConfig,
+    ring: &KeyRing,
+    compact: &Compact,
+    steps: &mut Steps<L>,
+) -> Result<Option<Mark>, Memory>
+    requires parts { Some compact.now ≡ result_ok (splitting compact.now.whole) }
+    requires is { IsCompact compact.now.whole compact.now }
+    ensures mark { IfOk result (λ mark. mark ≡ own_mark (node_of node.now ring.now) compact.now.whole) }
+    ensures counted { MatchResult result
+        (λ _. L.count steps.new.ledger ≡ counted (status_tests (node_of node.now ring.now) compact.now.whole) (L.count steps.old.ledger))
+        (λ _. L.count steps.new.ledger ≡ L.count steps.old.ledger) }
+{
+    let Some(mark) = mark_in(alloc, &node.id, compact)? else {
+        return Ok(None);
+    };
+    if is_kept(alloc, ring, compact, steps)? {
+        Ok(Some(mark))
+    } else {
+        Ok(None)
+    }
+}
+
+// Whether a key that the ring keeps seals the text.
+fn is_kept<L: Ledger>(
+    alloc: Global,
+    ring: &KeyRing,
+    compact: &Compact,
+    steps: &mut Steps<L>,
+) -> Result<bool, Memory>
+    requires { IsCompact compact.now.whole compact.now }
+    ensures test { IfOk result (λ kept. kept ≡ is_sealed_by compact.now.whole (kept_set ring.now)) }
+    ensures counted { MatchResult result
+        (λ _. L.count steps.new.ledger ≡ counted (tests_under (kept_set ring.now) compact.now.whole) (L.count steps.old.ledger))
+        (λ _. L.count steps.new.ledger ≡ L.count steps.old.ledger) }
+{
+    let kept = ring.kept_set(alloc)?;
+    is_sealed(alloc, compact, &kept, steps)
 }
 
 // The mark that the parts of a text are, where it names that issuer.

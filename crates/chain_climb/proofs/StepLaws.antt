@@ -1,9 +1,9 @@
 -- How the steps of the code move along the search.
-use Rattle.std.proofs.Common.{◌≡◌, ◌≢◌, ◌≤◌, ◌<◌, ◌+◌, ◌-◌, ℕ, zero, suc, List, [], ◌∷◌, ◌++◌, length, take, drop, get_or, flat_map, Bool, true, cond, Option, Some, None, refl, sym, ap, ◌∙◌, subst, inl, inr, arith, bytes_eq, nat_le, length-append, append_assoc}
+use Rattle.std.proofs.Common.{◌≡◌, ◌≢◌, ◌≤◌, ◌<◌, ◌+◌, ◌-◌, ℕ, zero, suc, List, [], ◌∷◌, ◌++◌, length, take, drop, get_or, flat_map, Bool, true, false, cond, Option, Some, None, refl, sym, ap, ◌∙◌, subst, inl, inr, arith, bytes_eq, nat_le, length-append, append_assoc}
 use Rattle.std.specs.Option.{option_map_or}
-use Rattle.std.proofs.lemmas.List.{drop_more, drop_all, take-append-le, drop-append-le, get_or_read, get_or-take, length-take-le}
+use Rattle.std.proofs.lemmas.List.{drop_more, drop_all, take-append-le, get_or_default, get_or_read, get_or-take, length-take-le}
+use Rattle.std.proofs.lemmas.Bool.Decides.{nat_tests}
 use Rattle.std.proofs.Math.Seq.{take-length}
-use Rattle.entity_id.specs.Urls.{well_known_of}
 use Rattle.entity_statement.specs.Claims.{Claims, Identifier}
 use Rattle.entity_statement.specs.declared.statement.Statement.{Statement}
 use Rattle.chain_climb.specs.Elements.{Among}
@@ -20,25 +20,23 @@ use Rattle.chain_climb.specs.declared.place.Stage.TheVariants.{Leaf, Hint, Judge
 use Rattle.chain_climb.specs.declared.place.Place.{Place}
 use Rattle.chain_climb.specs.declared.walk.Look.{Look}
 use Rattle.chain_climb.specs.declared.walk.Look.TheVariants.{Passed as PathPassed, Judge as ToJudge, Hint as AtHint}
-use Rattle.chain_climb.specs.Climbs.{Findings, Need, Step, add, added, alone, climb, climb_from, configuration_of, hints_at, last_of, longer, look_at, need, page_named, through_hint}
+use Rattle.chain_climb.specs.Climbs.{Findings, Step, add, added, alone, climb, climb_from, configuration_of, hints_at, last_of, longer, look_at, need, page_named, through_hint}
 use Rattle.chain_climb.specs.Facings.{face_of}
 use Rattle.chain_climb.specs.Sessions.{Extends, answer_to}
-use Rattle.chain_climb.specs.Walks.{AllKnown, AreHints, Grows, HasPath, HintTried, HintsTried, IsKnown, IsOpen, LeafReaches, LevelLooked, Looked, Reaches, StopsAt, StopsAtHint, Walked, below, from_to, hint_rest, hints_from, hints_on, is_leaf_stop, level_from, level_of, looks, no_path, onward, path_at, path_rest, rest_at, rest_from, route}
+use Rattle.chain_climb.specs.Walks.{AllKnown, AreHints, Grows, HasPath, HasHint, HintTried, HintsTried, IsAdded, IsKnown, IsOpen, LeafReaches, LevelLooked, Looked, Reaches, RestTried, StopsAt, StopsAtHint, Walked, below, from_to, hint_rest, hints_from, hints_on, is_leaf_stop, is_stop, level_from, level_of, looks, no_path, onward, path_at, path_in, path_rest, rest_at, rest_from, route}
 use Rattle.chain_climb.proofs.FacingLaws.{Faces, hint-faces}
 use Rattle.chain_climb.proofs.WalkLaws.{append-nil, walked-add, walked-need, walked-none, walked-onward, walked-same, walked-then, walked-to, walked-within}
 
 -- ---- hints
 
-pub hints-arm : (pages : List PageAnswer) (path : Path) (last : Identifier) (url text : List ℕ) (own : Statement) (origin : Origin) (hints : List Identifier) → 0 < length path.entities
-    → last ≡ last_of path → url ≡ well_known_of last → text ≡ url → answer_to pages (page_named last last text) ≡ Some (Good own origin) → hints ≡ own.hints → AreHints pages path hints
-hints-arm pages path last url text own origin hints some is at same good are = record {
+pub hints-arm : (pages : List PageAnswer) (path : Path) (last : Identifier) (own : Statement) (origin : Origin) (hints : List Identifier) → 0 < length path.entities → last ≡ last_of path
+    → answer_to pages (configuration_of last) ≡ Some (Good own origin) → hints ≡ own.hints → AreHints pages path hints
+hints-arm pages path last own origin hints some is good are = record {
   known = record {
     some = some;
     own = own;
     origin = origin;
-    good = let e : text ≡ well_known_of last = same ∙ at in
-        let f : answer_to pages (configuration_of last) ≡ Some (Good own origin) = subst (λ t. answer_to pages (page_named last last t) ≡ Some (Good own origin)) e good in
-        subst (λ l. answer_to pages (configuration_of l) ≡ Some (Good own origin)) is f;
+    good = subst (λ l. answer_to pages (configuration_of l) ≡ Some (Good own origin)) is good;
   };
   are = are;
 }
@@ -55,7 +53,22 @@ module _ (pages : List PageAnswer) (most : ℕ) (path : Path) (known : IsKnown p
       walked-then pages most [] [] (λ found. through_hint found path hint) (λ found. add (longer path (page_named hint hint url)) ∷ []) (λ found. []) before before after (faces.1 before)
       (walked-add pages most (longer path (page_named hint hint url)) (λ found. []) before after (after_is ∙ ap (λ p. before ++ p ∷ []) new_is) room faces.0)
 
+  pub try_arm-added : (facing : Facing) (url : List ℕ) (before after : List Path) → facing ≡ face_of pages path hint → facing ≡ Adds url → (passed : Bool)
+      → IsAdded most (longer path (page_named hint hint url)) (from_to before after) passed → HintTried pages most path hint (from_to before after) passed
+  try_arm-added facing url before after is adds true added = try_arm-adds facing url (longer path (page_named hint hint url)) before after is adds refl added.1 added.0
+  try_arm-added facing url before after is adds false added = (added.1, ap (λ f. is_stop f (nat_le most (length before))) (sym is ∙ adds) ∙ (let full = added.0 in grind (arith, nat_tests, full)))
+
+-- the hints that an answer states
+abbrev stated : Option Report → List Identifier
+stated (Some (Good own origin)) = own.hints
+stated answer = []
+
 module _ (pages : List PageAnswer) (path : Path) (hints : List Identifier) (are : AreHints pages path hints) where
+  pub has-within : (from : ℕ) → HasHint pages path from → from ≤ length hints
+  has-within from has =
+      let same : has.0 ≡ hints = (has.1).are ∙ sym (ap stated (has.1).known.good) ∙ ap stated are.known.good ∙ sym are.are in
+      subst (λ hs. from ≤ length hs) same has.2
+
   pub hints-same : (found : Findings) → Extends found pages → hints_at found path ≡ hints
   hints-same found extends =
       ap (λ o. option_map_or (λ (own : Claims). own.hints) o []) (extends.agrees (configuration_of (last_of path)) (Good are.known.own are.known.origin) are.known.good tt) ∙ sym are.are
@@ -85,6 +98,13 @@ module _ (pages : List PageAnswer) (path : Path) (hints : List Identifier) (are 
   -- behind the last hint nothing is left
   pub hints-end : (k : ℕ) → length hints ≤ k → (found : Findings) → Extends found pages → hints_from path k found ≡ []
   hints-end k all found extends = ap (λ hs. flat_map (through_hint found path) (drop k hs)) (hints-same found extends) ∙ ap (flat_map (through_hint found path)) (drop_all k hints all)
+
+  module _ (most from : ℕ) (before after : List Path) (at : ℕ) (tried : HintsTried pages most (hints_on path hints) from (from_to before after) at) where
+    pub rest_arm-stop : at < length hints → RestTried pages most path from (from_to before after) (Some at)
+    rest_arm-stop short = (tried.walked, record { hints = hints; are = are; within = short; stops = tried.stops short })
+
+    pub rest_arm-none : length hints ≤ at → RestTried pages most path from (from_to before after) None
+    rest_arm-none all = walked-to pages most [] (hints_from path from) (hints_from path at) (λ found. []) before after (hints-end at all) tried.walked
 
 -- ---- one path
 
@@ -164,9 +184,18 @@ module _ (pages : List PageAnswer) (bounds : Bounds) (anchor : Identifier) (from
   within_now : level_end ≤ length between
   within_now = let e = grows-length first between grows in omega (arith, e, within)
 
-  module _ (at : ℕ) (path : Path) (less : at < level_end) (is : path ≡ get_or between at path) (w : FromPath between at) where
+  module _ (at : ℕ) (less : at < level_end) (w : FromPath between at) where
+    abbrev path : Path
+    path = path_in between at
+
+    pub level_less : at < length between
+    level_less = let e = within_now in omega (arith, e, less)
+
+    is : path ≡ get_or between at path
+    is = get_or_default between at no_path path level_less
+
     pub level_arm-known : AllKnown pages first → IsKnown pages path
-    level_arm-known known = let e = within_now in known-at pages between at path (w.known known) (omega (arith, e, less)) is
+    level_arm-known known = known-at pages between at path (w.known known) level_less is
 
     pub level_arm-more : (look : Look) (after : List Path) → look ≡ PathPassed → Looked pages bounds anchor path (from_to between after) look → Grows between after → FromPath after (at + 1)
     level_arm-more look after passed looked more =
@@ -183,7 +212,7 @@ module _ (pages : List PageAnswer) (bounds : Bounds) (anchor : Identifier) (from
           walked = subst (λ q. FromPath q at) (sym here.0) w;
           stops = (
             (less, let e = within_now in omega (arith, e, longer)),
-            subst (λ p. bytes_eq (last_of p) anchor ≡ true) (read-grown between after at path no_path (let e = within_now in omega (arith, e, less)) is more) here.1,
+            subst (λ p. bytes_eq (last_of p) anchor ≡ true) (read-grown between after at path no_path level_less is more) here.1,
           );
         }
 
@@ -193,7 +222,7 @@ module _ (pages : List PageAnswer) (bounds : Bounds) (anchor : Identifier) (from
         let here : Walked pages bounds.paths [] (λ found. look_at found anchor bounds.depth path) (hints_from path hint) (from_to between after) × StopsAtHint pages bounds.paths after path hint =
         subst (Looked pages bounds anchor path (from_to between after)) stands looked in
         let longer = grows-length between after more in
-        let same : path ≡ get_or after at no_path = read-grown between after at path no_path (let e = within_now in omega (arith, e, less)) is more in
+        let same : path ≡ get_or after at no_path = read-grown between after at path no_path level_less is more in
         record {
           is_open = tt;
           walked = subst (λ p. Walked pages bounds.paths [] (path_rest anchor bounds.depth first from level_end left) (hint_rest anchor bounds.depth after p hint at level_end left) (from_to first after)) same
@@ -274,41 +303,39 @@ module _ (pages : List PageAnswer) (bounds : Bounds) (anchor : Identifier) (step
 
 -- ---- from a hint
 
-module _ (pages : List PageAnswer) (bounds : Bounds) (anchor : Identifier) (place : Place) (before between : List Path) (grows : Grows before between) (at : HasPath before place) (path : Path)
-    (is : path ≡ get_or before place.at path) (hints : List Identifier) (are : AreHints pages path hints) (hint : ℕ) (tried : HintsTried pages bounds.paths (hints_on path hints) place.hint (from_to before between) hint) where
-  abbrev from_here : Path → Findings → List Step
-  from_here p = hint_rest anchor bounds.depth before p place.hint place.at place.level_end place.left
+module _ (pages : List PageAnswer) (bounds : Bounds) (anchor : Identifier) (place : Place) (before between : List Path) (grows : Grows before between) (at : HasPath before place) (stop : Option ℕ)
+    (tried : RestTried pages bounds.paths (path_at before place) place.hint (from_to before between) stop) where
+  abbrev path_here : Path
+  path_here = path_at before place
+
+  abbrev from_here : Findings → List Step
+  from_here = hint_rest anchor bounds.depth before path_here place.hint place.at place.level_end place.left
 
   less : place.at < length before
   less = omega (arith, at.0, at.1)
 
-  same_path : path ≡ path_at before place
-  same_path = get_or_read before place.at path less is no_path
-
-  pub hint_arm-stop : hint < length hints
-      → Reaches anchor bounds pages (from_here (path_at before place)) (from_to before between) (record { stage = Hint; at = place.at; hint = hint; level_end = place.level_end; left = place.left })
-  hint_arm-stop short =
-      let same : path ≡ get_or between place.at no_path = read-grown before between place.at path no_path less is grows in
+  pub hint_arm-stop : (hint : ℕ) → stop ≡ Some hint → Reaches anchor bounds pages from_here (from_to before between) (record { stage = Hint; at = place.at; hint = hint; level_end = place.level_end; left = place.left })
+  hint_arm-stop hint stands =
+      let here : RestTried pages bounds.paths path_here place.hint (from_to before between) (Some hint) = subst (RestTried pages bounds.paths path_here place.hint (from_to before between)) stands tried in
+      let same : path_here ≡ path_in between place.at = read-grown before between place.at path_here no_path less (get_or_default before place.at no_path path_here less) grows in
       let longer = grows-length before between grows in
       record {
         is_open = tt;
-        walked = subst (λ p. Walked pages bounds.paths [] (from_here (path_at before place)) (hint_rest anchor bounds.depth between p hint place.at place.level_end place.left) (from_to before between)) same
-            (subst (λ p. Walked pages bounds.paths [] (from_here p) (hint_rest anchor bounds.depth between path hint place.at place.level_end place.left) (from_to before between)) same_path
-            (level-walk anchor bounds.depth pages bounds.paths (hints_from path place.hint) (hints_from path hint) before between (place.at + 1) place.level_end place.left at.1 grows tried.walked));
+        walked = subst (λ p. Walked pages bounds.paths [] from_here (hint_rest anchor bounds.depth between p hint place.at place.level_end place.left) (from_to before between)) same
+            (level-walk anchor bounds.depth pages bounds.paths (hints_from path_here place.hint) (hints_from path_here hint) before between (place.at + 1) place.level_end place.left at.1 grows here.0);
         stops = (
           (at.0, omega (arith, at.1, longer)),
-          subst (λ p. StopsAtHint pages bounds.paths between p hint) same (record { hints = hints; are = are; within = short; stops = tried.stops short }),
+          subst (λ p. StopsAtHint pages bounds.paths between p hint) same here.1,
         );
       }
 
-  pub hint_arm-end : length hints ≤ hint → (after : List Path) (reached : Place)
+  pub hint_arm-end : stop ≡ None → (after : List Path) (reached : Place)
       → Reaches anchor bounds pages (path_rest anchor bounds.depth between (place.at + 1) place.level_end place.left) (from_to between after) reached
-      → Reaches anchor bounds pages (from_here (path_at before place)) (from_to before after) reached
-  hint_arm-end all after reached reaches =
-      reaches-then pages bounds anchor (from_here (path_at before place)) before between (path_rest anchor bounds.depth between (place.at + 1) place.level_end place.left) after reached
-      (subst (λ p. Walked pages bounds.paths [] (from_here p) (path_rest anchor bounds.depth between (place.at + 1) place.level_end place.left) (from_to before between)) same_path
-      (level-walk anchor bounds.depth pages bounds.paths (hints_from path place.hint) (λ found. []) before between (place.at + 1) place.level_end place.left at.1 grows
-      (walked-to pages bounds.paths [] (hints_from path place.hint) (hints_from path hint) (λ found. []) before between (hints-end pages path hints are hint all) tried.walked)))
+      → Reaches anchor bounds pages from_here (from_to before after) reached
+  hint_arm-end none after reached reaches =
+      reaches-then pages bounds anchor from_here before between (path_rest anchor bounds.depth between (place.at + 1) place.level_end place.left) after reached
+      (level-walk anchor bounds.depth pages bounds.paths (hints_from path_here place.hint) (λ found. []) before between (place.at + 1) place.level_end place.left at.1 grows
+      (subst (RestTried pages bounds.paths path_here place.hint (from_to before between)) none tried))
       reaches
 
 -- ---- from the leaf
@@ -351,16 +378,13 @@ module _ (pages : List PageAnswer) (leaf anchor : Identifier) (bounds : Bounds) 
         stops = open_stops leaf anchor bounds place.stage pages after place all.is_open all.stops;
       }
 
-  module _ (queue : List Path) (none : queue ≡ []) (url text : List ℕ) (same : text ≡ url) (at : url ≡ well_known_of leaf) where
-    at_leaf : (o : Option Report) → answer_to pages (page_named leaf leaf text) ≡ o → answer_to pages (configuration_of leaf) ≡ o
-    at_leaf o is = subst (λ t. answer_to pages (page_named leaf leaf t) ≡ o) (same ∙ at) is
-
-    pub leaf_arm-stays : (o : Option Report) → answer_to pages (page_named leaf leaf text) ≡ o → is_leaf_stop o (nat_le bounds.paths 0) ≡ true
+  module _ (queue : List Path) (none : queue ≡ []) where
+    pub leaf_arm-stays : (o : Option Report) → answer_to pages (configuration_of leaf) ≡ o → is_leaf_stop o (nat_le bounds.paths 0) ≡ true
         → LeafReaches leaf anchor bounds pages queue (record { stage = Leaf; at = 0; hint = 0; level_end = 0; left = 0 })
     leaf_arm-stays o is stop = record {
       not_found = λ e. cc;
       walked = subst (λ q. Walked pages bounds.paths [] whole whole (from_to [] q)) (sym none) (walked-none pages bounds.paths whole []);
-      stops = (none, ap (λ r. is_leaf_stop r (nat_le bounds.paths 0)) (at_leaf o is) ∙ stop);
+      stops = (none, ap (λ r. is_leaf_stop r (nat_le bounds.paths 0)) is ∙ stop);
     }
 
     abbrev leaf_rest : Findings → Option Claims → List Step
@@ -370,18 +394,17 @@ module _ (pages : List PageAnswer) (leaf anchor : Identifier) (bounds : Bounds) 
     unfolding climb
     whole_steps found = refl
 
-    behind_leaf : (answer : Report) → answer_to pages (page_named leaf leaf text) ≡ Some answer → Rattle.chain_climb.specs.Sessions.IsPageAnswer answer
+    behind_leaf : (answer : Report) → answer_to pages (configuration_of leaf) ≡ Some answer → Rattle.chain_climb.specs.Sessions.IsPageAnswer answer
         → Walked pages bounds.paths [] whole (λ found. leaf_rest found (Rattle.chain_climb.specs.Sessions.finding_in answer)) (from_to [] [])
     behind_leaf answer is good =
-        let there = at_leaf (Some answer) is in
         walked-same pages bounds.paths [] (λ found. need (configuration_of leaf) ∷ leaf_rest found (found (configuration_of leaf))) (λ found. leaf_rest found (Rattle.chain_climb.specs.Sessions.finding_in answer)) whole [] []
         (λ found extends. whole_steps found)
         (walked-to pages bounds.paths [] (λ found. need (configuration_of leaf) ∷ leaf_rest found (found (configuration_of leaf))) (λ found. leaf_rest found (found (configuration_of leaf)))
         (λ found. leaf_rest found (Rattle.chain_climb.specs.Sessions.finding_in answer)) [] []
-        (λ found extends. ap (leaf_rest found) (extends.agrees (configuration_of leaf) answer there good))
-        (walked-need pages bounds.paths (configuration_of leaf) (λ found. leaf_rest found (found (configuration_of leaf))) [] (answer, there, good)))
+        (λ found extends. ap (leaf_rest found) (extends.agrees (configuration_of leaf) answer is good))
+        (walked-need pages bounds.paths (configuration_of leaf) (λ found. leaf_rest found (found (configuration_of leaf))) [] (answer, is, good)))
 
-    pub leaf_arm-ended : (answer : Report) → answer_to pages (page_named leaf leaf text) ≡ Some answer → Rattle.chain_climb.specs.Sessions.IsPageAnswer answer → Rattle.chain_climb.specs.Sessions.finding_in answer ≡ None
+    pub leaf_arm-ended : (answer : Report) → answer_to pages (configuration_of leaf) ≡ Some answer → Rattle.chain_climb.specs.Sessions.IsPageAnswer answer → Rattle.chain_climb.specs.Sessions.finding_in answer ≡ None
         → LeafReaches leaf anchor bounds pages queue (record { stage = Ended; at = 0; hint = 0; level_end = 0; left = 0 })
     leaf_arm-ended answer is good nothing = record {
       not_found = λ e. cc;
@@ -390,12 +413,12 @@ module _ (pages : List PageAnswer) (leaf anchor : Identifier) (bounds : Bounds) 
       stops = tt;
     }
 
-    module _ (own : Statement) (origin : Origin) (good : answer_to pages (page_named leaf leaf text) ≡ Some (Good own origin)) (path : Path) (path_is : path ≡ alone leaf) (pushed : List Path) (pushed_is : pushed ≡ queue ++ path ∷ []) where
+    module _ (own : Statement) (origin : Origin) (good : answer_to pages (configuration_of leaf) ≡ Some (Good own origin)) (path : Path) (path_is : path ≡ alone leaf) (pushed : List Path) (pushed_is : pushed ≡ queue ++ path ∷ []) where
       pushed_alone : pushed ≡ alone leaf ∷ []
       pushed_alone = pushed_is ∙ ap (λ q. q ++ path ∷ []) none ∙ ap (λ p. p ∷ []) path_is
 
       known_leaf : IsKnown pages (alone leaf)
-      known_leaf = record { some = omega arith; own = own; origin = origin; good = at_leaf (Some (Good own origin)) good }
+      known_leaf = record { some = omega arith; own = own; origin = origin; good = good }
 
       pub leaf_arm-known : AllKnown pages pushed
       leaf_arm-known = subst (AllKnown pages) (sym pushed_alone) (λ p among. elim among [ inl same ↦ subst (IsKnown pages) (sym same) known_leaf | inr none ↦ absurd none ])
@@ -415,6 +438,6 @@ module _ (pages : List PageAnswer) (leaf anchor : Identifier) (bounds : Bounds) 
           (subst (λ q. Reaches anchor bounds pages (path_rest anchor bounds.depth q 0 1 bounds.depth) (from_to q after) place) pushed_alone reaches)
 
 -- a copy of what was read
-pub read-is : (path item : Path) (slice queue : List Path) (at : ℕ) → path ≡ item → item ≡ get_or slice at item → slice ≡ queue → path ≡ get_or queue at path
-read-is path item slice queue at copy read same =
-    copy ∙ read ∙ ap (λ q. get_or q at item) same ∙ ap (λ d. get_or queue at d) (sym copy)
+pub read-in : (path item : Path) (slice queue : List Path) (at : ℕ) → at < length queue → path ≡ item → item ≡ get_or slice at item → slice ≡ queue → path ≡ path_in queue at
+read-in path item slice queue at less copy read same =
+    get_or_read queue at path less (copy ∙ read ∙ ap (λ q. get_or q at item) same ∙ ap (λ d. get_or queue at d) (sym copy)) no_path

@@ -100,9 +100,13 @@ hint_rest anchor depth queue path hint at level_end left =
 abbrev pub no_path : Path
 no_path = record { entities = []; urls = [] }
 
+-- the path at this place
+abbrev pub path_in : List Path → ℕ → Path
+path_in queue at = slice_index_or queue at no_path
+
 -- the path at hand
 abbrev pub path_at : List Path → Place → Path
-path_at queue place = slice_index_or queue place.at no_path
+path_at queue place = path_in queue place.at
 
 -- what is left at a place
 abbrev pub rest_at : Stage → Identifier → Identifier → ℕ → List Path → Place → Findings → List Step
@@ -162,6 +166,16 @@ StopsAt Ended way bounds pages queue place = Unit {0}
 -- a hint at hand, or the end of the hints
 abbrev pub HasHint : List PageAnswer → Path → ℕ → Type 0
 HasHint pages path hint = (hints : List Identifier) × AreHints pages path hints × (hint ≤ length hints)
+
+-- a path is added where there is room for it
+abbrev pub IsAdded : ℕ → Path → Growth → Bool → Type 0
+IsAdded most path paths true = (length paths.before < most) × (paths.after ≡ paths.before ++ path ∷ [])
+IsAdded most path paths false = (most ≤ length paths.before) × (paths.after ≡ paths.before)
+
+-- what came of the hints of a path from one on: the first that isn't passed, where there is one
+abbrev pub RestTried : List PageAnswer → ℕ → Path → ℕ → Growth → Option ℕ → Type 0
+RestTried pages most path from paths None = Walked pages most [] (hints_from path from) (λ found. []) paths
+RestTried pages most path from paths (Some at) = Walked pages most [] (hints_from path from) (hints_from path at) paths × StopsAtHint pages most paths.after path at
 
 -- what came of one hint
 abbrev pub HintTried : List PageAnswer → ℕ → Path → Identifier → Growth → Bool → Type 0

@@ -1,7 +1,7 @@
 // What one hint of a path comes to.
 
-ghost use Rattle.std.specs.Prelude.{◌≡◌, ◌<◌, length, IfOk, option_copied};
-ghost use Rattle.chain_climb.specs.Facings.{face_of, after_endpoint};
+ghost use Rattle.std.specs.Prelude.{◌≡◌, ◌<◌, length, None, IfOk, option_copied};
+ghost use Rattle.chain_climb.specs.Facings.{face_of, after_endpoint, after_statement};
 
 use crate::answer::{PageAnswer, Report};
 use crate::pages::{contains, find_answer};
@@ -71,17 +71,27 @@ fn face_superior(
     let last = path.last();
     let url = fetch_url(alloc, endpoint, last)?;
     match find_answer(pages, hint, last, url.as_slice()) {
-        None => {
-            let superior = hint.copy(alloc)?;
-            let subject = last.copy(alloc)?;
-            Ok(Facing::Wants(Want::Superior {
-                superior,
-                subject,
-                url,
-            }))
-        }
+        None => want_statement(alloc, hint, last, url),
         Some(Report::Good(_, _)) => Ok(Facing::Adds(url)),
         Some(Report::Spent) => Ok(Facing::Spent),
         Some(_) => Ok(Facing::Passed),
     }
+}
+
+// The want of a superior's statement.
+fn want_statement(
+    alloc: Global,
+    superior: &EntityId,
+    subject: &EntityId,
+    url: Text,
+) -> Result<Facing, Memory>
+    ensures { IfOk result (λ facing. facing ≡ after_statement superior.now subject.now url None) }
+{
+    let superior = superior.copy(alloc)?;
+    let subject = subject.copy(alloc)?;
+    Ok(Facing::Wants(Want::Superior {
+        superior,
+        subject,
+        url,
+    }))
 }

@@ -1,12 +1,14 @@
 // What was answered of pages.
 
-ghost use Rattle.std.specs.Prelude.{◌≡◌, Some, None, MatchOption, bytes_eq};
+ghost use Rattle.std.specs.Prelude.{◌≡◌, Some, None, MatchOption, IfOk, bytes_eq};
 ghost use Rattle.std.specs.List.{list_any};
-ghost use Rattle.chain_climb.specs.Climbs.{page_named};
+ghost use Rattle.chain_climb.specs.Climbs.{configuration_of, page_named};
 ghost use Rattle.chain_climb.specs.Sessions.{answer_to, is_call, is_fault, is_policy, is_valid_answer, was_asked, some_policy};
 
 use crate::answer::{Answer, Origin, PageAnswer, Report, Verdict};
 use entity_id::EntityId;
+use fed_base::Memory;
+use std::alloc::Global;
 
 // The answer to the want of a page.
 #[tactic(auto, unfolding(crate::specs::Sessions::answer_to))]
@@ -25,6 +27,19 @@ pub fn find_answer<'a>(
         }
     }
     None
+}
+
+// The answer to the want of an entity's configuration.
+pub fn find_configuration<'a>(
+    alloc: Global,
+    pages: &'a [PageAnswer],
+    entity: &EntityId,
+) -> Result<Option<&'a Report>, Memory>
+    ensures { let page = configuration_of entity.now in
+        IfOk result (λ found. MatchOption found (answer_to pages.now page ≡ None) (λ answer. answer_to pages.now page ≡ Some answer.now)) }
+{
+    let url = entity.well_known(alloc)?;
+    Ok(find_answer(pages, entity, entity, url.as_slice()))
 }
 
 // Whether the URL was asked, under whatever names.

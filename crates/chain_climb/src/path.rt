@@ -1,6 +1,6 @@
 // Paths from a leaf upwards.
 
-ghost use Rattle.std.specs.Prelude.{◌≡◌, ◌<◌, length, IfOk};
+ghost use Rattle.std.specs.Prelude.{◌≡◌, ◌<◌, length, IfOk, OnOk};
 ghost use Rattle.chain_climb.specs.Climbs.{alone, last_of, longer, with_chain};
 
 use entity_id::EntityId;
@@ -29,22 +29,30 @@ impl Path {
     pub fn alone(alloc: Global, leaf: &EntityId) -> Result<Path, Memory>
         ensures { IfOk result (λ path. path ≡ alone leaf.now) }
     {
-        let mut entities = Seq::new(alloc);
-        entities.push(leaf.copy(alloc)?)?;
-        let mut urls = Seq::new(alloc);
-        urls.push(leaf.well_known(alloc)?)?;
-        Ok(Path { entities, urls })
+        let mut path = Path {
+            entities: Seq::new(alloc),
+            urls: Seq::new(alloc),
+        };
+        path.add(alloc, leaf, leaf.well_known(alloc)?)?;
+        Ok(path)
     }
 
     // The path with a superior more, whose statement stands at the URL.
     pub fn longer(&self, alloc: Global, superior: &EntityId, url: Text) -> Result<Path, Memory>
         ensures { IfOk result (λ path. path ≡ longer self.now (record { issuer = superior.now; subject = superior.now; url = url })) }
     {
-        let mut entities = self.entities.copy(alloc)?;
-        entities.push(superior.copy(alloc)?)?;
-        let mut urls = self.urls.copy(alloc)?;
-        urls.push(url)?;
-        Ok(Path { entities, urls })
+        let mut path = self.copy(alloc)?;
+        path.add(alloc, superior, url)?;
+        Ok(path)
+    }
+
+    // Adds an entity, and the URL at which its text stands.
+    fn add(&mut self, alloc: Global, entity: &EntityId, url: Text) -> Result<(), Memory>
+        ensures { OnOk result (self.new ≡ longer self.old (record { issuer = entity.now; subject = entity.now; url = url })) }
+    {
+        self.entities.push(entity.copy(alloc)?)?;
+        self.urls.push(url)?;
+        Ok(())
     }
 
     // The last entity.
@@ -61,11 +69,10 @@ impl Path {
         requires { 0 < length self.now.entities }
         ensures { IfOk result (λ path. path ≡ with_chain self.now) }
     {
-        let entities = self.entities.copy(alloc)?;
-        let mut urls = self.urls.copy(alloc)?;
+        let mut path = self.copy(alloc)?;
         if self.entities.len() > 1 {
-            urls.push(self.last().well_known(alloc)?)?;
+            path.urls.push(self.last().well_known(alloc)?)?;
         }
-        Ok(Path { entities, urls })
+        Ok(path)
     }
 }

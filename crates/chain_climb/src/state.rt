@@ -86,8 +86,13 @@ impl State {
         ensures ok { OnOk result (IsGiven self.old self.new answer) }
         ensures err { OnErr result (self.new ≡ self.old) }
     {
-        let want = self.next(alloc)?;
-        self.take(alloc, want, answer)
+        match self.next(alloc) {
+            Ok(want) => self.take(alloc, want, answer),
+            Err(Memory) => {
+                drop(answer);
+                Err(Memory)
+            }
+        }
     }
 
     // Takes the answer to this want.
@@ -237,16 +242,21 @@ impl State {
         ensures ok { OnOk result (HasTakenPage self.old self.new (record { issuer = entity; subject = entity; url = url; answer = answer })) }
         ensures err { OnErr result (self.new ≡ self.old) }
     {
-        let subject = entity.copy(alloc)?;
-        self.take_page(
-            alloc,
-            PageAnswer {
-                issuer: entity,
-                subject,
-                url,
-                answer,
-            },
-        )
+        match entity.copy(alloc) {
+            Ok(subject) => self.take_page(
+                alloc,
+                PageAnswer {
+                    issuer: entity,
+                    subject,
+                    url,
+                    answer,
+                },
+            ),
+            Err(Memory) => {
+                drop(answer);
+                Err(Memory)
+            }
+        }
     }
 
     // Takes the answer to the want of a page, and goes on.

@@ -1,16 +1,17 @@
 // How a search goes on: as far as its answers reach.
 
 ghost use Rattle.std.specs.Prelude.{◌≡◌, ◌<◌, ◌≤◌, ◌+◌, [], length, take, IfOk};
-ghost use Rattle.chain_climb.specs.Walks.{AllKnown, AreHints, Grows, HasHint, HasPath, HintTried, HintsTried, IsKnown, IsReady, LeafReaches, LevelLooked, Looked, Reaches, Resumes, from_to, hint_rest, hints_on, level_of, path_at, path_rest, route};
+ghost use Rattle.chain_climb.specs.Climbs.{longer, page_named};
+ghost use Rattle.chain_climb.specs.Walks.{AllKnown, AreHints, Grows, HasHint, HasPath, HintTried, HintsTried, IsAdded, IsKnown, IsReady, LeafReaches, LevelLooked, Looked, Reaches, RestTried, Resumes, from_to, hint_rest, hints_on, level_of, path_at, path_in, path_rest, route};
 
 use crate::answer::{PageAnswer, Report};
 use crate::facing::{Facing, face};
-use crate::pages::find_answer;
+use crate::pages::find_configuration;
 use crate::path::Path;
 use crate::place::{Place, Stage};
 use crate::want::Bounds;
 use entity_id::EntityId;
-use fed_base::{Duplicate, Memory, Seq};
+use fed_base::{Duplicate, Memory, Seq, Text};
 use std::alloc::Global;
 
 // What a path came to.
@@ -33,9 +34,7 @@ pub fn hints_of<'a>(
     requires { IsKnown pages.now path.now }
     ensures { IfOk result (λ hints. AreHints pages.now path.now hints.now) }
 {
-    let last = path.last();
-    let url = last.well_known(alloc)?;
-    match find_answer(pages, last, last, url.as_slice()) {
+    match find_configuration(alloc, pages, path.last())? {
         Some(Report::Good(own, _)) => Ok(own.hints.as_slice()),
         _ => unreachable!(),
     }
@@ -56,17 +55,33 @@ fn try_hint(
 {
     match face(alloc, pages, path, hint)? {
         Facing::Passed => Ok(true),
-        Facing::Wants(_) => Ok(false),
-        Facing::Spent => Ok(false),
-        Facing::Adds(url) => {
-            if most <= queue.len() as u64 {
-                return Ok(false);
-            }
-            let longer = path.longer(alloc, hint, url)?;
-            queue.push(longer)?;
-            Ok(true)
+        Facing::Wants(want) => {
+            drop(want);
+            Ok(false)
         }
+        Facing::Spent => Ok(false),
+        Facing::Adds(url) => add_longer(alloc, most, path, hint, url, queue),
     }
+}
+
+// Adds the path with this superior more, where there is room. Says whether there is.
+fn add_longer(
+    alloc: Global,
+    most: u64,
+    path: &Path,
+    superior: &EntityId,
+    url: Text,
+    queue: &mut Seq<Path>,
+) -> Result<bool, Memory>
+    ensures added { IfOk result (IsAdded most (longer path.now (page_named superior.now superior.now url)) (from_to queue.old queue.new)) }
+    ensures grows { Grows queue.old queue.new }
+{
+    if most <= queue.len() as u64 {
+        return Ok(false);
+    }
+    let longer = path.longer(alloc, superior, url)?;
+    queue.push(longer)?;
+    Ok(true)
 }
 
 // Tries the hints from this one on. Answers the first that isn't passed, or their number.
@@ -92,6 +107,46 @@ fn try_hints(
     Ok(hints.len())
 }
 
+// Tries the hints of a path from this one on. Answers the first that isn't passed.
+fn try_rest(
+    alloc: Global,
+    pages: &[PageAnswer],
+    most: u64,
+    path: &Path,
+    from: usize,
+    queue: &mut Seq<Path>,
+) -> Result<Option<usize>, Memory>
+    requires { HasHint pages.now path.now from }
+    ensures tried { IfOk result (RestTried pages.now most path.now from (from_to queue.old queue.new)) }
+    ensures grows { Grows queue.old queue.new }
+{
+    let hints = hints_of(alloc, pages, path)?;
+    let at = try_hints(alloc, pages, most, path, hints, from, queue)?;
+    if at < hints.len() {
+        Ok(Some(at))
+    } else {
+        Ok(None)
+    }
+}
+
+// The same of the path at this place.
+fn try_rest_at(
+    alloc: Global,
+    pages: &[PageAnswer],
+    most: u64,
+    at: usize,
+    from: usize,
+    queue: &mut Seq<Path>,
+) -> Result<Option<usize>, Memory>
+    requires within { at < length queue.old }
+    requires hint { HasHint pages.now (path_in queue.old at) from }
+    ensures tried { IfOk result (RestTried pages.now most (path_in queue.old at) from (from_to queue.old queue.new)) }
+    ensures grows { Grows queue.old queue.new }
+{
+    let path = queue.as_slice()[at].copy(alloc)?;
+    try_rest(alloc, pages, most, &path, from, queue)
+}
+
 // Looks at one path.
 fn look_at_path(
     alloc: Global,
@@ -111,13 +166,28 @@ fn look_at_path(
     if path.entities.len() as u64 > bounds.depth {
         return Ok(Look::Passed);
     }
-    let hints = hints_of(alloc, pages, path)?;
-    let at = try_hints(alloc, pages, bounds.paths, path, hints, 0, queue)?;
-    if at < hints.len() {
-        Ok(Look::Hint(at))
-    } else {
-        Ok(Look::Passed)
+    match try_rest(alloc, pages, bounds.paths, path, 0, queue)? {
+        Some(hint) => Ok(Look::Hint(hint)),
+        None => Ok(Look::Passed),
     }
+}
+
+// Looks at the path at this place.
+fn look_at(
+    alloc: Global,
+    pages: &[PageAnswer],
+    anchor: &EntityId,
+    bounds: Bounds,
+    at: usize,
+    queue: &mut Seq<Path>,
+) -> Result<Look, Memory>
+    requires within { at < length queue.old }
+    requires known { IsKnown pages.now (path_in queue.old at) }
+    ensures looked { IfOk result (Looked pages.now bounds anchor.now (path_in queue.old at) (from_to queue.old queue.new)) }
+    ensures grows { Grows queue.old queue.new }
+{
+    let path = queue.as_slice()[at].copy(alloc)?;
+    look_at_path(alloc, pages, anchor, bounds, &path, queue)
 }
 
 // Looks at the paths of this level from this one on.
@@ -138,7 +208,6 @@ fn look_level(
     ensures grows { Grows queue.old queue.new }
 {
     for at in from..level_end {
-        let path = queue.as_slice()[at].copy(alloc)?;
         let here = Place {
             stage: Stage::Judge,
             at,
@@ -146,7 +215,7 @@ fn look_level(
             level_end,
             left,
         };
-        match look_at_path(alloc, pages, anchor, bounds, &path, queue)? {
+        match look_at(alloc, pages, anchor, bounds, at, queue)? {
             Look::Passed => {}
             Look::Judge => return Ok(Some(here)),
             Look::Hint(hint) => {
@@ -241,28 +310,14 @@ pub fn go_on_from_hint(
     ensures reached { IfOk result (Reaches anchor.now bounds pages.now (hint_rest anchor.now bounds.depth queue.old (path_at queue.old place) place.hint place.at place.level_end place.left) (from_to queue.old queue.new)) }
     ensures grows { Grows queue.old queue.new }
 {
-    let path = queue.as_slice()[place.at].copy(alloc)?;
-    let hints = hints_of(alloc, pages, &path)?;
-    let hint = try_hints(alloc, pages, bounds.paths, &path, hints, place.hint, queue)?;
-    if hint < hints.len() {
-        return Ok(Place {
+    match try_rest_at(alloc, pages, bounds.paths, place.at, place.hint, queue)? {
+        Some(hint) => Ok(Place {
             stage: Stage::Hint,
-            at: place.at,
             hint,
-            level_end: place.level_end,
-            left: place.left,
-        });
+            ..place
+        }),
+        None => go_on_behind(alloc, pages, anchor, bounds, place, queue),
     }
-    look_levels(
-        alloc,
-        pages,
-        anchor,
-        bounds,
-        place.at + 1,
-        place.level_end,
-        place.left,
-        queue,
-    )
 }
 
 // Goes on from the leaf's configuration.
@@ -289,8 +344,7 @@ pub fn go_on_from_leaf(
         stage: Stage::Ended,
         ..here
     };
-    let url = leaf.well_known(alloc)?;
-    match find_answer(pages, leaf, leaf, url.as_slice()) {
+    match find_configuration(alloc, pages, leaf)? {
         None => Ok(here),
         Some(Report::Spent) => Ok(here),
         Some(Report::Good(_, _)) => {

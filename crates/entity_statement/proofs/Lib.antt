@@ -1,4 +1,5 @@
 pub mod Answers
+pub mod CommonParts
 pub mod Facts
 pub mod Hints
 pub mod Identities

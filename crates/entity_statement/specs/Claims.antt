@@ -28,6 +28,12 @@ pub record CommonClaims : Type 0 where
   pub exp : ℕ
   pub keys : List Jwk
 
+-- when it holds, and the keys of its subject (section 3.1.1)
+pub record ValidityClaims : Type 0 where
+  pub iat : ℕ
+  pub exp : ℕ
+  pub keys : List Jwk
+
 -- what a superior rules for its subordinate (section 3.1.3)
 pub record RuleClaims : Type 0 where
   pub policy : Types

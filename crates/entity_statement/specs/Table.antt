@@ -19,9 +19,10 @@ use Rattle.chain_limits.specs.Reading.{Texts, no_constraints, constraints_of}
 use Rattle.chain_limits.specs.declared.constraints.Constraints.{Constraints}
 use Rattle.entity_statement.specs.declared.fault.StatementFault.{StatementFault}
 use Rattle.entity_statement.specs.declared.fault.StatementFault.TheVariants.{Typ, Tree, Missing, Shape, Keys, Misplaced, Critical, Memory}
+use Rattle.entity_statement.specs.declared.parts.Parties.{Parties}
 use Rattle.entity_statement.specs.declared.marks.MarkEntry.{MarkEntry}
 use Rattle.entity_statement.specs.declared.marks.Issuers.{Issuers}
-use Rattle.entity_statement.specs.Claims.{Claims, CommonClaims, FurtherClaims, Identifier, MarkClaims, OwnerClaims, RuleClaims, all_claims, no_metadata}
+use Rattle.entity_statement.specs.Claims.{Claims, CommonClaims, FurtherClaims, Identifier, MarkClaims, OwnerClaims, RuleClaims, ValidityClaims, all_claims, no_metadata}
 use Rattle.entity_statement.specs.Forms.{identifier, moment, hints_of, metadata_of, marks_of, issuers_of, owners_of}
 
 -- ---- answers
@@ -120,6 +121,21 @@ common_in members = do
   exp ← required (codes "exp") (formed moment) members
   keys ← required (codes "jwks") key_set members
   Ok (record { iss = iss; sub = sub; iat = iat; exp = exp; keys = keys })
+
+-- who says it and of whom, or the first fault (section 3.1.1)
+unfoldable pub parties_in : List Member → Result Parties StatementFault
+parties_in members = do
+  iss ← required (codes "iss") (formed identifier) members
+  sub ← required (codes "sub") (formed identifier) members
+  Ok (record { iss = iss; sub = sub })
+
+-- when it holds and the keys of its subject, or the first fault (section 3.1.1)
+unfoldable pub validity_in : List Member → Result ValidityClaims StatementFault
+validity_in members = do
+  iat ← required (codes "iat") (formed moment) members
+  exp ← required (codes "exp") (formed moment) members
+  keys ← required (codes "jwks") key_set members
+  Ok (record { iat = iat; exp = exp; keys = keys })
 
 -- the superiors that a configuration names (section 3.1.2, `authority_hints`)
 unfoldable pub hints_in : Bool → List Member → Result (List Identifier) StatementFault

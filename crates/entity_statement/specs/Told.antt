@@ -3,15 +3,20 @@ use Rattle.std.specs.Prelude.{List, codes, map, unwrap_or}
 use Rattle.fed_json.specs.declared.tree.Member.{Member}
 use Rattle.fed_json.specs.Trees.{find}
 use Rattle.entity_statement.specs.declared.parts.Common.{Common}
+use Rattle.entity_statement.specs.declared.parts.Validity.{Validity}
 use Rattle.entity_statement.specs.declared.parts.Rules.{Rules}
 use Rattle.entity_statement.specs.declared.parts.Marks.{Marks}
 use Rattle.entity_statement.specs.declared.parts.Further.{Further}
 use Rattle.entity_statement.specs.declared.statement.Statement.{Statement}
-use Rattle.entity_statement.specs.Claims.{Claims, CommonClaims, FurtherClaims, MarkClaims, RuleClaims, no_metadata, told_owner}
+use Rattle.entity_statement.specs.Claims.{Claims, CommonClaims, FurtherClaims, MarkClaims, RuleClaims, ValidityClaims, no_metadata, told_owner}
 
 -- the claims that every statement has, the key set by its keys (section 3.1.1)
 abbrev pub told_common : Common → CommonClaims
 told_common c = record { iss = c.iss; sub = c.sub; iat = c.iat; exp = c.exp; keys = c.jwks.keys }
+
+-- when it holds, the key set by its keys (section 3.1.1)
+abbrev pub told_validity : Validity → ValidityClaims
+told_validity v = record { iat = v.iat; exp = v.exp; keys = v.jwks.keys }
 
 -- what a superior rules (section 3.1.3)
 abbrev pub told_rules : Rules → RuleClaims

@@ -196,15 +196,21 @@ fn owner_with(alloc: Global, mark_type: &Text, claims: &[Member]) -> Result<Opti
     let Some(sub) = identifier(alloc, sub)? else {
         return Ok(None);
     };
-    let jwks = match JwkSet::read(alloc, keys) {
-        Ok(jwks) => jwks,
-        Err(SetFault::Memory) => return Err(Memory),
-        Err(_) => return Ok(None),
-    };
-    let mark_type = mark_type.copy(alloc)?;
-    Ok(Some(Owner {
-        mark_type,
-        sub,
-        jwks,
-    }))
+    match JwkSet::read(alloc, keys) {
+        Ok(jwks) => {
+            let mark_type = mark_type.copy(alloc)?;
+            Ok(Some(Owner {
+                mark_type,
+                sub,
+                jwks,
+            }))
+        },
+        Err(fault) => {
+            drop(sub);
+            match fault {
+                SetFault::Memory => Err(Memory),
+                _ => Ok(None),
+            }
+        },
+    }
 }

@@ -11,8 +11,8 @@ ghost use Rattle.fed_json.specs.Trees.{find as value_at};
 ghost use Rattle.chain_limits.specs.Reading.{HoldsUtf8};
 ghost use Rattle.entity_statement.specs.Claims.{no_metadata, mark_utf8 as is_mark_utf8, issuers_utf8 as are_issuers_utf8};
 ghost use Rattle.entity_statement.specs.Forms.{all_differ};
-ghost use Rattle.entity_statement.specs.Told.{told_common, told_further, told_marks, told_rules};
-ghost use Rattle.entity_statement.specs.Table.{GivesBy, common_in, further_in, mark_claims_in, rules_in};
+ghost use Rattle.entity_statement.specs.Told.{told_common, told_further, told_marks, told_rules, told_validity};
+ghost use Rattle.entity_statement.specs.Table.{Gives, GivesBy, common_in, further_in, mark_claims_in, parties_in, rules_in, validity_in};
 
 use crate::claims::{
     check_critical, check_metadata, check_policy_crit, constraints_in, hints_in, identifier_at,
@@ -28,6 +28,21 @@ use fed_json::Member;
 use jwk_set::JwkSet;
 use policy_merge::Policy;
 use std::alloc::Global;
+
+/// Who says it, and of whom (section 3.1.1).
+#[derive(Drop)]
+pub(crate) struct Parties {
+    pub(crate) iss: EntityId,
+    pub(crate) sub: EntityId,
+}
+
+/// When it holds, and the keys of its subject (section 3.1.1).
+#[derive(Drop)]
+pub(crate) struct Validity {
+    pub(crate) iat: u64,
+    pub(crate) exp: u64,
+    pub(crate) jwks: JwkSet,
+}
 
 /// The claims that every statement has (section 3.1.1).
 #[derive(Drop)]
@@ -62,7 +77,7 @@ pub(crate) struct Further {
     pub(crate) marks: Marks,
 }
 
-#[tactic(auto, unfolding(crate::specs::Table::common_in))]
+#[tactic(auto, using(crate::proofs::CommonParts::common_by_parts))]
 pub(crate) fn read_common(alloc: Global, claims: &[Member]) -> Result<Common, StatementFault>
     requires { IsTrue (members_well_formed claims.now) }
     ensures claims { GivesBy told_common result (common_in claims.now) }
@@ -70,18 +85,42 @@ pub(crate) fn read_common(alloc: Global, claims: &[Member]) -> Result<Common, St
     ensures ends { IfOk result (λ common. common.exp < moment_limit) }
 {
     check_critical(alloc, claims)?;
+    let parties = read_parties(alloc, claims)?;
+    match read_validity(alloc, claims) {
+        Ok(validity) => Ok(Common {
+            iss: parties.iss,
+            sub: parties.sub,
+            iat: validity.iat,
+            exp: validity.exp,
+            jwks: validity.jwks,
+        }),
+        Err(fault) => {
+            drop(parties);
+            Err(fault)
+        },
+    }
+}
+
+#[tactic(auto, unfolding(crate::specs::Table::parties_in))]
+fn read_parties(alloc: Global, claims: &[Member]) -> Result<Parties, StatementFault>
+    ensures { Gives result (parties_in claims.now) }
+{
     let iss = identifier_at(alloc, claims, b"iss")?;
     let sub = identifier_at(alloc, claims, b"sub")?;
+    Ok(Parties { iss, sub })
+}
+
+#[tactic(auto, unfolding(crate::specs::Table::validity_in))]
+fn read_validity(alloc: Global, claims: &[Member]) -> Result<Validity, StatementFault>
+    requires { IsTrue (members_well_formed claims.now) }
+    ensures claims { GivesBy told_validity result (validity_in claims.now) }
+    ensures issued { IfOk result (λ validity. validity.iat < moment_limit) }
+    ensures ends { IfOk result (λ validity. validity.exp < moment_limit) }
+{
     let iat = moment_at(alloc, claims, b"iat")?;
     let exp = moment_at(alloc, claims, b"exp")?;
     let jwks = keys_in(alloc, claims)?;
-    Ok(Common {
-        iss,
-        sub,
-        iat,
-        exp,
-        jwks,
-    })
+    Ok(Validity { iat, exp, jwks })
 }
 
 #[tactic(auto, unfolding(crate::specs::Table::rules_in))]
@@ -158,9 +197,9 @@ pub(crate) fn copy_common(alloc: Global, statement: &Statement) -> Result<Common
     ensures exp { IfOk result (λ copy. copy.exp ≡ statement.now.exp) }
     ensures jwks { IfOk result (λ copy. copy.jwks ≡ statement.now.jwks) }
 {
+    let jwks = statement.jwks.copy(alloc)?;
     let iss = statement.iss.copy(alloc)?;
     let sub = statement.sub.copy(alloc)?;
-    let jwks = statement.jwks.copy(alloc)?;
     Ok(Common {
         iss,
         sub,
@@ -170,7 +209,25 @@ pub(crate) fn copy_common(alloc: Global, statement: &Statement) -> Result<Common
     })
 }
 
-pub(crate) fn copy_rules(alloc: Global, statement: &Statement) -> Result<Rules, Memory>
+pub(crate) fn copy_further(alloc: Global, statement: &Statement) -> Result<Further, Memory>
+    ensures hints { IfOk result (λ copy. copy.hints ≡ statement.now.hints) }
+    ensures policy { IfOk result (λ copy. copy.rules.policy ≡ statement.now.policy) }
+    ensures constraints { IfOk result (λ copy. copy.rules.constraints ≡ statement.now.constraints) }
+    ensures marks { IfOk result (λ copy. copy.marks.marks ≡ statement.now.marks) }
+    ensures issuers { IfOk result (λ copy. copy.marks.issuers ≡ statement.now.issuers) }
+    ensures owners { IfOk result (λ copy. copy.marks.owners ≡ statement.now.owners) }
+{
+    let hints = statement.hints.copy(alloc)?;
+    let marks = copy_marks(alloc, statement)?;
+    let rules = copy_rules(alloc, statement)?;
+    Ok(Further {
+        hints,
+        rules,
+        marks,
+    })
+}
+
+fn copy_rules(alloc: Global, statement: &Statement) -> Result<Rules, Memory>
     ensures policy { IfOk result (λ copy. copy.policy ≡ statement.now.policy) }
     ensures constraints { IfOk result (λ copy. copy.constraints ≡ statement.now.constraints) }
 {
@@ -182,7 +239,7 @@ pub(crate) fn copy_rules(alloc: Global, statement: &Statement) -> Result<Rules, 
     })
 }
 
-pub(crate) fn copy_marks(alloc: Global, statement: &Statement) -> Result<Marks, Memory>
+fn copy_marks(alloc: Global, statement: &Statement) -> Result<Marks, Memory>
     ensures marks { IfOk result (λ copy. copy.marks ≡ statement.now.marks) }
     ensures issuers { IfOk result (λ copy. copy.issuers ≡ statement.now.issuers) }
     ensures owners { IfOk result (λ copy. copy.owners ≡ statement.now.owners) }

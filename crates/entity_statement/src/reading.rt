@@ -33,21 +33,26 @@ pub(crate) fn read_claims(alloc: Global, members: Seq<Member>) -> Result<Stateme
 {
     let common = read_common(alloc, members.as_slice())?;
     let own = common.iss == common.sub;
-    let further = read_further(alloc, members.as_slice(), own)?;
-    Ok(Statement {
-        iss: common.iss,
-        sub: common.sub,
-        iat: common.iat,
-        exp: common.exp,
-        jwks: common.jwks,
-        hints: further.hints,
-        metadata: take_metadata(alloc, members),
-        policy: further.rules.policy,
-        constraints: further.rules.constraints,
-        marks: further.marks.marks,
-        issuers: further.marks.issuers,
-        owners: further.marks.owners,
-    })
+    match read_further(alloc, members.as_slice(), own) {
+        Ok(further) => Ok(Statement {
+            iss: common.iss,
+            sub: common.sub,
+            iat: common.iat,
+            exp: common.exp,
+            jwks: common.jwks,
+            hints: further.hints,
+            metadata: take_metadata(alloc, members),
+            policy: further.rules.policy,
+            constraints: further.rules.constraints,
+            marks: further.marks.marks,
+            issuers: further.marks.issuers,
+            owners: further.marks.owners,
+        }),
+        Err(fault) => {
+            drop(common);
+            Err(fault)
+        },
+    }
 }
 
 // The claim `metadata`, moved out of the others, and an empty object where it is absent.

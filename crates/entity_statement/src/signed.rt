@@ -29,8 +29,13 @@ impl SignedStatement {
         };
         match Statement::read(alloc, &compact) {
             Ok(statement) => Ok(Some(SignedStatement { compact, statement })),
-            Err(StatementFault::Memory) => Err(Memory),
-            Err(_) => Ok(None),
+            Err(fault) => {
+                drop(compact);
+                match fault {
+                    StatementFault::Memory => Err(Memory),
+                    _ => Ok(None),
+                }
+            },
         }
     }
 }
@@ -38,7 +43,12 @@ impl SignedStatement {
 impl Duplicate for SignedStatement {
     fn copy(&self, alloc: Global) -> Result<Self, Memory> {
         let compact = self.compact.copy(alloc)?;
-        let statement = self.statement.copy(alloc)?;
-        Ok(SignedStatement { compact, statement })
+        match self.statement.copy(alloc) {
+            Ok(statement) => Ok(SignedStatement { compact, statement }),
+            Err(Memory) => {
+                drop(compact);
+                Err(Memory)
+            },
+        }
     }
 }

@@ -12,7 +12,7 @@ ghost use Rattle.entity_statement.specs.Forms.{all_differ};
 
 use crate::fault::StatementFault;
 use crate::marks::{Issuers, MarkEntry, Owner};
-use crate::parts::{copy_common, copy_marks, copy_rules};
+use crate::parts::{copy_common, copy_further};
 use crate::reading::{is_statement_type, read_claims};
 use chain_limits::Constraints;
 use entity_id::EntityId;
@@ -134,24 +134,27 @@ impl Statement {
 
 impl Duplicate for Statement {
     fn copy(&self, alloc: Global) -> Result<Self, Memory> {
-        let common = copy_common(alloc, self)?;
-        let hints = self.hints.copy(alloc)?;
         let metadata = self.metadata.copy(alloc)?;
-        let rules = copy_rules(alloc, self)?;
-        let marks = copy_marks(alloc, self)?;
-        Ok(Statement {
-            iss: common.iss,
-            sub: common.sub,
-            iat: common.iat,
-            exp: common.exp,
-            jwks: common.jwks,
-            hints,
-            metadata,
-            policy: rules.policy,
-            constraints: rules.constraints,
-            marks: marks.marks,
-            issuers: marks.issuers,
-            owners: marks.owners,
-        })
+        let common = copy_common(alloc, self)?;
+        match copy_further(alloc, self) {
+            Ok(further) => Ok(Statement {
+                iss: common.iss,
+                sub: common.sub,
+                iat: common.iat,
+                exp: common.exp,
+                jwks: common.jwks,
+                hints: further.hints,
+                metadata,
+                policy: further.rules.policy,
+                constraints: further.rules.constraints,
+                marks: further.marks.marks,
+                issuers: further.marks.issuers,
+                owners: further.marks.owners,
+            }),
+            Err(Memory) => {
+                drop(common);
+                Err(Memory)
+            },
+        }
     }
 }

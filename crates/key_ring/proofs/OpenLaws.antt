@@ -1,12 +1,14 @@
 -- Opening a ring: its keys are taken one after the other, and each is compared with the earlier ones.
-use Rattle.std.proofs.Common.{◌≡◌, ◌<◌, ◌≤◌, ℕ, zero, suc, ◌+◌, List, [], ◌∷◌, ◌++◌, length, map, take, drop, true, false, ◌||◌, cond, get_or, bytes_eq, drop-cons, drop_of_length-le, add-one, Some, None, refl, sym, ap, ap₂, ◌∙◌, subst, arith}
+use Rattle.std.proofs.Common.{◌≡◌, ◌<◌, ◌≤◌, ℕ, zero, suc, ◌+◌, List, [], ◌∷◌, ◌++◌, length, map, take, drop, true, false, ◌||◌, cond, get_or, bytes_eq, drop-cons, drop_of_length-le, add-one, Some, None, Err, refl, sym, ap, ap₂, ◌∙◌, subst, arith}
 use Rattle.std.proofs.Math.Seq.{take-suc}
 use Rattle.std.proofs.lemmas.List.{map-append, take_all}
 use Rattle.std.proofs.lemmas.Map.Keys.{IsDistinct-push}
 use Rattle.std.specs.Cmp.Lexicographic.{nat_list_eq_equiv}
 use Rattle.std.specs.List.{IsDistinct, list_any}
 use Rattle.key_ring.specs.declared.key.RingKey.{RingKey}
-use Rattle.key_ring.specs.Files.{repeated_after, repeated_in}
+use Rattle.key_ring.specs.declared.fault.RingFault.{RingFault}
+use Rattle.key_ring.specs.declared.fault.RingFault.TheVariants.{Shape, Known, Unknown, Order, StoreFault, Memory}
+use Rattle.key_ring.specs.Files.{Joins, OpensKeys, repeated_after, repeated_in}
 use Rattle.key_ring.specs.Rings.{HasForm, IsRing, Ring, has_key, is_named, kid_of}
 
 -- the first so many keys are open, no two of one name
@@ -49,6 +51,17 @@ at_any (k ∷ keys) (suc i) d e within = at_any keys i d e (omega arith)
 pub opened_next : (held new keys : Ring) (i : ℕ) (key d : RingKey) → Opened held keys i → i < length keys → key ≡ get_or keys i d → has_key (kid_of key) held ≡ false → new ≡ held ++ key ∷ []
     → Opened new keys (i + 1)
 opened_next held new keys i key d so_far within is other more = opened_more held new keys i key so_far within (is ∙ at_any keys i d key within) other more
+
+-- a key that doesn't join them
+pub opened_fault : (held keys new : Ring) (i : ℕ) (key d : RingKey) (fault : RingFault) → Opened held keys i → i < length keys → key ≡ get_or keys i d → Joins held key (Err fault) new
+    → OpensKeys keys (Err fault)
+opened_fault held keys new i key d (Known kid) so_far within is joins =
+    opened_twice held keys i key so_far within (is ∙ at_any keys i d key within) joins.0 ∙ ap Some (sym joins.1)
+opened_fault held keys new i key d Memory so_far within is joins = tt
+opened_fault held keys new i key d Shape so_far within is joins = absurd joins
+opened_fault held keys new i key d StoreFault so_far within is joins = absurd joins
+opened_fault held keys new i key d (Unknown kid) so_far within is joins = absurd joins
+opened_fault held keys new i key d (Order order) so_far within is joins = absurd joins
 
 all_open : (held keys : Ring) (i : ℕ) → Opened held keys i → length keys ≤ i → held ≡ keys
 all_open held keys i so_far past = so_far.are ∙ take_all i keys past

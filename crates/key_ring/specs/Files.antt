@@ -1,5 +1,5 @@
 -- Ring files, version 1: a ring as JSON (RFC 8259).
-use Rattle.std.specs.Prelude.{◌≡◌, ℕ, pos, List, [], ◌∷◌, ◌++◌, map, codes, nat_le, Option, Some, None, Result, Ok, Err, if◌then◌else◌}
+use Rattle.std.specs.Prelude.{◌≡◌, ℕ, pos, List, [], ◌∷◌, ◌++◌, map, codes, nat_le, false, true, Option, Some, None, Result, Ok, Err, if◌then◌else◌}
 use Rattle.hex.specs.Hex.{encode_lower}
 use Rattle.fed_json.specs.declared.tree.Json.{Json, Int, Text, List as ListOf, Object}
 use Rattle.fed_json.specs.declared.tree.Member.{Member}
@@ -71,6 +71,13 @@ OpensKeys keys (Ok ring) = (ring ≡ keys) × (repeated_in keys ≡ None)
 OpensKeys keys (Err (Known kid)) = repeated_in keys ≡ Some kid
 OpensKeys keys (Err Memory) = Unit {0}
 OpensKeys keys (Err fault) = ⊥
+
+-- a key joins the earlier ones, or is Known where one of them has its name
+abbrev pub Joins : Ring → RingKey → Result (Unit {0}) RingFault → Ring → Type 0
+Joins earlier key (Ok x) now = (has_key (kid_of key) earlier ≡ false) × (now ≡ earlier ++ key ∷ [])
+Joins earlier key (Err (Known kid)) now = (has_key (kid_of key) earlier ≡ true) × (kid ≡ kid_of key)
+Joins earlier key (Err Memory) now = Unit {0}
+Joins earlier key (Err fault) now = ⊥
 
 -- the ring of a file; Shape where it is no file of a ring, Known where a key stands twice
 abbrev pub Opens : List ℕ → Result Ring RingFault → Type 0

@@ -3,15 +3,16 @@
 ghost use Rattle.std.specs.Prelude.{◌≡◌, ◌<◌, IfOk};
 ghost use Rattle.fed_base.specs.Moments.{moment_limit};
 ghost use Rattle.key_ring.specs.Changes.{add_key, kid_added, put_key, retire_key, revoke_key};
+ghost use Rattle.key_ring.specs.Files.{ring_text};
 ghost use Rattle.key_ring.specs.Keeping.{KeepsRing, Makes, standing};
-ghost use Rattle.key_ring.specs.Rings.{IsRing, IsTimelyState};
+ghost use Rattle.key_ring.specs.Rings.{HasForm, IsRing, IsTimelyState, kid_of};
 
 use crate::fault::{OrderFault, RingFault};
 use crate::held::{HeldKey, behind, has_key, has_live, key_at, plain_keys, with_state};
-use crate::key::{KeyState, RevokeReason, fresh_key, may_follow};
+use crate::key::{KeyState, RevokeReason, RingKey, fresh_key, may_follow};
 use crate::ring::KeyRing;
 use crate::writing::ring_text;
-use fed_base::{Duplicate, Failed, Seq, Text};
+use fed_base::{Duplicate, Failed, Memory, Seq, Text};
 use fed_ports::Store;
 use std::alloc::Global;
 
@@ -41,9 +42,10 @@ impl KeyRing {
         if self.keys.len() >= MOST_KEYS {
             return Err(RingFault::Order(OrderFault::Full));
         }
-        let held = HeldKey::new(alloc, &fresh_key(*seeds, at, exp))?;
-        let kid = held.kid().copy(alloc)?;
+        let (held, kid) = held_and_kid(alloc, &fresh_key(*seeds, at, exp))?;
         if has_key(self.keys.as_slice(), kid.as_slice()) {
+            // as one value, so that the proof doesn't follow each of its parts
+            drop(held);
             return Err(RingFault::Known(kid));
         }
         let changed = behind(alloc, held, self.keys.as_slice())?;
@@ -124,8 +126,7 @@ impl KeyRing {
         ensures { KeepsRing (standing self.old (D.files store.old) (D.store_faults store.old)) keys name.now result
             (standing self.new (D.files store.new) (D.store_faults store.new)) }
     {
-        let plain = plain_keys(alloc, keys.as_slice())?;
-        let text = ring_text(alloc, plain.as_slice())?;
+        let text = file_of(alloc, keys.as_slice())?;
         match store.keep(name, text.as_slice()) {
             Ok(()) => {
                 self.keys = keys;
@@ -134,4 +135,22 @@ impl KeyRing {
             Err(Failed) => Err(RingFault::StoreFault),
         }
     }
+}
+
+// The key with what is computed of it, and a copy of its name.
+fn held_and_kid(alloc: Global, key: &RingKey) -> Result<(HeldKey, Text), Memory>
+    ensures { IfOk result (λ both. (both.0 ≡ key.now) × (both.1 ≡ kid_of both.0)) }
+{
+    let held = HeldKey::new(alloc, key)?;
+    let kid = held.kid().copy(alloc)?;
+    Ok((held, kid))
+}
+
+// The text of the file of a ring of these keys.
+fn file_of(alloc: Global, keys: &[HeldKey]) -> Result<Text, Memory>
+    requires { HasForm keys.now }
+    ensures { IfOk result (λ text. text ≡ ring_text keys.now) }
+{
+    let plain = plain_keys(alloc, keys)?;
+    ring_text(alloc, plain.as_slice())
 }

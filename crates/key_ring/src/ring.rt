@@ -3,7 +3,7 @@
 ghost use Rattle.std.specs.Prelude.{◌≡◌, IfOk, Some};
 ghost use Rattle.fed_json.specs.Forms.{IsWhole};
 ghost use Rattle.fed_json.specs.declared.tree.Json.{List as ListOf};
-ghost use Rattle.key_ring.specs.Files.{Opens, OpensKeys};
+ghost use Rattle.key_ring.specs.Files.{Joins, Opens, OpensKeys};
 ghost use Rattle.key_ring.specs.Rings.{HasForm};
 ghost use Rattle.key_ring.specs.Sets.{IsNamedIn, historical_keys, kept_set, live_set, signer_seeds};
 
@@ -91,11 +91,19 @@ fn open_keys(alloc: Global, keys: &[RingKey]) -> Result<KeyRing, RingFault>
 {
     let mut held = Seq::new(alloc);
     for key in keys {
-        let next = HeldKey::new(alloc, key)?;
-        if has_key(held.as_slice(), next.kid().as_slice()) {
-            return Err(RingFault::Known(next.kid().copy(alloc)?));
-        }
-        held.push(next)?;
+        add_held(alloc, &mut held, key)?;
     }
     Ok(KeyRing { keys: held })
+}
+
+// Adds a key, where no earlier one has its name.
+fn add_held(alloc: Global, held: &mut Seq<HeldKey>, key: &RingKey) -> Result<(), RingFault>
+    ensures { Joins held.old key.now result held.new }
+{
+    let next = HeldKey::new(alloc, key)?;
+    if has_key(held.as_slice(), next.kid().as_slice()) {
+        return Err(RingFault::Known(next.kid().copy(alloc)?));
+    }
+    held.push(next)?;
+    Ok(())
 }

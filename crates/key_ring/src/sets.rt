@@ -1,15 +1,15 @@
 // What is published of a ring.
 
-ghost use Rattle.std.specs.Prelude.{◌≡◌, ◌++◌, IfOk, OnOk};
+ghost use Rattle.std.specs.Prelude.{◌≡◌, ◌++◌, ◌∷◌, [], IfOk, OnOk};
 ghost use Rattle.fed_json.specs.declared.tree.Json.{List as ListOf};
 ghost use Rattle.key_ring.specs.Sets.{historical_key, historical_keys, is_historical, is_published, own_key, own_set, plain_members, revoked_members};
 
 use crate::held::HeldKey;
 use crate::key::{KeyState, is_live_state, is_revoked_state};
-use crate::writing::{number_member, revocation_tree, tree_member};
+use crate::writing::{add_number, add_text, add_tree, revocation_tree};
 use base64url::encode_32;
 use fed_base::{Duplicate, Memory, Seq, Text};
-use fed_json::{Json, Member, text_member};
+use fed_json::{Json, Member};
 use jwk_set::Jwk;
 use jws_form::ALGORITHM;
 use std::alloc::Global;
@@ -22,7 +22,7 @@ pub fn own_keys(alloc: Global, keys: &[HeldKey], retired: bool) -> Result<Seq<Jw
     let mut own = Seq::new(alloc);
     for held in keys {
         if is_published(retired, held.key().state) {
-            own.push(own_key(alloc, held)?)?;
+            add_own(alloc, &mut own, held)?;
         }
     }
     Ok(own)
@@ -35,12 +35,13 @@ fn is_published(retired: bool, state: KeyState) -> bool
     !is_revoked_state(state) && (retired || is_live_state(state))
 }
 
-// The key as a member of a set.
-fn own_key(alloc: Global, held: &HeldKey) -> Result<Jwk, Memory>
-    ensures { IfOk result (λ own. own ≡ own_key held.now) }
+// Adds the key as a member of a set.
+fn add_own(alloc: Global, own: &mut Seq<Jwk>, held: &HeldKey) -> Result<(), Memory>
+    ensures { OnOk result (own.new ≡ own.old ++ own_key held.now ∷ []) }
 {
-    Ok(Jwk::Own {
-        kid: held.kid().copy(alloc)?,
+    let kid = held.kid().copy(alloc)?;
+    own.push(Jwk::Own {
+        kid,
         public: held.public(),
     })
 }
@@ -71,27 +72,27 @@ fn historical_key(alloc: Global, held: &HeldKey) -> Result<Json, Memory>
     ensures { IfOk result (λ tree. tree ≡ historical_key held.now) }
 {
     let key = held.key();
-    let mut members = plain_members(alloc, held.kid(), key.exp, &held.public())?;
+    let mut members = Seq::new(alloc);
+    add_plain(alloc, &mut members, held.kid(), key.exp, &held.public())?;
     add_revocation(alloc, &mut members, key.state)?;
     Ok(Json::Object(members))
 }
 
-// The members that each historical key has.
-fn plain_members(
+// Adds the members that each historical key has.
+fn add_plain(
     alloc: Global,
+    members: &mut Seq<Member>,
     kid: &Text,
     exp: u64,
     public: &[u8; 32],
-) -> Result<Seq<Member>, Memory>
-    ensures { IfOk result (λ members. members ≡ plain_members kid.now exp public.now) }
+) -> Result<(), Memory>
+    ensures { OnOk result (members.new ≡ members.old ++ plain_members kid.now exp public.now) }
 {
-    let mut members = Seq::new(alloc);
-    members.push(text_member(alloc, b"alg", ALGORITHM)?)?;
-    members.push(number_member(alloc, b"exp", exp)?)?;
-    members.push(text_member(alloc, b"kid", kid.as_slice())?)?;
-    members.push(text_member(alloc, b"kty", b"AKP")?)?;
-    members.push(text_member(alloc, b"pub", &encode_32(public))?)?;
-    Ok(members)
+    add_text(alloc, members, b"alg", ALGORITHM)?;
+    add_number(alloc, members, b"exp", exp)?;
+    add_text(alloc, members, b"kid", kid.as_slice())?;
+    add_text(alloc, members, b"kty", b"AKP")?;
+    add_text(alloc, members, b"pub", &encode_32(public))
 }
 
 // The revocation of a key, where it was revoked.
@@ -99,7 +100,12 @@ fn add_revocation(alloc: Global, members: &mut Seq<Member>, state: KeyState) -> 
     ensures { OnOk result (members.new ≡ members.old ++ revoked_members state) }
 {
     if let KeyState::Revoked { at, reason } = state {
-        members.push(tree_member(alloc, b"revoked", revocation_tree(alloc, at, reason)?)?)?;
+        add_tree(
+            alloc,
+            members,
+            b"revoked",
+            revocation_tree(alloc, at, reason)?,
+        )?;
     }
     Ok(())
 }

@@ -1,6 +1,8 @@
 // Rings as the trees and texts of their files.
 
-ghost use Rattle.std.specs.Prelude.{◌≡◌, ◌≤◌, IfOk, codes, map};
+ghost use Rattle.std.specs.Prelude.{◌≡◌, ◌≤◌, ◌++◌, ◌∷◌, [], IfOk, OnOk, codes, map};
+ghost use Rattle.hex.specs.Hex.{encode_lower};
+ghost use Rattle.fed_json.specs.declared.tree.Json.{Object};
 ghost use Rattle.fed_json.specs.Forms.{IsWhole, nesting};
 ghost use Rattle.fed_json.specs.Members.{text_member};
 ghost use Rattle.fed_json.specs.Reading.{member_of};
@@ -33,8 +35,8 @@ pub(crate) fn ring_tree(alloc: Global, keys: &[RingKey]) -> Result<Json, Memory>
 {
     let keys = key_trees(alloc, keys)?;
     let mut members = Seq::new(alloc);
-    members.push(tree_member(alloc, b"keys", Json::List(keys))?)?;
-    members.push(number_member(alloc, b"version", 1)?)?;
+    add_tree(alloc, &mut members, b"keys", Json::List(keys))?;
+    add_number(alloc, &mut members, b"version", 1)?;
     Ok(Json::Object(members))
 }
 
@@ -49,17 +51,29 @@ fn key_trees(alloc: Global, keys: &[RingKey]) -> Result<Seq<Json>, Memory>
     Ok(trees)
 }
 
-#[tactic(auto, unfolding(crate::specs::Files::key_tree))]
 fn key_tree(alloc: Global, key: &RingKey) -> Result<Json, Memory>
     ensures { IfOk result (λ tree. tree ≡ key_tree key.now) }
 {
-    let seeds = hex::encode(alloc, key.seeds.as_slice())?;
     let mut members = Seq::new(alloc);
-    members.push(number_member(alloc, b"exp", key.exp)?)?;
-    members.push(number_member(alloc, b"iat", key.iat)?)?;
-    members.push(text_member(alloc, b"seeds", seeds.as_bytes())?)?;
-    members.push(tree_member(alloc, b"state", state_tree(alloc, key.state)?)?)?;
+    add_key(alloc, &mut members, key)?;
     Ok(Json::Object(members))
+}
+
+// Fills the object of a key.
+fn add_key(alloc: Global, members: &mut Seq<Member>, key: &RingKey) -> Result<(), Memory>
+    ensures { members.old ≡ [] → OnOk result (Object members.new ≡ key_tree key.now) }
+{
+    add_number(alloc, members, b"exp", key.exp)?;
+    add_number(alloc, members, b"iat", key.iat)?;
+    add_seeds(alloc, members, &key.seeds)?;
+    add_tree(alloc, members, b"state", state_tree(alloc, key.state)?)
+}
+
+fn add_seeds(alloc: Global, members: &mut Seq<Member>, seeds: &[u8; 48]) -> Result<(), Memory>
+    ensures { OnOk result (members.new ≡ members.old ++ text_member (codes "seeds") (encode_lower seeds.now) ∷ []) }
+{
+    let seeds = hex::encode(alloc, seeds.as_slice())?;
+    add_text(alloc, members, b"seeds", seeds.as_bytes())
 }
 
 fn state_tree(alloc: Global, state: KeyState) -> Result<Json, Memory>
@@ -77,34 +91,54 @@ pub(crate) fn revocation_tree(alloc: Global, at: u64, reason: RevokeReason) -> R
     ensures { IfOk result (λ tree. tree ≡ revocation_tree at reason) }
 {
     let mut members = Seq::new(alloc);
-    members.push(reason_member(alloc, reason)?)?;
-    members.push(number_member(alloc, b"revoked_at", at)?)?;
+    add_text(alloc, &mut members, b"reason", reason_word(reason))?;
+    add_number(alloc, &mut members, b"revoked_at", at)?;
     Ok(Json::Object(members))
 }
 
-fn reason_member(alloc: Global, reason: RevokeReason) -> Result<Member, Memory>
-    ensures { IfOk result (λ member. member ≡ text_member (codes "reason") (reason_word reason)) }
+fn reason_word(reason: RevokeReason) -> &'static [u8]
+    ensures { result.now ≡ reason_word reason }
 {
     match reason {
-        RevokeReason::Unspecified => text_member(alloc, b"reason", b"unspecified"),
-        RevokeReason::Compromised => text_member(alloc, b"reason", b"compromised"),
-        RevokeReason::Superseded => text_member(alloc, b"reason", b"superseded"),
+        RevokeReason::Unspecified => b"unspecified",
+        RevokeReason::Compromised => b"compromised",
+        RevokeReason::Superseded => b"superseded",
     }
 }
 
-/// A member of that name that is a number.
-pub(crate) fn number_member(alloc: Global, name: &[u8], number: u64) -> Result<Member, Memory>
-    ensures { IfOk result (λ member. member ≡ number_member name.now number) }
+/// Adds a member of that name that is a text.
+pub(crate) fn add_text(
+    alloc: Global,
+    members: &mut Seq<Member>,
+    name: &[u8],
+    text: &[u8],
+) -> Result<(), Memory>
+    ensures { OnOk result (members.new ≡ members.old ++ text_member name.now text.now ∷ []) }
 {
-    tree_member(alloc, name, Json::Int(number as i128))
+    members.push(text_member(alloc, name, text)?)
 }
 
-/// A member of that name and value.
-pub(crate) fn tree_member(alloc: Global, name: &[u8], value: Json) -> Result<Member, Memory>
-    ensures { IfOk result (λ member. member ≡ member_of name.now value) }
+/// Adds a member of that name that is a number.
+pub(crate) fn add_number(
+    alloc: Global,
+    members: &mut Seq<Member>,
+    name: &[u8],
+    number: u64,
+) -> Result<(), Memory>
+    ensures { OnOk result (members.new ≡ members.old ++ number_member name.now number ∷ []) }
 {
-    Ok(Member {
-        name: Text::of(alloc, name)?,
-        value,
-    })
+    add_tree(alloc, members, name, Json::Int(number as i128))
+}
+
+/// Adds a member of that name and value.
+pub(crate) fn add_tree(
+    alloc: Global,
+    members: &mut Seq<Member>,
+    name: &[u8],
+    value: Json,
+) -> Result<(), Memory>
+    ensures { OnOk result (members.new ≡ members.old ++ member_of name.now value ∷ []) }
+{
+    let name = Text::of(alloc, name)?;
+    members.push(Member { name, value })
 }

@@ -1,17 +1,20 @@
 -- Identifiers that a loop has seen, and those that differ.
-use Rattle.std.proofs.Common.{◌≡◌, ◌<◌, ℕ, suc, ◌+◌, List, [], ◌∷◌, ◌++◌, length, map, take, drop, get_or, Bool, true, false, ◌||◌, ◌&&◌, not, cond, bytes_eq, Bor, refl, sym, ap, ap₂, ◌∙◌, take-suc, drop-cons, add-one}
-use Rattle.std.specs.HashSet.{HashSet, contains}
+use Rattle.std.proofs.Common.{◌≡◌, ◌<◌, ℕ, suc, ◌+◌, List, [], ◌∷◌, ◌++◌, length, map, take, drop, get_or, Bool, true, false, ◌||◌, ◌&&◌, not, cond, bytes_eq, nat_cmp, Ordering, Bor, refl, sym, ap, ap₂, ◌∙◌, take-suc, drop-cons, add-one}
+use Rattle.std.specs.BTreeSet.{BTreeSet, contains}
+use Rattle.std.specs.Cmp.Lexicographic.{slice_cmp}
 use Rattle.std.specs.List.{list_any}
+use Rattle.std.specs.Ordering.{is_eq}
 use Rattle.std.proofs.lemmas.List.{map-append, take-append-drop}
 use Rattle.std.proofs.lemmas.List.Folds.{list_any-append}
+use Rattle.std.proofs.lemmas.Map.Text.{is_eq-slice_cmp}
 use Rattle.fed_json.proofs.Booleans.{left_true, right_true, both_true, left_false, right_false}
 use Rattle.fed_json.proofs.Order.{bytes_eq-back}
 use Rattle.entity_statement.specs.Claims.{Identifier}
 use Rattle.entity_statement.specs.Forms.{all_differ}
 
--- whether two keys of a set are one
-abbrev pub key_eq : Bor Identifier → Bor Identifier → Bool
-key_eq x y = bytes_eq x.now y.now
+-- the order of a set's keys
+abbrev pub key_cmp : Bor Identifier → Bor Identifier → Ordering
+key_cmp x y = slice_cmp nat_cmp x.now y.now
 
 not_true : (b : Bool) → not b ≡ true → b ≡ false
 not_true true e = cc e
@@ -55,31 +58,30 @@ repeated (x ∷ ids) rest id among = by_first (bytes_eq id x) refl (repeated ids
         ap (λ b. not b && all_differ (ids ++ id ∷ rest)) here
     by_first false is later among = both_false _ (all_differ (ids ++ id ∷ rest)) (later among)
 
--- the identifiers of one more item
-ids_more : {T : Type 0} (id_of : T → Identifier) (items : List T) (i : ℕ) (item : T) → i < length items → item ≡ get_or items i item → map id_of (take (i + 1) items) ≡ map id_of (take i items) ++ id_of item ∷ []
-ids_more id_of items i item within at =
-    ap (λ n. map id_of (take n items)) (add-one i) ∙ ap (map id_of) (take-suc items i item within ∙ ap (λ x. take i items ++ x ∷ []) (sym at)) ∙ map-append id_of (take i items) (item ∷ [])
-
-module _ {T S : Type 0} (id_of : T → Identifier) where
+module _ {T : Type 0} (id_of : T → Identifier) where
   -- the set has the identifiers of the first items, which differ
-  pub record Seen (items : List T) (i : ℕ) (set : HashSet (Bor Identifier) S) : Type 0 where
+  pub record Seen (items : List T) (i : ℕ) (set : BTreeSet (Bor Identifier)) : Type 0 where
     pub differ : all_differ (map id_of (take i items)) ≡ true
-    pub same : (q : Bor Identifier) → contains key_eq set q ≡ list_any (bytes_eq q.now) (map id_of (take i items))
+    pub same : (q : Bor Identifier) → contains key_cmp set q ≡ list_any (bytes_eq q.now) (map id_of (take i items))
 
-  pub seen_none : (items : List T) (set : HashSet (Bor Identifier) S) → set.keys ≡ [] → Seen items 0 set
-  seen_none items set none = record { differ = refl; same = λ q. ap (λ keys. list_any (λ k. key_eq q k) keys) none }
+  pub seen_none : (items : List T) (set : BTreeSet (Bor Identifier)) → set.keys ≡ [] → Seen items 0 set
+  seen_none items set none = record { differ = refl; same = λ q. ap (λ keys. list_any (λ k. is_eq (key_cmp q k)) keys) none }
 
-  pub seen_more : (items : List T) (i : ℕ) (item : T) (key : Bor Identifier) (set next : HashSet (Bor Identifier) S) → Seen items i set → i < length items
-      → item ≡ get_or items i item → key.now ≡ id_of item → contains key_eq set key ≡ false
-      → ((q : Bor Identifier) → contains key_eq next q ≡ cond (key_eq key q) true (contains key_eq set q)) → Seen items (i + 1) next
+  ids_more : (items : List T) (i : ℕ) (item : T) → i < length items → item ≡ get_or items i item → map id_of (take (i + 1) items) ≡ map id_of (take i items) ++ id_of item ∷ []
+  ids_more items i item within at =
+      ap (λ n. map id_of (take n items)) (add-one i) ∙ ap (map id_of) (take-suc items i item within ∙ ap (λ x. take i items ++ x ∷ []) (sym at)) ∙ map-append id_of (take i items) (item ∷ [])
+
+  pub seen_more : (items : List T) (i : ℕ) (item : T) (key : Bor Identifier) (set next : BTreeSet (Bor Identifier)) → Seen items i set → i < length items
+      → item ≡ get_or items i item → key.now ≡ id_of item → contains key_cmp set key ≡ false
+      → ((q : Bor Identifier) → contains key_cmp next q ≡ cond (is_eq (key_cmp key q)) true (contains key_cmp set q)) → Seen items (i + 1) next
   seen_more items i item key set next seen within at is new updates =
-      let more = ids_more id_of items i item within at in
+      let more = ids_more items i item within at in
       let ids = map id_of (take i items) in
       record {
         differ = ap all_differ more ∙ more_differ ids (id_of item) seen.differ (ap (λ id. list_any (bytes_eq id) ids) (sym is) ∙ sym (seen.same key) ∙ new);
         same = λ q.
             updates q
-            ∙ ap₂ (λ b c. cond b true c) (flipped key.now q.now) (seen.same q)
+            ∙ ap₂ (λ b c. cond b true c) (is_eq-slice_cmp key.now q.now ∙ flipped key.now q.now) (seen.same q)
             ∙ as_or (bytes_eq q.now key.now) (list_any (bytes_eq q.now) ids)
             ∙ ap (λ id. list_any (bytes_eq q.now) ids || (bytes_eq q.now id || false)) is
             ∙ sym (list_any-append (bytes_eq q.now) ids (id_of item ∷ []))
@@ -95,8 +97,8 @@ module _ {T S : Type 0} (id_of : T → Identifier) where
       as_or false true = refl
       as_or false false = refl
 
-  pub seen_again : (items : List T) (i : ℕ) (item : T) (key : Bor Identifier) (set : HashSet (Bor Identifier) S) → Seen items i set → i < length items
-      → item ≡ get_or items i item → key.now ≡ id_of item → contains key_eq set key ≡ true → all_differ (map id_of items) ≡ false
+  pub seen_again : (items : List T) (i : ℕ) (item : T) (key : Bor Identifier) (set : BTreeSet (Bor Identifier)) → Seen items i set → i < length items
+      → item ≡ get_or items i item → key.now ≡ id_of item → contains key_cmp set key ≡ true → all_differ (map id_of items) ≡ false
   seen_again items i item key set seen within at is old =
       let ids = map id_of (take i items) in
       let parts : items ≡ take i items ++ item ∷ drop (suc i) items = sym (take-append-drop i items) ∙ ap (λ rest. take i items ++ rest) (drop-cons items i item within ∙ ap (λ x. x ∷ drop (suc i) items) (sym at)) in

@@ -1,11 +1,11 @@
 // Claims that are stated as they are configured.
 
-ghost use Rattle.std.specs.Prelude.{◌≡◌, IfOk, IsTrue, is_some};
+ghost use Rattle.std.specs.Prelude.{◌≡◌, IfOk, IsTrue, OnOk, is_some};
 ghost use Rattle.std.specs.List.{list_all};
 ghost use Rattle.fed_json.specs.Forms.{IsWellFormed, members_well_formed};
 ghost use Rattle.chain_limits.specs.Reading.{constraints_of};
 ghost use Rattle.entity_statement.specs.Table.{is_operator};
-ghost use Rattle.node_config.specs.Answers.{Gives, Reads};
+ghost use Rattle.node_config.specs.Answers.{GivesBy, Reads, ReadsBy};
 ghost use Rattle.node_config.specs.Stated.{IsStated, MayState};
 ghost use Rattle.policy_merge.specs.Shapes.{policy_shape};
 ghost use Rattle.node_config.specs.Configurations.{own_claim as claim_or_name};
@@ -52,33 +52,36 @@ impl Claim {
     }
 }
 
-/// A claim of the node's own configuration, or its name where it isn't of its form.
+/// Puts a claim of the node's own configuration in its place, or tells its name where it isn't of its form.
 pub(crate) fn own_claim(
     alloc: Global,
     members: &[Member],
     claim: Claim,
-) -> Result<Option<Json>, ConfigFault>
+    place: &mut Option<Json>,
+) -> Result<(), ConfigFault>
     requires { IsTrue (members_well_formed members.now) }
-    ensures claim { Gives result (claim_or_name claim members.now) }
-    ensures stated { IfOk result (MayState claim) }
+    ensures claim { GivesBy (λ _. place.new) result (claim_or_name claim members.now) }
+    ensures stated { OnOk result (MayState claim place.new) }
 {
-    member(alloc, claim.name(), claim_in(alloc, members, claim))
+    member(alloc, claim.name(), claim_in(alloc, members, claim, place))
 }
 
-/// A claim, which may be absent.
+/// Puts a claim, which may be absent, in its place.
 pub(crate) fn claim_in(
     alloc: Global,
     members: &[Member],
     claim: Claim,
-) -> Result<Option<Json>, FormFault>
+    place: &mut Option<Json>,
+) -> Result<(), FormFault>
     requires { IsTrue (members_well_formed members.now) }
-    ensures claim { Reads result (claim_at claim members.now) }
-    ensures stated { IfOk result (MayState claim) }
+    ensures claim { ReadsBy (λ _. place.new) result (claim_at claim members.now) }
+    ensures stated { OnOk result (MayState claim place.new) }
 {
-    match find(members, claim.name()) {
-        Some(tree) => Ok(Some(claim_of(alloc, tree, claim)?)),
-        None => Ok(None),
-    }
+    *place = match find(members, claim.name()) {
+        Some(tree) => Some(claim_of(alloc, tree, claim)?),
+        None => None,
+    };
+    Ok(())
 }
 
 // The claim as it is configured.

@@ -59,15 +59,27 @@ fn settings_in(alloc: Global, members: &[Member]) -> Result<NodeConfig, ConfigFa
     ensures about { IfOk result (λ node. AllByRecursion IsSubordinate node.subordinates) }
 {
     let basics = basics_in(alloc, members)?;
-    let claims = own_claims_in(alloc, members)?;
-    let further = further_in(alloc, members, &basics.id)?;
-    Ok(NodeConfig {
-        id: basics.id,
-        ring: basics.ring,
-        lifetime: basics.lifetime,
-        claims,
-        subordinates: further.subordinates,
-        revoked: further.revoked,
-        resolver: further.resolver,
-    })
+    let claims = match own_claims_in(alloc, members) {
+        Ok(claims) => claims,
+        Err(fault) => {
+            drop(basics);
+            return Err(fault);
+        },
+    };
+    match further_in(alloc, members, &basics.id) {
+        Ok(further) => Ok(NodeConfig {
+            id: basics.id,
+            ring: basics.ring,
+            lifetime: basics.lifetime,
+            claims,
+            subordinates: further.subordinates,
+            revoked: further.revoked,
+            resolver: further.resolver,
+        }),
+        Err(fault) => {
+            drop(basics);
+            drop(claims);
+            Err(fault)
+        },
+    }
 }

@@ -1,6 +1,6 @@
 // The members of a configuration, one by one.
 
-ghost use Rattle.std.specs.Prelude.{◌≡◌, IfOk, IsTrue, codes, map, option_map};
+ghost use Rattle.std.specs.Prelude.{◌≡◌, IfOk, IsTrue, OnOk, codes, map, option_map};
 ghost use Rattle.std.specs.List.{AllByRecursion};
 ghost use Rattle.fed_json.specs.Forms.{members_well_formed};
 ghost use Rattle.fed_json.specs.Trees.{as_text, texts_of};
@@ -116,24 +116,39 @@ fn lifetime_in(alloc: Global, members: &[Member]) -> Result<u64, ConfigFault>
 }
 
 /// The claims of its own configuration.
-#[tactic(auto, unfolding(crate::specs::Configurations::own_claims_in))]
 pub(crate) fn own_claims_in(alloc: Global, members: &[Member]) -> Result<OwnClaims, ConfigFault>
     requires { IsTrue (members_well_formed members.now) }
     ensures claims { Gives result (own_claims_in members.now) }
     ensures stated { IfOk result AreOwn }
 {
-    let metadata = own_claim(alloc, members, Claim::Metadata)?;
-    let hints = own_claim(alloc, members, Claim::AuthorityHints)?;
-    let marks = own_claim(alloc, members, Claim::TrustMarks)?;
-    let issuers = own_claim(alloc, members, Claim::TrustMarkIssuers)?;
-    let owners = own_claim(alloc, members, Claim::TrustMarkOwners)?;
-    Ok(OwnClaims {
-        metadata,
-        hints,
-        marks,
-        issuers,
-        owners,
-    })
+    let mut claims = OwnClaims {
+        metadata: None,
+        hints: None,
+        marks: None,
+        issuers: None,
+        owners: None,
+    };
+    match fill_in(alloc, members, &mut claims) {
+        Ok(()) => Ok(claims),
+        Err(fault) => {
+            drop(claims);
+            Err(fault)
+        },
+    }
+}
+
+// Puts each claim that the members set in its place.
+#[tactic(auto, unfolding(crate::specs::Configurations::own_claims_in))]
+fn fill_in(alloc: Global, members: &[Member], claims: &mut OwnClaims) -> Result<(), ConfigFault>
+    requires { IsTrue (members_well_formed members.now) }
+    ensures claims { GivesBy (λ _. claims.new) result (own_claims_in members.now) }
+    ensures stated { OnOk result (AreOwn claims.new) }
+{
+    own_claim(alloc, members, Claim::Metadata, &mut claims.metadata)?;
+    own_claim(alloc, members, Claim::AuthorityHints, &mut claims.hints)?;
+    own_claim(alloc, members, Claim::TrustMarks, &mut claims.marks)?;
+    own_claim(alloc, members, Claim::TrustMarkIssuers, &mut claims.issuers)?;
+    own_claim(alloc, members, Claim::TrustMarkOwners, &mut claims.owners)
 }
 
 // The member `subordinates`.

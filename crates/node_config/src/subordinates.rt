@@ -1,6 +1,6 @@
 // The entities of which the node is a superior.
 
-ghost use Rattle.std.specs.Prelude.{◌≡◌, ◌&&◌, IfOk, IsTrue, bytes_eq, codes, map, option_map, length, nat_le, not, unwrap_or, false};
+ghost use Rattle.std.specs.Prelude.{◌≡◌, ◌&&◌, IfOk, IsTrue, OnOk, bytes_eq, codes, map, option_map, length, nat_le, not, unwrap_or, false};
 ghost use Rattle.std.specs.List.{AllByRecursion, list_all, list_any};
 ghost use Rattle.fed_json.specs.Forms.{IsWellFormed, members_well_formed, well_formed};
 ghost use Rattle.fed_json.specs.Trees.{each};
@@ -147,32 +147,64 @@ fn subordinate_in(alloc: Global, members: &[Member]) -> Result<SubordinateConfig
     ensures stated { IfOk result IsSubordinate }
 {
     let entity = entity_in(alloc, members)?;
-    let claims = claims_about_in(alloc, members)?;
-    let listing = listing_in(alloc, members)?;
-    Ok(SubordinateConfig {
-        id: entity.anchor,
-        jwks: entity.keys,
-        claims,
-        listing,
-    })
+    let claims = match claims_about_in(alloc, members) {
+        Ok(claims) => claims,
+        Err(fault) => {
+            drop(entity);
+            return Err(fault);
+        },
+    };
+    match listing_in(alloc, members) {
+        Ok(listing) => Ok(SubordinateConfig {
+            id: entity.anchor,
+            jwks: entity.keys,
+            claims,
+            listing,
+        }),
+        Err(fault) => {
+            drop(entity);
+            drop(claims);
+            Err(fault)
+        },
+    }
 }
 
-#[tactic(auto, unfolding(crate::specs::Subordinates::claims_about_in))]
 fn claims_about_in(alloc: Global, members: &[Member]) -> Result<ClaimsAbout, FormFault>
     requires { IsTrue (members_well_formed members.now) }
     ensures claims { Reads result (claims_about_in members.now) }
     ensures stated { IfOk result AreAbout }
 {
-    let metadata = claim_in(alloc, members, Claim::Metadata)?;
-    let policy = claim_in(alloc, members, Claim::MetadataPolicy)?;
-    let policy_crit = claim_in(alloc, members, Claim::MetadataPolicyCrit)?;
-    let constraints = claim_in(alloc, members, Claim::Constraints)?;
-    Ok(ClaimsAbout {
-        metadata,
-        policy,
-        policy_crit,
-        constraints,
-    })
+    let mut claims = ClaimsAbout {
+        metadata: None,
+        policy: None,
+        policy_crit: None,
+        constraints: None,
+    };
+    match fill_in(alloc, members, &mut claims) {
+        Ok(()) => Ok(claims),
+        Err(fault) => {
+            drop(claims);
+            Err(fault)
+        },
+    }
+}
+
+// Puts each claim that the members set in its place.
+#[tactic(auto, unfolding(crate::specs::Subordinates::claims_about_in))]
+fn fill_in(alloc: Global, members: &[Member], claims: &mut ClaimsAbout) -> Result<(), FormFault>
+    requires { IsTrue (members_well_formed members.now) }
+    ensures claims { ReadsBy (λ _. claims.new) result (claims_about_in members.now) }
+    ensures stated { OnOk result (AreAbout claims.new) }
+{
+    claim_in(alloc, members, Claim::Metadata, &mut claims.metadata)?;
+    claim_in(alloc, members, Claim::MetadataPolicy, &mut claims.policy)?;
+    claim_in(
+        alloc,
+        members,
+        Claim::MetadataPolicyCrit,
+        &mut claims.policy_crit,
+    )?;
+    claim_in(alloc, members, Claim::Constraints, &mut claims.constraints)
 }
 
 #[tactic(auto, unfolding(crate::specs::Subordinates::listing_in))]

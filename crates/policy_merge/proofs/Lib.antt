@@ -7,7 +7,6 @@ pub mod MergeLaws
 pub mod MergeWalk
 pub mod MergedTables
 pub mod Neutral
-pub mod Pairs
 pub mod ShapeLaws
 pub mod Shaped
 pub mod Words

@@ -32,13 +32,6 @@ as_default tree = if is_null tree then None else Some tree
 abbrev pub at : {X : Type 0} → (Json → Option X) → Operator → List Member → Option (Option X)
 at shape operator members = optional shape (find (operator_name operator) members)
 
--- two parts, where both are there
-abbrev pub both : {X Y : Type 0} → Option X → Option Y → Option (X × Y)
-both o p = do
-  x ← o
-  y ← p
-  Some (x, y)
-
 -- the operators of a parameter; other members of the object are left unread
 abbrev pub operators_of : List Member → Option Operators
 operators_of members = do
@@ -80,3 +73,9 @@ abbrev pub Reads : {T : Type 0} → Result T PolicyShape → Option T → Type 0
 Reads (Ok value) expected = expected ≡ Some value
 Reads (Err Shape) expected = expected ≡ None
 Reads (Err Memory) expected = Unit {0}
+
+-- the same of an answer that leaves the value in a place
+abbrev pub ReadsInto : {T : Type 0} → T → Result (Unit {0}) PolicyShape → Option T → Type 0
+ReadsInto value (Ok _) expected = expected ≡ Some value
+ReadsInto value (Err Shape) expected = expected ≡ None
+ReadsInto value (Err Memory) expected = Unit {0}

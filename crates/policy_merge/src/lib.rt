@@ -15,6 +15,7 @@ mod operators;
 mod policy;
 mod read;
 mod scope;
+mod tables;
 
 pub use fault::{PolicyFault, PolicyShape};
 pub use merging::{Parameters, Types, operators_of, parameters_of};

@@ -1,9 +1,9 @@
 // Two policies as one.
 
-ghost use Rattle.std.specs.Prelude.{◌≡◌, ◌||◌, [], IfOk, IsTrue};
+ghost use Rattle.std.specs.Prelude.{◌≡◌, ◌||◌, [], IfOk, IsTrue, OnOk};
 ghost use Rattle.std.specs.Option.{option_copied};
 ghost use Rattle.fed_json.specs.Sets.{same, union_of, intersection_of};
-ghost use Rattle.policy_merge.specs.Policies.{types_formed, parameters_formed};
+ghost use Rattle.policy_merge.specs.Policies.{no_operators, types_formed, parameters_formed};
 ghost use Rattle.policy_merge.specs.Combining.{Gives, if_both};
 ghost use Rattle.policy_merge.specs.Merging.{met, value_or, merged_operators, merging_operators, merging_parameters, merging};
 
@@ -11,6 +11,7 @@ use crate::combining::{clash, conflict};
 use crate::fault::PolicyFault;
 use crate::operator::Operator;
 use crate::operators::Operators;
+use crate::tables::add;
 use fed_base::{Duplicate, Memory, Seq, Text};
 use fed_json::{Json, Named, Sides, intersect, json_equal, union};
 use std::alloc::Global;
@@ -40,8 +41,7 @@ pub(crate) fn merge_types(
             parameters_of(side.upper),
             parameters_of(side.lower),
         )?;
-        let name = side.name.copy(alloc)?;
-        merged.push(Named { name, value })?;
+        add(alloc, &mut merged, side.name, value)?;
     }
     Ok(merged)
 }
@@ -67,6 +67,24 @@ fn merge_parameters(
     ensures { Gives result (merging_parameters entity_type.now upper.now lower.now) }
 {
     let none = Operators::none();
+    let merged = merge_sides(alloc, entity_type, &none, upper, lower);
+    drop(none);
+    merged
+}
+
+// Parameter by parameter, with no operators for one that a side hasn't.
+fn merge_sides(
+    alloc: Global,
+    entity_type: &Text,
+    none: &Operators,
+    upper: &[Named<Operators>],
+    lower: &[Named<Operators>],
+) -> Result<Parameters, PolicyFault>
+    requires none { none.now ≡ no_operators }
+    requires upper { IsTrue (parameters_formed upper.now) }
+    requires lower { IsTrue (parameters_formed lower.now) }
+    ensures { Gives result (merging_parameters entity_type.now upper.now lower.now) }
+{
     let mut merged = Seq::new(alloc);
     let mut sides = Sides { upper, lower };
     while let Some(side) = sides.next() {
@@ -74,11 +92,10 @@ fn merge_parameters(
             alloc,
             entity_type,
             side.name,
-            operators_of(side.upper, &none),
-            operators_of(side.lower, &none),
+            operators_of(side.upper, none),
+            operators_of(side.lower, none),
         )?;
-        let name = side.name.copy(alloc)?;
-        merged.push(Named { name, value })?;
+        add(alloc, &mut merged, side.name, value)?;
     }
     Ok(merged)
 }
@@ -124,9 +141,16 @@ fn merge_operators(
         ));
     }
     let merged = all_operators(alloc, upper, lower)?;
-    match clash(alloc, parameter, &merged)? {
-        Some((first, second)) => Err(conflict(alloc, entity_type, parameter, first, second)),
-        None => Ok(merged),
+    match clash(alloc, parameter, &merged) {
+        Ok(None) => Ok(merged),
+        Ok(Some((first, second))) => {
+            drop(merged);
+            Err(conflict(alloc, entity_type, parameter, first, second))
+        },
+        Err(Memory) => {
+            drop(merged);
+            Err(PolicyFault::Memory)
+        },
     }
 }
 
@@ -142,60 +166,33 @@ fn agree(upper: &Option<Json>, lower: &Option<Json>) -> bool
 fn all_operators(alloc: Global, upper: &Operators, lower: &Operators) -> Result<Operators, Memory>
     ensures { IfOk result (λ merged. merged ≡ merged_operators upper.now lower.now) }
 {
-    let (value, default) = values(alloc, upper, lower)?;
-    let (add, superset_of) = joined(alloc, upper, lower)?;
-    let (one_of, subset_of) = common(alloc, upper, lower)?;
-    Ok(Operators {
-        value,
-        add,
-        default,
-        one_of,
-        subset_of,
-        superset_of,
-        essential: required(upper.essential, lower.essential),
-    })
+    let mut merged = Operators::none();
+    match fill_in(alloc, upper, lower, &mut merged) {
+        Ok(()) => Ok(merged),
+        Err(Memory) => {
+            drop(merged);
+            Err(Memory)
+        },
+    }
 }
 
-// `value` and `default` of both.
-fn values(
+// Puts each operator of both in its place.
+fn fill_in(
     alloc: Global,
     upper: &Operators,
     lower: &Operators,
-) -> Result<(Option<Json>, Option<Json>), Memory>
-    ensures value { IfOk result (λ values. values.0 ≡ met (λ u l. u) upper.now.value lower.now.value) }
-    ensures default { IfOk result (λ values. values.1 ≡ met (λ u l. u) upper.now.default lower.now.default) }
+    merged: &mut Operators,
+) -> Result<(), Memory>
+    ensures { OnOk result (merged.new ≡ merged_operators upper.now lower.now) }
 {
-    let value = upper_first(alloc, &upper.value, &lower.value)?;
-    let default = upper_first(alloc, &upper.default, &lower.default)?;
-    Ok((value, default))
-}
-
-// `add` and `superset_of` of both, whose lists are joined.
-fn joined(
-    alloc: Global,
-    upper: &Operators,
-    lower: &Operators,
-) -> Result<(Option<Seq<Json>>, Option<Seq<Json>>), Memory>
-    ensures add { IfOk result (λ lists. lists.0 ≡ met union_of upper.now.add lower.now.add) }
-    ensures superset_of { IfOk result (λ lists. lists.1 ≡ met union_of upper.now.superset_of lower.now.superset_of) }
-{
-    let add = of_either(alloc, &upper.add, &lower.add)?;
-    let superset_of = of_either(alloc, &upper.superset_of, &lower.superset_of)?;
-    Ok((add, superset_of))
-}
-
-// `one_of` and `subset_of` of both, of whose lists the common values stay.
-fn common(
-    alloc: Global,
-    upper: &Operators,
-    lower: &Operators,
-) -> Result<(Option<Seq<Json>>, Option<Seq<Json>>), Memory>
-    ensures one_of { IfOk result (λ lists. lists.0 ≡ met intersection_of upper.now.one_of lower.now.one_of) }
-    ensures subset_of { IfOk result (λ lists. lists.1 ≡ met intersection_of upper.now.subset_of lower.now.subset_of) }
-{
-    let one_of = of_both(alloc, &upper.one_of, &lower.one_of)?;
-    let subset_of = of_both(alloc, &upper.subset_of, &lower.subset_of)?;
-    Ok((one_of, subset_of))
+    merged.value = upper_first(alloc, &upper.value, &lower.value)?;
+    merged.default = upper_first(alloc, &upper.default, &lower.default)?;
+    merged.add = of_either(alloc, &upper.add, &lower.add)?;
+    merged.superset_of = of_either(alloc, &upper.superset_of, &lower.superset_of)?;
+    merged.one_of = of_both(alloc, &upper.one_of, &lower.one_of)?;
+    merged.subset_of = of_both(alloc, &upper.subset_of, &lower.subset_of)?;
+    merged.essential = required(upper.essential, lower.essential);
+    Ok(())
 }
 
 fn upper_first(

@@ -1,6 +1,6 @@
 // The operators of one parameter.
 
-ghost use Rattle.std.specs.Prelude.{◌≡◌, IfOk};
+ghost use Rattle.std.specs.Prelude.{◌≡◌, OnOk};
 ghost use Rattle.policy_merge.specs.Policies.{no_operators};
 
 use fed_base::{Duplicate, Memory, Seq};
@@ -45,27 +45,34 @@ impl Operators {
 
 impl Duplicate for Operators {
     fn copy(&self, alloc: Global) -> Result<Self, Memory> {
-        let (value, default) = copies(alloc, &self.value, &self.default)?;
-        let (add, superset_of) = copies(alloc, &self.add, &self.superset_of)?;
-        let (one_of, subset_of) = copies(alloc, &self.one_of, &self.subset_of)?;
-        Ok(Operators {
-            value,
-            add,
-            default,
-            one_of,
-            subset_of,
-            superset_of,
-            essential: self.essential,
-        })
+        let mut copy = Operators::none();
+        match copy_into(alloc, self, &mut copy) {
+            Ok(()) => Ok(copy),
+            Err(Memory) => {
+                drop(copy);
+                Err(Memory)
+            },
+        }
     }
 }
 
-// Copies of two, so that few values live where a copy fails.
-fn copies<T: Duplicate + Drop>(alloc: Global, a: &T, b: &T) -> Result<(T, T), Memory>
-    ensures first { IfOk result (λ copies. copies.0 ≡ a.now) }
-    ensures second { IfOk result (λ copies. copies.1 ≡ b.now) }
+// Puts a copy of each operator in its place.
+fn copy_into(alloc: Global, operators: &Operators, copy: &mut Operators) -> Result<(), Memory>
+    ensures { OnOk result (copy.new ≡ operators.now) }
 {
-    let a = a.copy(alloc)?;
-    let b = b.copy(alloc)?;
-    Ok((a, b))
+    copy_to(alloc, &operators.value, &mut copy.value)?;
+    copy_to(alloc, &operators.add, &mut copy.add)?;
+    copy_to(alloc, &operators.default, &mut copy.default)?;
+    copy_to(alloc, &operators.one_of, &mut copy.one_of)?;
+    copy_to(alloc, &operators.subset_of, &mut copy.subset_of)?;
+    copy_to(alloc, &operators.superset_of, &mut copy.superset_of)?;
+    copy.essential = operators.essential;
+    Ok(())
+}
+
+fn copy_to<T: Duplicate + Drop>(alloc: Global, value: &T, place: &mut T) -> Result<(), Memory>
+    ensures { OnOk result (place.new ≡ value.now) }
+{
+    *place = value.copy(alloc)?;
+    Ok(())
 }

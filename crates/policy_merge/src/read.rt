@@ -4,12 +4,13 @@ ghost use Rattle.std.specs.Prelude.{◌≡◌, Option, Some};
 ghost use Rattle.std.specs.Option.{option_copied};
 ghost use Rattle.fed_json.specs.Trees.{as_list, find as value_at};
 ghost use Rattle.fed_json.specs.declared.tree.Json.{Json as Tree};
-ghost use Rattle.policy_merge.specs.Shapes.{Reads, at, as_default, as_truth, both, operators_shape, operators_of, table_of, table_shape};
+ghost use Rattle.policy_merge.specs.Shapes.{Reads, ReadsInto, at, as_default, as_truth, operators_shape, operators_of, table_of, table_shape};
 ghost use Rattle.policy_merge.specs.Names.{operator_name};
 
 use crate::fault::PolicyShape;
 use crate::operator::Operator;
 use crate::operators::Operators;
+use crate::tables::add;
 use fed_base::{Duplicate, Seq};
 use fed_json::{Json, Member, Named, find};
 use std::alloc::Global;
@@ -43,8 +44,7 @@ fn table<T: FromTree + Drop>(
     let mut table = Seq::new(alloc);
     for member in members {
         let value = T::from_tree(alloc, &member.value)?;
-        let name = member.name.copy(alloc)?;
-        table.push(Named { name, value })?;
+        add(alloc, &mut table, &member.name, value)?;
     }
     Ok(table)
 }
@@ -64,51 +64,33 @@ impl FromTree for Operators {
 fn operators(alloc: Global, members: &[Member]) -> Result<Operators, PolicyShape>
     ensures { Reads result (operators_of members.now) }
 {
-    let (value, add) = value_and_add(alloc, members)?;
-    let (default, one_of) = default_and_one_of(alloc, members)?;
-    let (subset_of, superset_of) = subset_of_and_superset_of(alloc, members)?;
-    Ok(Operators {
-        value,
-        add,
-        default,
-        one_of,
-        subset_of,
-        superset_of,
-        essential: essential(members)?,
-    })
+    let mut operators = Operators::none();
+    match fill_in(alloc, members, &mut operators) {
+        Ok(()) => Ok(operators),
+        Err(fault) => {
+            drop(operators);
+            Err(fault)
+        },
+    }
 }
 
-fn value_and_add(
-    alloc: Global,
-    members: &[Member],
-) -> Result<(Option<Json>, Option<Seq<Json>>), PolicyShape>
-    ensures { Reads result (both (at Some Operator.Value members.now) (at as_list Operator.Add members.now)) }
+// Puts each operator that the members give in its place.
+fn fill_in(alloc: Global, members: &[Member], operators: &mut Operators) -> Result<(), PolicyShape>
+    ensures { ReadsInto operators.new result (operators_of members.now) }
 {
-    let value = value(alloc, members)?;
-    let add = list(alloc, members, Operator::Add)?;
-    Ok((value, add))
-}
-
-fn default_and_one_of(
-    alloc: Global,
-    members: &[Member],
-) -> Result<(Option<Json>, Option<Seq<Json>>), PolicyShape>
-    ensures { Reads result (both (at as_default Operator.Default members.now) (at as_list Operator.OneOf members.now)) }
-{
-    let default = default(alloc, members)?;
-    let one_of = list(alloc, members, Operator::OneOf)?;
-    Ok((default, one_of))
-}
-
-fn subset_of_and_superset_of(
-    alloc: Global,
-    members: &[Member],
-) -> Result<(Option<Seq<Json>>, Option<Seq<Json>>), PolicyShape>
-    ensures { Reads result (both (at as_list Operator.SubsetOf members.now) (at as_list Operator.SupersetOf members.now)) }
-{
-    let subset_of = list(alloc, members, Operator::SubsetOf)?;
-    let superset_of = list(alloc, members, Operator::SupersetOf)?;
-    Ok((subset_of, superset_of))
+    value(alloc, members, &mut operators.value)?;
+    list(alloc, members, Operator::Add, &mut operators.add)?;
+    default(alloc, members, &mut operators.default)?;
+    list(alloc, members, Operator::OneOf, &mut operators.one_of)?;
+    list(alloc, members, Operator::SubsetOf, &mut operators.subset_of)?;
+    list(
+        alloc,
+        members,
+        Operator::SupersetOf,
+        &mut operators.superset_of,
+    )?;
+    operators.essential = essential(members)?;
+    Ok(())
 }
 
 fn given<'a>(members: &'a [Member], operator: Operator) -> Option<&'a Json>
@@ -117,37 +99,41 @@ fn given<'a>(members: &'a [Member], operator: Operator) -> Option<&'a Json>
     find(members, operator.name().as_bytes())
 }
 
-fn value(alloc: Global, members: &[Member]) -> Result<Option<Json>, PolicyShape>
-    ensures { Reads result (at Some Operator.Value members.now) }
+fn value(alloc: Global, members: &[Member], place: &mut Option<Json>) -> Result<(), PolicyShape>
+    ensures { ReadsInto place.new result (at Some Operator.Value members.now) }
 {
-    match given(members, Operator::Value) {
-        Some(tree) => Ok(Some(tree.copy(alloc)?)),
-        None => Ok(None),
-    }
+    *place = match given(members, Operator::Value) {
+        Some(tree) => Some(tree.copy(alloc)?),
+        None => None,
+    };
+    Ok(())
 }
 
-fn default(alloc: Global, members: &[Member]) -> Result<Option<Json>, PolicyShape>
-    ensures { Reads result (at as_default Operator.Default members.now) }
+fn default(alloc: Global, members: &[Member], place: &mut Option<Json>) -> Result<(), PolicyShape>
+    ensures { ReadsInto place.new result (at as_default Operator.Default members.now) }
 {
-    match given(members, Operator::Default) {
-        Some(Json::Null) => Err(PolicyShape::Shape),
-        Some(tree) => Ok(Some(tree.copy(alloc)?)),
-        None => Ok(None),
-    }
+    *place = match given(members, Operator::Default) {
+        Some(Json::Null) => return Err(PolicyShape::Shape),
+        Some(tree) => Some(tree.copy(alloc)?),
+        None => None,
+    };
+    Ok(())
 }
 
 fn list(
     alloc: Global,
     members: &[Member],
     operator: Operator,
-) -> Result<Option<Seq<Json>>, PolicyShape>
-    ensures { Reads result (at as_list operator members.now) }
+    place: &mut Option<Seq<Json>>,
+) -> Result<(), PolicyShape>
+    ensures { ReadsInto place.new result (at as_list operator members.now) }
 {
-    match given(members, operator) {
-        Some(Json::List(items)) => Ok(Some(items.copy(alloc)?)),
-        Some(_) => Err(PolicyShape::Shape),
-        None => Ok(None),
-    }
+    *place = match given(members, operator) {
+        Some(Json::List(items)) => Some(items.copy(alloc)?),
+        Some(_) => return Err(PolicyShape::Shape),
+        None => None,
+    };
+    Ok(())
 }
 
 fn essential(members: &[Member]) -> Result<Option<bool>, PolicyShape>

@@ -3,6 +3,7 @@ pub mod ConditionLaws
 pub mod CountLaws
 pub mod DelegationLaws
 pub mod GrammarLaws
+pub mod GrantLaws
 pub mod Laws
 pub mod OrderLaws
 pub mod PayloadLaws

@@ -1,5 +1,5 @@
 -- The tree of an answer has a text, and is read back as the answer.
-use Rattle.std.proofs.Common.{◌≡◌, ◌<◌, ◌^◌, ℕ, pos, List, [], ◌∷◌, ◌++◌, codes, true, not, Some, Result, Ok, Err, IfOk, refl, sym, ap, ◌∙◌, subst, rules}
+use Rattle.std.proofs.Common.{◌≡◌, ◌<◌, ◌^◌, ℕ, pos, List, [], ◌∷◌, ◌++◌, codes, true, not, Some, Result, Ok, Err, IfOk, OnOk, refl, sym, ap, ◌∙◌, append_assoc, subst, rules}
 use Rattle.std.proofs.lemmas.Bool.{lt-ltb}
 use Rattle.std.proofs.lemmas.Str.{is_utf8-from_IsUtf8}
 use Rattle.std.specs.Str.{IsUtf8}
@@ -67,15 +67,18 @@ tree_read a iss small c typed payload = status-only c a (record {
 })
 
 -- the members that were added one after the other
-pub four-added : (empty one two three four : List Member) (a b c d : Member) → empty ≡ [] → one ≡ empty ++ a ∷ [] → two ≡ one ++ b ∷ [] → three ≡ two ++ c ∷ [] → four ≡ three ++ d ∷ []
-    → four ≡ a ∷ b ∷ c ∷ d ∷ []
-four-added empty one two three four a b c d none first second third fourth =
-    fourth ∙ ap (λ ms. ms ++ d ∷ []) (third ∙ ap (λ ms. ms ++ c ∷ []) (second ∙ ap (λ ms. ms ++ b ∷ []) (first ∙ ap (λ ms. ms ++ a ∷ []) none)))
+pub three-added : {X E : Type 0} (r : Result X E) (start one two all : List Member) (a b c : Member) → one ≡ start ++ a ∷ [] → two ≡ one ++ b ∷ [] → OnOk r (all ≡ two ++ c ∷ [])
+    → OnOk r (all ≡ start ++ a ∷ b ∷ c ∷ [])
+three-added (Ok x) start one two all a b c first second third =
+    third ∙ ap (λ ms. ms ++ c ∷ []) (second ∙ ap (λ ms. ms ++ b ∷ []) first) ∙ append_assoc (start ++ a ∷ []) (b ∷ []) (c ∷ []) ∙ append_assoc start (a ∷ []) (b ∷ c ∷ [])
+three-added (Err e) start one two all a b c first second third = tt
 
-pub tree_made : (x : StatusAnswer) (all : List Member) (a b c d : Member) → all ≡ a ∷ b ∷ c ∷ d ∷ [] → a ≡ number_member (codes "iat") x.iat → b ≡ text_member (codes "iss") x.iss
-    → c ≡ text_member (codes "status") (status_word x.status) → d ≡ text_member (codes "trust_mark") x.trust_mark → Object all ≡ status_tree x
+pub tree_made : (x : StatusAnswer) (empty one all : List Member) (word : List ℕ) → empty ≡ [] → one ≡ empty ++ number_member (codes "iat") x.iat ∷ []
+    → all ≡ one ++ text_member (codes "iss") x.iss ∷ text_member (codes "status") word ∷ text_member (codes "trust_mark") x.trust_mark ∷ [] → word ≡ status_word x.status → Object all ≡ status_tree x
 unfolding status_tree
-tree_made x all a b c d added timed from said about = ap Object added ∙ (λ i. Object (timed i ∷ from i ∷ said i ∷ about i ∷ []))
+tree_made x empty one all word none timed rest said =
+    ap Object (rest ∙ (λ i. (timed ∙ ap (λ ms. ms ++ number_member (codes "iat") x.iat ∷ []) none) i
+    ++ text_member (codes "iss") x.iss ∷ text_member (codes "status") (said i) ∷ text_member (codes "trust_mark") x.trust_mark ∷ []))
 
 -- ---- what is said of the tree that is answered
 

@@ -7,11 +7,12 @@ ghost use Rattle.entity_statement.specs.Told.{told};
 ghost use Rattle.trust_mark.specs.Conditions.{is_for};
 ghost use Rattle.trust_mark.specs.Counts.{counted, delegation_tests};
 ghost use Rattle.trust_mark.specs.Marks.{IsDelegated, owner_of};
+ghost use Rattle.trust_mark.specs.Stages.{Carries};
 
 use crate::conditions::{is_current, owner_of};
 use crate::mark::Mark;
 use crate::sealing::is_sealed;
-use crate::signed::signed_delegation;
+use crate::signed::{SignedMark, signed_delegation};
 use entity_statement::{Owner, Statement};
 use fed_base::{Ledger, Memory, Steps};
 use std::alloc::Global;
@@ -55,13 +56,38 @@ fn is_delegated_by<L: Ledger>(
     let Some(text) = &mark.delegation else {
         return Ok(false);
     };
-    let Some(signed) = signed_delegation(alloc, text.as_slice())? else {
-        return Ok(false);
-    };
-    if !is_for(&signed.mark, mark, owner, t) {
+    match signed_delegation(alloc, text.as_slice())? {
+        Some(delegation) => {
+            let good = is_good(alloc, &delegation, mark, owner, t, steps);
+            // as one value, so that the proof doesn't follow each of its parts
+            drop(delegation);
+            good
+        }
+        None => Ok(false),
+    }
+}
+
+// Whether the mark's delegation is for it, and sealed by a key of the owner's.
+fn is_good<L: Ledger>(
+    alloc: Global,
+    delegation: &SignedMark,
+    mark: &Mark,
+    owner: &Owner,
+    t: u64,
+    steps: &mut Steps<L>,
+) -> Result<bool, Memory>
+    requires { Carries mark.now delegation.now }
+    ensures delegated { IfOk result (λ delegated. IsTrue delegated
+        ↔ IsDelegated mark.now (told_owner owner.now) t) }
+    ensures counted { MatchResult result
+        (λ _. L.count steps.new.ledger
+        ≡ counted (delegation_tests mark.now t (told_owner owner.now)) (L.count steps.old.ledger))
+        (λ _. L.count steps.new.ledger ≡ L.count steps.old.ledger) }
+{
+    if !is_for(&delegation.mark, mark, owner, t) {
         return Ok(false);
     }
-    is_sealed(alloc, &signed.compact, &owner.jwks, steps)
+    is_sealed(alloc, &delegation.compact, &owner.jwks, steps)
 }
 
 // Whether the delegation is a current one from the owner to the mark's issuer for the mark's type.

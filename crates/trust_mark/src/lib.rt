@@ -5,10 +5,12 @@
 //! of each mark's issuer ([`verify_mark`]), read marks of their own, and answer and read what has become of a mark.
 #![tactic(auto)]
 
+mod both;
 mod claims;
 mod conditions;
 mod delegation;
 mod fault;
+mod grant;
 mod mark;
 mod payload;
 mod sealing;

@@ -5,8 +5,10 @@ ghost use Rattle.trust_mark.specs.Claims.{Gives, delegation_claims, delegation_i
 ghost use Rattle.trust_mark.specs.Grammar.{IsDelegation, IsMark};
 ghost use Rattle.trust_mark.specs.declared.mark.Mark.{Mark as Claimed};
 
-use crate::claims::{identifier_at, moment_at, moment_if_there, text_at, text_if_there};
+use crate::both::both;
+use crate::claims::{moment_at, moment_if_there, text_if_there};
 use crate::fault::MarkFault;
+use crate::grant::{grant_in, grant_of};
 use crate::payload::payload;
 use entity_id::EntityId;
 use fed_base::{Duplicate, Memory, Text};
@@ -58,7 +60,7 @@ impl Mark {
         };
         let claims = claims.as_slice();
         let mark = delegation_in(alloc, claims)?;
-        let delegation = text_if_there(alloc, claims, b"delegation")?;
+        let (mark, delegation) = both(mark, text_if_there(alloc, claims, b"delegation"))?;
         Ok(Mark {
             iss: mark.iss,
             sub: mark.sub,
@@ -114,34 +116,16 @@ pub fn delegation_of_claims(alloc: Global, claims: &Json) -> Result<Mark, MarkFa
 fn delegation_in(alloc: Global, claims: &[Member]) -> Result<Mark, MarkFault>
     ensures { Gives result (delegation_in claims.now) }
 {
-    let iss = identifier_at(alloc, claims, b"iss")?;
-    let sub = identifier_at(alloc, claims, b"sub")?;
-    let mark_type = text_at(alloc, claims, b"trust_mark_type")?;
-    let iat = moment_at(alloc, claims, b"iat")?;
-    let exp = moment_if_there(alloc, claims, b"exp")?;
-    Ok(Mark {
-        iss,
-        sub,
-        mark_type,
-        iat,
-        exp,
-        delegation: None,
-    })
+    let grant = grant_in(alloc, claims)?;
+    let (grant, iat) = both(grant, moment_at(alloc, claims, b"iat"))?;
+    let (grant, exp) = both(grant, moment_if_there(alloc, claims, b"exp"))?;
+    Ok(grant.marked(iat, exp, None))
 }
 
 impl Duplicate for Mark {
     fn copy(&self, alloc: Global) -> Result<Self, Memory> {
-        let iss = self.iss.copy(alloc)?;
-        let sub = self.sub.copy(alloc)?;
-        let mark_type = self.mark_type.copy(alloc)?;
-        let delegation = self.delegation.copy(alloc)?;
-        Ok(Mark {
-            iss,
-            sub,
-            mark_type,
-            iat: self.iat,
-            exp: self.exp,
-            delegation,
-        })
+        let grant = grant_of(alloc, self)?;
+        let (grant, delegation) = both(grant, self.delegation.copy(alloc))?;
+        Ok(grant.marked(self.iat, self.exp, delegation))
     }
 }

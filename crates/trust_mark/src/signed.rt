@@ -5,8 +5,9 @@ ghost use Rattle.std.specs.Result.{result_ok};
 ghost use Rattle.jws_form.specs.Compact.{IsCompact};
 ghost use Rattle.jws_form.specs.Splitting.{splitting};
 ghost use Rattle.trust_mark.specs.Marks.{delegation_of, mark_of};
-ghost use Rattle.trust_mark.specs.Stages.{IsReading};
+ghost use Rattle.trust_mark.specs.Stages.{IsReading, Keeps};
 
+use crate::both::both;
 use crate::fault::MarkFault;
 use crate::mark::{Mark, read_delegation};
 use fed_base::Memory;
@@ -25,13 +26,12 @@ pub(crate) struct SignedMark {
 pub(crate) fn signed_mark(alloc: Global, text: &[u8]) -> Result<Option<SignedMark>, Memory>
     ensures { IfOk result (IsReading mark_of text.now) }
 {
-    let Some(compact) = parts(alloc, text)? else {
-        return Ok(None);
-    };
-    match Mark::read(alloc, &compact) {
-        Ok(mark) => Ok(Some(SignedMark { compact, mark })),
-        Err(MarkFault::Memory) => Err(Memory),
-        Err(_) => Ok(None),
+    match parts(alloc, text)? {
+        Some(compact) => {
+            let read = Mark::read(alloc, &compact);
+            signed(compact, read)
+        }
+        None => Ok(None),
     }
 }
 
@@ -40,11 +40,21 @@ pub(crate) fn signed_mark(alloc: Global, text: &[u8]) -> Result<Option<SignedMar
 pub(crate) fn signed_delegation(alloc: Global, text: &[u8]) -> Result<Option<SignedMark>, Memory>
     ensures { IfOk result (IsReading delegation_of text.now) }
 {
-    let Some(compact) = parts(alloc, text)? else {
-        return Ok(None);
-    };
-    match read_delegation(alloc, &compact) {
-        Ok(mark) => Ok(Some(SignedMark { compact, mark })),
+    match parts(alloc, text)? {
+        Some(compact) => {
+            let read = read_delegation(alloc, &compact);
+            signed(compact, read)
+        }
+        None => Ok(None),
+    }
+}
+
+// What was read with the parts that it was read from, unless memory was wanting.
+fn signed(compact: Compact, read: Result<Mark, MarkFault>) -> Result<Option<SignedMark>, Memory>
+    ensures { Keeps compact read result }
+{
+    match both(compact, read) {
+        Ok((compact, mark)) => Ok(Some(SignedMark { compact, mark })),
         Err(MarkFault::Memory) => Err(Memory),
         Err(_) => Ok(None),
     }

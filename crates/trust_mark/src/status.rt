@@ -1,16 +1,18 @@
 // Answers on the status of a trust mark.
 
-ghost use Rattle.std.specs.Prelude.{◌≡◌, ◌<◌, ◌^◌, IfOk, Ok, Some};
+ghost use Rattle.std.specs.Prelude.{◌≡◌, ◌<◌, ◌^◌, ◌++◌, ◌∷◌, [], codes, IfOk, OnOk, Ok, Some};
 ghost use Rattle.std.specs.Str.{IsUtf8};
 ghost use Rattle.fed_base.specs.Moments.{moment_limit};
 ghost use Rattle.fed_json.specs.Forms.{IsWhole};
+ghost use Rattle.fed_json.specs.Members.{text_member};
 ghost use Rattle.fed_json.specs.Reading.{tree_in};
 ghost use Rattle.jws_form.specs.declared.compact.Compact.{Compact as Parts};
-ghost use Rattle.trust_mark.specs.Claims.{Gives, status_at, status_claims, status_of_tree, status_type_name};
+ghost use Rattle.trust_mark.specs.Claims.{Gives, status_answer_in, status_at, status_claims, status_of_tree, status_type_name};
 ghost use Rattle.trust_mark.specs.Grammar.{IsStatusAnswer};
 ghost use Rattle.trust_mark.specs.Statuses.{answer_of, number_member, status_of_word, status_tree, status_word};
 ghost use Rattle.trust_mark.specs.declared.status.StatusAnswer.{StatusAnswer as Claimed};
 
+use crate::both::both;
 use crate::claims::{formed, identifier_at, moment_at, text_at};
 use crate::fault::MarkFault;
 use crate::payload::payload;
@@ -117,21 +119,51 @@ fn answer_tree(
     ensures bounded { iat < 2 ^ 64 }
 {
     let mut members = Seq::new(alloc);
-    members.push(number_member(alloc, b"iat", iat)?)?;
-    members.push(text_member(alloc, b"iss", iss)?)?;
-    members.push(text_member(alloc, b"status", status.word())?)?;
-    members.push(text_member(alloc, b"trust_mark", trust_mark)?)?;
+    add_number(alloc, &mut members, b"iat", iat)?;
+    add_texts(alloc, &mut members, iss, status.word(), trust_mark)?;
     Ok(Json::Object(members))
 }
 
-// A member of that name that is a number.
-fn number_member(alloc: Global, name: &[u8], number: u64) -> Result<Member, Memory>
-    ensures { IfOk result (λ member. member ≡ number_member name.now number) }
+// Adds the claims that are texts.
+fn add_texts(
+    alloc: Global,
+    members: &mut Seq<Member>,
+    iss: &[u8],
+    status: &[u8],
+    trust_mark: &[u8],
+) -> Result<(), Memory>
+    ensures { OnOk result (members.new ≡ members.old ++ text_member (codes "iss") iss.now
+        ∷ text_member (codes "status") status.now ∷ text_member (codes "trust_mark") trust_mark.now ∷ []) }
 {
-    Ok(Member {
-        name: Text::of(alloc, name)?,
-        value: Json::Int(number as i128),
-    })
+    add_text(alloc, members, b"iss", iss)?;
+    add_text(alloc, members, b"status", status)?;
+    add_text(alloc, members, b"trust_mark", trust_mark)
+}
+
+// Adds a member of that name that is a text.
+fn add_text(
+    alloc: Global,
+    members: &mut Seq<Member>,
+    name: &[u8],
+    text: &[u8],
+) -> Result<(), Memory>
+    ensures { OnOk result (members.new ≡ members.old ++ text_member name.now text.now ∷ []) }
+{
+    members.push(text_member(alloc, name, text)?)
+}
+
+// Adds a member of that name that is a number.
+fn add_number(
+    alloc: Global,
+    members: &mut Seq<Member>,
+    name: &[u8],
+    number: u64,
+) -> Result<(), Memory>
+    ensures { OnOk result (members.new ≡ members.old ++ number_member name.now number ∷ []) }
+{
+    let name = Text::of(alloc, name)?;
+    let value = Json::Int(number as i128);
+    members.push(Member { name, value })
 }
 
 // The answer in a text of its type.
@@ -144,18 +176,25 @@ fn answer_in_text(alloc: Global, compact: &Compact) -> Result<StatusAnswer, Mark
 }
 
 // The answer that a tree claims.
-#[tactic(auto, unfolding(crate::specs::Claims::status_of_tree, crate::specs::Claims::status_answer_in))]
+#[tactic(auto, unfolding(crate::specs::Claims::status_of_tree))]
 fn answer_of_claims(alloc: Global, claims: &Json) -> Result<StatusAnswer, MarkFault>
     ensures { Gives result (status_of_tree claims.now) }
 {
-    let Json::Object(claims) = claims else {
-        return Err(MarkFault::Tree);
-    };
-    let claims = claims.as_slice();
+    match claims {
+        Json::Object(claims) => answer_in(alloc, claims.as_slice()),
+        _ => Err(MarkFault::Tree),
+    }
+}
+
+// The answer that claims say.
+#[tactic(auto, unfolding(crate::specs::Claims::status_answer_in))]
+fn answer_in(alloc: Global, claims: &[Member]) -> Result<StatusAnswer, MarkFault>
+    ensures { Gives result (status_answer_in claims.now) }
+{
     let iss = identifier_at(alloc, claims, b"iss")?;
-    let iat = moment_at(alloc, claims, b"iat")?;
-    let trust_mark = text_at(alloc, claims, b"trust_mark")?;
-    let status = status_in(alloc, claims)?;
+    let (iss, iat) = both(iss, moment_at(alloc, claims, b"iat"))?;
+    let (iss, trust_mark) = both(iss, text_at(alloc, claims, b"trust_mark"))?;
+    let ((iss, trust_mark), status) = both((iss, trust_mark), status_in(alloc, claims))?;
     Ok(StatusAnswer {
         iss,
         iat,
@@ -176,7 +215,7 @@ fn status_in(alloc: Global, claims: &[Member]) -> Result<MarkStatus, MarkFault>
 impl Duplicate for StatusAnswer {
     fn copy(&self, alloc: Global) -> Result<Self, Memory> {
         let iss = self.iss.copy(alloc)?;
-        let trust_mark = self.trust_mark.copy(alloc)?;
+        let (iss, trust_mark) = both(iss, self.trust_mark.copy(alloc))?;
         Ok(StatusAnswer {
             iss,
             iat: self.iat,

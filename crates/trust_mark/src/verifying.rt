@@ -5,6 +5,7 @@ ghost use Rattle.entity_statement.specs.Told.{told};
 ghost use Rattle.entity_statement.specs.Claims.{OwnerClaims};
 ghost use Rattle.trust_mark.specs.Counts.{CountsAtMost, counted, mark_tests};
 ghost use Rattle.trust_mark.specs.Marks.{Case, HasDelegation, IsGood, IsListed, case_of, mark_of, owner_of};
+ghost use Rattle.trust_mark.specs.Stages.{IsReading};
 ghost use Rattle.trust_mark.specs.Verdicts.{HasEnded, IfGood, IsVerdictOn, NeverEnds, is_good};
 ghost use Rattle.trust_mark.specs.declared.mark.Mark.{Mark as Claimed};
 ghost use Rattle.trust_mark.specs.declared.verdict.MarkVerdict.{MarkVerdict as Answer};
@@ -13,7 +14,7 @@ ghost use Rattle.trust_mark.specs.declared.verdict.MarkVerdict.TheVariants.{Good
 use crate::conditions::claims_reason;
 use crate::delegation::is_delegated;
 use crate::sealing::is_sealed;
-use crate::signed::signed_mark;
+use crate::signed::{SignedMark, signed_mark};
 use crate::verdict::{MarkReason, MarkVerdict};
 use entity_id::EntityId;
 use entity_statement::{MarkEntry, Statement};
@@ -74,9 +75,34 @@ fn verified<L: Ledger>(
         (λ _. L.count steps.new.ledger ≡ counted (mark_tests (case_of entry.now leaf.now (told anchor.now) issuer_keys.now.keys t)) (L.count steps.old.ledger))
         (λ _. CountsAtMost (mark_tests (case_of entry.now leaf.now (told anchor.now) issuer_keys.now.keys t)) (L.count steps.old.ledger) (L.count steps.new.ledger)) }
 {
-    let Some(signed) = signed_mark(alloc, entry.text.as_slice())? else {
-        return Ok(MarkVerdict::Bad(MarkReason::Form));
-    };
+    match signed_mark(alloc, entry.text.as_slice())? {
+        Some(signed) => {
+            let verdict = verdict_on(alloc, &signed, entry, leaf, anchor, issuer_keys, t, steps);
+            // as one value, so that the proof doesn't follow each of its parts
+            drop(signed);
+            verdict
+        }
+        None => Ok(MarkVerdict::Bad(MarkReason::Form)),
+    }
+}
+
+// The verdict on the mark that the entry's text reads as.
+fn verdict_on<L: Ledger>(
+    alloc: Global,
+    signed: &SignedMark,
+    entry: &MarkEntry,
+    leaf: &EntityId,
+    anchor: &Statement,
+    issuer_keys: &JwkSet,
+    t: u64,
+    steps: &mut Steps<L>,
+) -> Result<MarkVerdict, Memory>
+    requires { IsReading mark_of entry.now.text (Some signed.now) }
+    ensures verdict { IfOk result (IsVerdictOn (case_of entry.now leaf.now (told anchor.now) issuer_keys.now.keys t)) }
+    ensures counted { MatchResult result
+        (λ _. L.count steps.new.ledger ≡ counted (mark_tests (case_of entry.now leaf.now (told anchor.now) issuer_keys.now.keys t)) (L.count steps.old.ledger))
+        (λ _. CountsAtMost (mark_tests (case_of entry.now leaf.now (told anchor.now) issuer_keys.now.keys t)) (L.count steps.old.ledger) (L.count steps.new.ledger)) }
+{
     if let Some(reason) = claims_reason(&signed.mark, entry, leaf, anchor, t) {
         return Ok(MarkVerdict::Bad(reason));
     }

@@ -1,11 +1,9 @@
-use Rattle.std.proofs.Common.{◌≡◌, rules, subst}
-use Rattle.std.specs.Str.{IsUtf8}
-use Rattle.fed_json.specs.declared.tree.Json.{Object}
-use Rattle.authority_core.specs.Issued.{historical_tree}
-use Rattle.authority_core.proofs.Wholes.{historical_whole}
+use Rattle.authority_core.proofs.Wholes.{historical-tree, historical_whole}
 use Rattle.authority_core.proofs.claims.historical_claims.Goals as goal
+
+pub returns-clause-tree : goal.returns-clause-tree
+returns-clause-tree c = historical-tree c.args.node.now.id c.args.keys c.args.t _ c.push_historical.new.members c.new-members.ensures c.in_ok-push_historical.ensures.members
 
 pub returns-clause-whole : goal.returns-clause-whole
 returns-clause-whole c =
-    let is : Object c.push_tree.new.members ≡ historical_tree c.args.node.now.id c.args.keys c.args.t = search rules in
-    historical_whole _ c.args.node.now.id c.args.keys c.args.t is c.ranges.t.fits (subst IsUtf8 c.text.ensures.text c.text.ensures.utf8) c.requires
+    historical_whole _ c.args.node.now.id c.args.keys c.args.t (returns-clause-tree c) c.ranges.t.fits c.in_ok-push_historical.ensures.issuer c.requires

@@ -9,12 +9,12 @@ invariant_of-result c =
     record {
       issued = c.in_ok-common.ensures.issued;
       ends = c.in_ok-common.ensures.ends;
-      once = c.in_ok-further.ensures.once;
+      once = c.in-Ok.ensures.once;
       parameters =
           ap is_metadata (c.take_metadata.ensures ∙ ap (λ ms. unwrap_or (find (codes "metadata") ms) no_metadata) (sym c.as_slice-2.ensures))
-          ∙ c.in_ok-further.ensures.parameters;
-      names = c.in_ok-further.ensures.names;
-      marks_utf8 = c.in_ok-further.ensures.marks_utf8;
-      issuers_utf8 = c.in_ok-further.ensures.issuers_utf8;
-      owners_utf8 = c.in_ok-further.ensures.owners_utf8;
+          ∙ c.in-Ok.ensures.parameters;
+      names = c.in-Ok.ensures.names;
+      marks_utf8 = c.in-Ok.ensures.marks_utf8;
+      issuers_utf8 = c.in-Ok.ensures.issuers_utf8;
+      owners_utf8 = c.in-Ok.ensures.owners_utf8;
     }

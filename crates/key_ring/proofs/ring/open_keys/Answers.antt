@@ -1,6 +1,6 @@
-use Rattle.std.proofs.Common.{◌∙◌, ap₂, sym}
-use Rattle.key_ring.specs.Rings.{has_key}
-use Rattle.key_ring.proofs.OpenLaws.{opened_next, opened_none}
+use Rattle.std.proofs.Common.{refl}
+use Rattle.std.proofs.lemmas.Result.{err_from_is_err_and}
+use Rattle.key_ring.proofs.OpenLaws.{opened_fault, opened_next, opened_none}
 use Rattle.key_ring.proofs.ring.open_keys.Goals as goal
 
 pub loop-key-init : goal.loop-key-init
@@ -8,5 +8,10 @@ loop-key-init c = opened_none c.new-held.result c.args.keys.now c.new-held.ensur
 
 pub loop-key-preserved : goal.loop-key-preserved
 loop-key-preserved c =
-    opened_next c.loop-key.held c.push.new.self c.args.keys.now c.loop-key.key-index c.in_ok-next.next _ c.loop-key.invariant c.loop-key-test.true c.in_ok-next.ensures
-    (ap₂ has_key (sym (c.as_slice-in-loop-key.ensures ∙ c.kid.ensures)) (sym c.as_slice.ensures) ∙ sym c.has_key.ensures ∙ c.if-has_key.false) c.in_ok-push.ensures.ok
+    let joins = c.in_ok-add_held.ensures in
+    opened_next c.loop-key.held c.add_held.new.held c.args.keys.now c.loop-key.key-index _ _ c.loop-key.invariant c.loop-key-test.true refl joins.0 joins.1
+
+pub returns-in_err-add_held : goal.returns-in_err-add_held
+returns-in_err-add_held c =
+    let p = err_from_is_err_and c.from_residual.result c.from_residual.ensures.1 in
+    rw (p.1, p.2) (opened_fault c.loop-key.held c.args.keys.now c.add_held.new.held c.loop-key.key-index _ _ c.in_err-add_held.field-0.0 c.loop-key.invariant c.loop-key-test.true refl c.in_err-add_held.ensures)

@@ -1,7 +1,9 @@
+use Rattle.std.proofs.Common.{ap, codes, refl}
+use Rattle.fed_json.specs.Members.{text_member}
 use Rattle.key_ring.proofs.RingForms.{revocation-made}
 use Rattle.key_ring.proofs.writing.revocation_tree.Goals as goal
 
 pub returns : goal.returns
 returns c =
-    revocation-made c.new-members.result c.push.new.self c.push-2.new.self c.in_ok-reason_member.field-0 c.in_ok-number_member.field-0 c.args.at c.args.reason
-    c.new-members.ensures c.in_ok-push.ensures.ok c.in_ok-push-2.ensures.ok c.in_ok-reason_member.ensures c.in_ok-number_member.ensures
+    revocation-made c.new-members.result c.add_text.new.members c.add_number.new.members _ _ c.args.at c.args.reason
+    c.new-members.ensures c.in_ok-add_text.ensures c.in_ok-add_number.ensures (ap (text_member (codes "reason")) c.reason_word.ensures) refl

@@ -1,9 +1,9 @@
-use Rattle.std.proofs.Common.{◌≡◌, ◌∙◌, ◌∷◌, ◌++◌, [], map, sym, ap}
+use Rattle.std.proofs.Common.{◌∙◌, ◌∷◌, ◌++◌, [], map, sym, ap}
 use Rattle.std.specs.Option.{option_copied}
 use Rattle.std.proofs.lemmas.Result.{err_from_is_err_and}
 use Rattle.fed_json.specs.Tables.{Side}
 use Rattle.fed_json.specs.declared.named.Named.{Named}
-use Rattle.policy_merge.specs.Policies.{Parameters, named, parameters_formed}
+use Rattle.policy_merge.specs.Policies.{Parameters, parameters_formed}
 use Rattle.policy_merge.specs.Merging.{name_of, type_conflict, merged_type}
 use Rattle.fed_json.proofs.Walks.{map-more, passed-more, passed-found, passed-passes, passed-all}
 use Rattle.policy_merge.proofs.MergedTables.{side_formed, beside-formed}
@@ -38,9 +38,8 @@ loop-side-preserved c =
     let side = c.in-Some.side in
     let s : Side (Named Parameters) (Named Parameters) = record { name = side.name.now; upper = option_copied side.upper; lower = option_copied side.lower } in
     let both = type-ok s c.parameters_of.result.now c.parameters_of-in-Some.result.now c.parameters_of.ensures c.parameters_of-in-Some.ensures c.in_ok-value.value c.in_ok-value.ensures in
-    let item : merged_type s ≡ record { name = c.in_ok-name.name; value = c.in_ok-value.value } = both.1 ∙ ap (λ name. named name c.in_ok-value.value) (sym c.in_ok-name.ensures) in
     passed-more name_of name_of type_conflict (map merged_type) _ _ _ _ _ c.loop-side.invariant s _ _ c.in-Some.ensures.side both.0 _
-    (map-more merged_type s _ _ (c.in_ok-push.ensures.ok ∙ ap (λ x. c.loop-side.merged ++ x ∷ []) (sym item))) c.in-Some.ensures.upper_rises c.in-Some.ensures.lower_rises
+    (map-more merged_type s _ _ (c.in_ok-add.ensures ∙ ap (λ x. c.loop-side.merged ++ x ∷ []) (sym both.1))) c.in-Some.ensures.upper_rises c.in-Some.ensures.lower_rises
 
 pub returns : goal.returns
 returns c = types-merged _ _ _ (passed-all _ _ _ _ _ _ _ _ _ c.loop-side.invariant (rw c.in_default.is at c.next.ensures.side))

@@ -1,5 +1,5 @@
 use Rattle.entity_statement.proofs.Facts.{required-small}
-use Rattle.entity_statement.proofs.parts.read_common.Goals as goal
+use Rattle.entity_statement.proofs.parts.read_validity.Goals as goal
 
 pub returns-clause-issued : goal.returns-clause-issued
 returns-clause-issued c = required-small _ c.args.claims.now c.in_ok-iat.iat c.in_ok-iat.ensures

@@ -1,0 +1,39 @@
+-- Members that were added to an object, one after the other.
+use Rattle.std.proofs.Common.{◌≡◌, ℕ, List, [], ◌∷◌, ◌++◌, codes, Result, Ok, Err, OnOk, ap, ◌∙◌, append_assoc}
+use Rattle.hex.specs.Hex.{encode_lower}
+use Rattle.base64url.specs.Base64url.{base64url}
+use Rattle.fed_json.specs.declared.tree.Json.{Json, Object}
+use Rattle.fed_json.specs.declared.tree.Member.{Member}
+use Rattle.fed_json.specs.Members.{text_member}
+use Rattle.fed_json.specs.Reading.{member_of}
+use Rattle.jws_form.specs.Header.{algorithm}
+use Rattle.jwk_set.specs.Keys.{key_type}
+use Rattle.key_ring.specs.declared.key.RingKey.{RingKey}
+use Rattle.key_ring.specs.Files.{key_tree, number_member, state_tree}
+use Rattle.key_ring.specs.Sets.{plain_members}
+
+-- those of a key's object
+pub key-filled : {X E : Type 0} (r : Result X E) (start one two three all : List Member) (state : Json) (key : RingKey) → start ≡ [] → one ≡ start ++ number_member (codes "exp") key.exp ∷ []
+    → two ≡ one ++ number_member (codes "iat") key.iat ∷ [] → three ≡ two ++ text_member (codes "seeds") (encode_lower key.seeds) ∷ [] → state ≡ state_tree key.state
+    → OnOk r (all ≡ three ++ member_of (codes "state") state ∷ []) → OnOk r (Object all ≡ key_tree key)
+unfolding key_tree
+key-filled (Ok x) start one two three all state key none first second third is last =
+    let most =
+    third ∙ ap (λ ms. ms ++ text_member (codes "seeds") (encode_lower key.seeds) ∷ []) (second ∙ ap (λ ms. ms ++ number_member (codes "iat") key.iat ∷ []) (first ∙ ap (λ ms. ms ++ number_member (codes "exp") key.exp ∷ []) none)) in
+    ap Object (last ∙ (λ i. most i ++ member_of (codes "state") (is i) ∷ []))
+key-filled (Err e) start one two three all state key none first second third is last = tt
+
+-- one member, and those behind it
+behind : (start next rest : List Member) (m : Member) → next ≡ start ++ m ∷ [] → next ++ rest ≡ start ++ m ∷ rest
+behind start next rest m added = ap (λ ms. ms ++ rest) added ∙ append_assoc start (m ∷ []) rest
+
+-- those that each historical key has
+pub plain-added : {X E : Type 0} (r : Result X E) (start one two three four all : List Member) (kid_text kid : List ℕ) (exp : ℕ) (public_text public : List ℕ)
+    → one ≡ start ++ text_member (codes "alg") algorithm ∷ [] → two ≡ one ++ number_member (codes "exp") exp ∷ [] → three ≡ two ++ text_member (codes "kid") kid_text ∷ []
+    → four ≡ three ++ text_member (codes "kty") key_type ∷ [] → kid_text ≡ kid → public_text ≡ base64url public → OnOk r (all ≡ four ++ text_member (codes "pub") public_text ∷ [])
+    → OnOk r (all ≡ start ++ plain_members kid exp public)
+plain-added (Ok x) start one two three four all kid_text kid exp public_text public first second third fourth named keyed last =
+    last ∙ behind three four _ _ fourth ∙ behind two three _ _ third ∙ behind one two _ _ second ∙ behind start one _ _ first
+    ∙ (λ i. start ++ text_member (codes "alg") algorithm ∷ number_member (codes "exp") exp ∷ text_member (codes "kid") (named i) ∷ text_member (codes "kty") key_type
+    ∷ text_member (codes "pub") (keyed i) ∷ [])
+plain-added (Err e) start one two three four all kid_text kid exp public_text public first second third fourth named keyed last = tt
