@@ -20,7 +20,8 @@ use Rattle.chain_check.proofs.NameLaws.{length-claims}
 use Rattle.chain_check.proofs.SignatureLaws.{key_in-compact}
 use Rattle.chain_check.specs.Judging.{AtSeal, IsKnownSeal, IsOfItsText, IsUnknown, IsUntriedFirst, pair_of, seal_keys, seal_place, text_in, texts_of}
 use Rattle.entity_statement.specs.Signed.{IsSplit}
-use Rattle.chain_check.specs.Stages.{FailsUntried, IsKnownFailure, NoTest, claims_in, entry_text, texts_in}
+use Rattle.chain_check.specs.Reading.{claims_in, entry_text, texts_in}
+use Rattle.chain_check.specs.Stages.{FailsUntried, IsKnownFailure, NoTest}
 
 -- ---- one text and the keys of a set
 

@@ -5,6 +5,7 @@ pub mod NameLaws
 pub mod Overrides
 pub mod ReadChains
 pub mod ResolveLaws
+pub mod ScreeningLaws
 pub mod SignatureLaws
 pub mod Told
 pub mod Verdicts

@@ -6,7 +6,7 @@ use Rattle.std.proofs.lemmas.Option.{slice_get-get_or, slice_get-map}
 use Rattle.std.proofs.lemmas.Slice.Eq.{bytes_eq-Decides}
 use Rattle.entity_statement.specs.declared.signed.SignedStatement.{SignedStatement}
 use Rattle.chain_check.specs.Names.{issuer_at, subject_at}
-use Rattle.chain_check.specs.Stages.{claims_in, entry_claims}
+use Rattle.chain_check.specs.Reading.{claims_in, entry_claims}
 
 -- the statement at a place
 module _ (entries : List SignedStatement) (j : ℕ) (d : SignedStatement) (short : j < length entries) where

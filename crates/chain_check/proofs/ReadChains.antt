@@ -8,7 +8,7 @@ use Rattle.entity_statement.specs.declared.signed.SignedStatement.{SignedStateme
 use Rattle.entity_statement.specs.Signed.{IsReading, IsSplit, statement_of}
 use Rattle.fed_base.specs.Places.{HoldsBelow}
 use Rattle.chain_check.specs.Chains.{Texts, ReadsAt, LosesForm, max_statements, statements_of}
-use Rattle.chain_check.specs.Stages.{AreRead, claims_in, entry_claims, entry_text, texts_in}
+use Rattle.chain_check.specs.Reading.{AreRead, claims_in, entry_claims, entry_text, texts_in}
 
 -- the first j texts are read
 pub record ReadUpTo (texts : Texts) (entries : List SignedStatement) (j : ℕ) : Type 0 where

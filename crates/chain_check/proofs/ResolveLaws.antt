@@ -21,7 +21,8 @@ use Rattle.chain_check.specs.Policies.{ConflictAt, merged_from, merged_policy}
 use Rattle.chain_check.specs.Validity.{IsWithin, applied}
 use Rattle.chain_check.specs.Verdicts.{least_exp}
 use Rattle.chain_check.specs.Resolving.{FailsToResolve, IsConflictAt, IsLimit, IsRefusal}
-use Rattle.chain_check.specs.Stages.{Passes, claims_in, entry_claims}
+use Rattle.chain_check.specs.Reading.{claims_in, entry_claims}
+use Rattle.chain_check.specs.Stages.{Passes}
 use Rattle.chain_check.proofs.NameLaws.{length-claims}
 
 -- what an answer that isn't Ok says of other facts

@@ -22,7 +22,8 @@ use Rattle.entity_statement.specs.declared.signed.SignedStatement.{SignedStateme
 use Rattle.chain_check.specs.Chains.{Texts}
 use Rattle.chain_check.specs.Counts.{CountsAtMost, CountsBoth, CountsChecks, CountsLeaf, CountsSigned, CountsTest, CountsUnsigned, NamesBoth, checks_under, counted}
 use Rattle.chain_check.specs.Signatures.{CurrentAt, NamesOneKey, key_in, keys_at, superior_keys}
-use Rattle.chain_check.specs.Stages.{Tells, claims_in, entry_claims, entry_text, texts_in}
+use Rattle.chain_check.specs.Reading.{claims_in, entry_claims, entry_text, texts_in}
+use Rattle.chain_check.specs.Stages.{Tells}
 use Rattle.chain_check.proofs.NameLaws.{claims-there}
 
 -- ---- times

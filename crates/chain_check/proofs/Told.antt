@@ -15,7 +15,8 @@ use Rattle.chain_check.specs.Signatures.{AreCurrent, AreSigned, CurrentAt, Names
 use Rattle.chain_check.specs.Validity.{Case, IsWithin, ToLimits, ToSignatures, ToTimes, case_of}
 use Rattle.chain_check.specs.Verdicts.{IsFirstFailure, IsResolved, IsVerdictOn}
 use Rattle.chain_check.specs.Resolving.{FailsToResolve}
-use Rattle.chain_check.specs.Stages.{AreRead, Passes, claims_in, texts_in, verdict_in}
+use Rattle.chain_check.specs.Reading.{AreRead, claims_in, texts_in}
+use Rattle.chain_check.specs.Stages.{Passes, verdict_in}
 use Rattle.chain_check.specs.Counts.{CountsAtMost, CountsChecks, CountsSigned, CountsVerdict}
 use Rattle.chain_check.specs.declared.stop.Stop.{Stop}
 use Rattle.chain_check.specs.declared.stop.Stop.TheVariants as stop

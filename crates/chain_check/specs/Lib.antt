@@ -4,7 +4,9 @@ pub mod Judging
 pub mod Metadata
 pub mod Names
 pub mod Policies
+pub mod Reading
 pub mod Resolving
+pub mod Screening
 pub mod Signatures
 pub mod Stages
 pub mod Validity

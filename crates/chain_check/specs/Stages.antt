@@ -25,26 +25,6 @@ use Rattle.chain_check.specs.Signatures.{AreSigned, SignedAt}
 use Rattle.chain_check.specs.Judging.{IsKnownSeal, IsUnknown, IsUntriedFirst, texts_of}
 use Rattle.chain_check.specs.Chains.{Texts, HasForm, statements_of}
 
--- the texts and the statements that were read
-abbrev pub entry_text : SignedStatement → List ℕ
-entry_text e = e.compact.whole
-
-abbrev pub entry_claims : SignedStatement → Claims
-entry_claims e = told e.statement
-
-abbrev pub texts_in : List SignedStatement → Texts
-texts_in entries = map entry_text entries
-
-abbrev pub claims_in : List SignedStatement → List Claims
-claims_in entries = map entry_claims entries
-
--- the entries are the texts, each read
-pub record AreRead (texts : Texts) (entries : List SignedStatement) : Type 0 where
-  pub form : HasForm texts
-  pub same : texts_in entries ≡ texts
-  pub statements : claims_in entries ≡ statements_of texts
-  pub split : All IsSplit entries
-
 -- Ok where the stage is passed, else the place and the reason of a failure; of want of memory nothing is said
 abbrev pub Passes : {X : Type 0} → Result X Stop → (X → Type 0) → (ℕ → Reason → Type 0) → Type 0
 Passes (Ok x) passed failed = passed x

@@ -4,20 +4,22 @@ ghost use Rattle.std.specs.Prelude.{All, IfOk};
 ghost use Rattle.chain_check.specs.declared.judged.Judged.TheVariants.{Told};
 ghost use Rattle.chain_check.specs.declared.verdict.Verdict.TheVariants.{Refused};
 ghost use Rattle.chain_check.specs.Judging.{IfTold, IsJudgementOn, IsOfItsText, texts_of};
+ghost use Rattle.chain_check.specs.Reading.{AreRead};
+ghost use Rattle.chain_check.specs.Screening.{JudgesCandidate};
 ghost use Rattle.chain_check.specs.Stages.{Passes};
 ghost use Rattle.chain_check.specs.Validity.{case_of};
 ghost use Rattle.chain_check.specs.Verdicts.{CanBeWritten};
 
 use crate::judged::Judged;
 use crate::known::first_untried;
-use crate::names::check_names;
-use crate::reading::read_chain;
 use crate::resolving::resolve;
-use crate::signatures::check_times;
+use crate::screened::Screened;
+use crate::screening::screen;
 use crate::stop::Stop;
 use crate::tried::Tried;
 use crate::verdict::Verdict;
 use entity_id::EntityId;
+use entity_statement::SignedStatement;
 use fed_base::{Memory, Seq};
 use jwk_set::JwkSet;
 use std::alloc::Global;
@@ -37,7 +39,26 @@ pub fn judge(
         (IsJudgementOn (case_of (texts_of chain.now) anchor.now keys.now.keys t) chain.now) }
     ensures written { IfOk result (λ judged. IfTold judged CanBeWritten) }
 {
-    match judged(alloc, chain.as_slice(), anchor, keys, t) {
+    match screen(alloc, chain, anchor, t)? {
+        Screened::Candidate(entries) => judge_candidate(alloc, &entries, chain, keys),
+        Screened::Refused { place, reason } => Ok(Judged::Told(Verdict::Refused { place, reason })),
+    }
+}
+
+/// The same of a chain whose statements a [`screen`](crate::screen) gave, at its anchor and its moment. They aren't read again, so it can
+/// be asked again as more of the signatures is known.
+pub fn judge_candidate(
+    alloc: Global,
+    entries: &Seq<SignedStatement>,
+    chain: &Seq<Tried>,
+    keys: &JwkSet,
+) -> Result<Judged, Memory>
+    requires own { All IsOfItsText chain.now }
+    requires read { AreRead (texts_of chain.now) entries.now }
+    ensures judgement { IfOk result (JudgesCandidate chain.now keys.now.keys) }
+    ensures written { IfOk result (λ judged. IfTold judged CanBeWritten) }
+{
+    match judged(alloc, entries.as_slice(), chain.as_slice(), keys) {
         Ok(judged) => Ok(judged),
         Err(Stop::Refused { place, reason }) => Ok(Judged::Told(Verdict::Refused {
             place,
@@ -49,21 +70,16 @@ pub fn judge(
 
 fn judged(
     alloc: Global,
+    entries: &[SignedStatement],
     chain: &[Tried],
-    anchor: &EntityId,
     keys: &JwkSet,
-    t: u64,
 ) -> Result<Judged, Stop>
-    requires { All IsOfItsText chain.now }
-    ensures judgement { Passes result
-        (IsJudgementOn (case_of (texts_of chain.now) anchor.now keys.now.keys t) chain.now)
-        (λ place reason. IsJudgementOn (case_of (texts_of chain.now) anchor.now keys.now.keys t) chain.now (Told (Refused place reason))) }
+    requires own { All IsOfItsText chain.now }
+    requires read { AreRead (texts_of chain.now) entries.now }
+    ensures judgement { Passes result (JudgesCandidate chain.now keys.now.keys)
+        (λ place reason. JudgesCandidate chain.now keys.now.keys (Told (Refused place reason))) }
     ensures written { Passes result (λ judged. IfTold judged CanBeWritten) (λ place reason. CanBeWritten (Refused place reason)) }
 {
-    let entries = read_chain(alloc, chain)?;
-    let entries = entries.as_slice();
-    check_names(entries, anchor)?;
-    check_times(entries, t)?;
     match first_untried(entries, chain, keys)? {
         Some(test) => {
             let public = test.public;

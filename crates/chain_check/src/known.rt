@@ -5,7 +5,8 @@ ghost use Rattle.jws_form.specs.Compact.{IsCompact};
 ghost use Rattle.sealed.specs.Seals.{IsSealed, IsUnsealed};
 ghost use Rattle.chain_check.specs.Judging.{IsOfItsText, pair_of, seal_keys, texts_of};
 ghost use Rattle.entity_statement.specs.Signed.{IsSplit};
-ghost use Rattle.chain_check.specs.Stages.{FailsUntried, IsKnown, Passes, TestsFirst, claims_in, texts_in};
+ghost use Rattle.chain_check.specs.Reading.{claims_in, texts_in};
+ghost use Rattle.chain_check.specs.Stages.{FailsUntried, IsKnown, Passes, TestsFirst};
 
 use crate::reason::Reason;
 use crate::signatures::superior_keys;

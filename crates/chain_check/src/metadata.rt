@@ -6,7 +6,7 @@ ghost use Rattle.fed_json.specs.Forms.{rising};
 ghost use Rattle.fed_json.specs.Trees.{find as find_in, member_name, object_members as members_of};
 ghost use Rattle.fed_json.specs.Metadata.{IsMetadata};
 ghost use Rattle.chain_check.specs.Metadata.{allowed_metadata as metadata_allowed, limited_places, own_metadata as metadata_own, parameters_over as over, put_over as put, type_over as type_put};
-ghost use Rattle.chain_check.specs.Stages.{claims_in};
+ghost use Rattle.chain_check.specs.Reading.{claims_in};
 
 use chain_limits::{Place, allowed_types};
 use entity_statement::SignedStatement;

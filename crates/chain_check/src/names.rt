@@ -4,7 +4,8 @@ ghost use Rattle.std.specs.Prelude.{◌≡◌, ◌≢◌, ◌<◌, ◌≤◌, �
 ghost use Rattle.chain_check.specs.declared.reason.Reason.TheVariants.{Names};
 ghost use Rattle.fed_base.specs.Places.{HoldsBelow};
 ghost use Rattle.chain_check.specs.Names.{HasNames, LosesNames, NamesFit, IsAnchor, IsConfiguration, IsLeaf, issuer_at, subject_at};
-ghost use Rattle.chain_check.specs.Stages.{Passes, claims_in};
+ghost use Rattle.chain_check.specs.Reading.{claims_in};
+ghost use Rattle.chain_check.specs.Stages.{Passes};
 
 use crate::reason::Reason;
 use crate::stop::Stop;

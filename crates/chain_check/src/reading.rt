@@ -3,7 +3,8 @@
 ghost use Rattle.std.specs.Prelude.{◌≡◌, map};
 ghost use Rattle.chain_check.specs.declared.reason.Reason.TheVariants.{Form};
 ghost use Rattle.chain_check.specs.Chains.{LosesForm};
-ghost use Rattle.chain_check.specs.Stages.{AreRead, Passes};
+ghost use Rattle.chain_check.specs.Reading.{AreRead};
+ghost use Rattle.chain_check.specs.Stages.{Passes};
 
 use crate::holds_text::HoldsText;
 use crate::reason::Reason;

@@ -6,20 +6,22 @@ ghost use Rattle.policy_merge.specs.Combining.{conflict_in};
 ghost use Rattle.policy_merge.specs.Merging.{merging};
 ghost use Rattle.policy_apply.specs.Applying.{applying};
 ghost use Rattle.chain_limits.specs.Limits.{IsVerdict};
+ghost use Rattle.entity_statement.specs.Told.{told};
 ghost use Rattle.chain_limits.specs.declared.verdict.LimitVerdict.TheVariants.{Met};
-ghost use Rattle.chain_check.specs.Metadata.{place_of};
+ghost use Rattle.chain_check.specs.Metadata.{limited_places, place_of};
 ghost use Rattle.chain_check.specs.Policies.{merged_from};
-ghost use Rattle.chain_check.specs.Validity.{IsWithin};
+ghost use Rattle.chain_check.specs.Validity.{IsWithin, ResolvesTo};
 ghost use Rattle.chain_check.specs.Verdicts.{HasUtf8Names, IsResolved};
 ghost use Rattle.chain_check.specs.Resolving.{FailsToResolve, IsConflict, IsConflictAt, IsLimit, IsRefusal};
-ghost use Rattle.chain_check.specs.Stages.{Passes, claims_in};
+ghost use Rattle.chain_check.specs.Reading.{claims_in};
+ghost use Rattle.chain_check.specs.Stages.{Passes};
 
 use crate::metadata::allowed_metadata;
 use crate::reason::Reason;
 use crate::stop::Stop;
 use crate::verdict::Resolved;
 use chain_limits::{LimitVerdict, Place, limits_met};
-use entity_statement::SignedStatement;
+use entity_statement::{SignedStatement, Statement};
 use fed_base::{Duplicate, Memory, Seq, Text};
 use fed_json::Json;
 use policy_apply::{ApplyFault, apply};
@@ -34,17 +36,45 @@ pub(crate) fn resolve(alloc: Global, entries: &[SignedStatement]) -> Result<Reso
         (FailsToResolve (claims_in entries.now)) }
     ensures written { Passes result (λ resolved. IsMetadata resolved.metadata) (λ _ reason. HasUtf8Names reason) }
 {
-    let below = &entries[..entries.len() - 1];
-    let places = limited_places(alloc, below)?;
-    check_limits(&places)?;
-    let policy = merge_policies(alloc, below)?;
-    let metadata = allowed_metadata(alloc, entries, &places)?;
-    let metadata = apply_policy(alloc, &policy, &metadata)?;
+    let metadata = metadata_of(alloc, entries)?;
     Ok(Resolved {
         leaf: entries[0].statement.sub.copy(alloc)?,
         exp: least_exp(entries[0].statement.exp, entries),
         metadata,
     })
+}
+
+// The leaf's metadata within the limits and under the policies.
+fn metadata_of(alloc: Global, entries: &[SignedStatement]) -> Result<Json, Stop>
+    requires { 0 < length entries.now }
+    ensures resolved { Passes result
+        (λ metadata. IsWithin (claims_in entries.now) × ResolvesTo (claims_in entries.now) metadata)
+        (FailsToResolve (claims_in entries.now)) }
+    ensures written { Passes result IsMetadata (λ _ reason. HasUtf8Names reason) }
+{
+    let places = limited_places(alloc, &entries[..entries.len() - 1])?;
+    check_limits(&places)?;
+    metadata_within(alloc, entries, &places)
+}
+
+// The same where the limits are met.
+fn metadata_within(
+    alloc: Global,
+    entries: &[SignedStatement],
+    places: &Seq<Place>,
+) -> Result<Json, Stop>
+    requires some { 0 < length entries.now }
+    requires places { places.now ≡ limited_places (claims_in entries.now) }
+    requires within { IsWithin (claims_in entries.now) }
+    ensures resolved { Passes result
+        (λ metadata. IsWithin (claims_in entries.now) × ResolvesTo (claims_in entries.now) metadata)
+        (FailsToResolve (claims_in entries.now)) }
+    ensures written { Passes result IsMetadata (λ _ reason. HasUtf8Names reason) }
+{
+    let policy = merge_policies(alloc, &entries[..entries.len() - 1])?;
+    let metadata = allowed_metadata(alloc, entries, places)?;
+    let metadata = apply_policy(alloc, &policy, &metadata)?;
+    Ok(metadata)
 }
 
 fn least_exp(first: u64, entries: &[SignedStatement]) -> u64
@@ -55,17 +85,22 @@ fn least_exp(first: u64, entries: &[SignedStatement]) -> u64
         .fold(first, |exp, entry| exp.min(entry.statement.exp))
 }
 
+// What limits speak of, of a statement.
+fn place_of(alloc: Global, statement: &Statement) -> Result<Place, Memory>
+    ensures { IfOk result (λ place. place ≡ place_of (told statement.now)) }
+{
+    let host = Text::of(alloc, statement.sub.host())?;
+    let limits = statement.constraints.copy(alloc)?;
+    Ok(Place { host, limits })
+}
+
 // What limits speak of, of each statement below the trust anchor's configuration.
 fn limited_places(alloc: Global, below: &[SignedStatement]) -> Result<Seq<Place>, Memory>
     ensures { IfOk result (λ places. places ≡ map place_of (claims_in below.now)) }
 {
     let mut places = Seq::new(alloc);
     for entry in below {
-        let statement = &entry.statement;
-        places.push(Place {
-            host: Text::of(alloc, statement.sub.host())?,
-            limits: statement.constraints.copy(alloc)?,
-        })?;
+        places.push(place_of(alloc, &entry.statement)?)?;
     }
     Ok(places)
 }

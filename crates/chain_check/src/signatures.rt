@@ -8,7 +8,8 @@ ghost use Rattle.fed_base.specs.Places.{FailsFirst};
 ghost use Rattle.chain_check.specs.Counts.{CountsBoth, CountsChecks, CountsTest};
 ghost use Rattle.chain_check.specs.Signatures.{AreCurrent, AreSigned, CurrentAt, SignedAt, keys_at, superior_keys as keys_above};
 ghost use Rattle.entity_statement.specs.Signed.{IsSplit};
-ghost use Rattle.chain_check.specs.Stages.{Passes, Tells, claims_in, texts_in};
+ghost use Rattle.chain_check.specs.Reading.{claims_in, texts_in};
+ghost use Rattle.chain_check.specs.Stages.{Passes, Tells};
 
 use crate::reason::Reason;
 use crate::stop::Stop;

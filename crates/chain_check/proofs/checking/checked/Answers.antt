@@ -1,7 +1,7 @@
 use Rattle.std.proofs.Common.{sym, subst}
 use Rattle.std.proofs.lemmas.List.{map-id}
 use Rattle.std.proofs.lemmas.Result.{err_from_is_err_and}
-use Rattle.chain_check.specs.Stages.{AreRead}
+use Rattle.chain_check.specs.Reading.{AreRead}
 use Rattle.chain_check.proofs.ResolveLaws.{Passes-err, Passes-weaker}
 use Rattle.chain_check.proofs.Told.{counted-told, counted-unsigned, names-told, resolve-told, resolved-told, signature-told, times-told}
 use Rattle.chain_check.proofs.checking.checked.Goals as goal

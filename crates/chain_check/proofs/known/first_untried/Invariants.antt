@@ -1,6 +1,6 @@
 use Rattle.chain_check.specs.Judging.{texts_of}
 use Rattle.fed_base.specs.Places.{HoldsBelow}
-use Rattle.chain_check.specs.Stages.{claims_in}
+use Rattle.chain_check.specs.Reading.{claims_in}
 use Rattle.chain_check.proofs.JudgingLaws.{KnownAt, SealedAt}
 use Rattle.chain_check.proofs.known.first_untried.Given as goal
 

@@ -1,6 +1,6 @@
 use Rattle.std.proofs.Common.{◌<◌, ◌+◌, length, below_more, arith}
 use Rattle.std.proofs.lemmas.Bool.{both_ways}
-use Rattle.chain_check.specs.Stages.{claims_in}
+use Rattle.chain_check.specs.Reading.{claims_in}
 use Rattle.chain_check.proofs.NameLaws.{issuer-there, length-claims, same-exactly}
 use Rattle.chain_check.proofs.names.is_distinct.Goals as goal
 

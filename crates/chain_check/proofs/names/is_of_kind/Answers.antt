@@ -1,7 +1,7 @@
 use Rattle.std.proofs.Common.{◌⊎◌, inl, inr, ◌+◌, length, sym, ◌∙◌, ⊎_elim}
 use Rattle.std.proofs.lemmas.Bool.{both_ways, eq-eqb, eqb-false, eqb-true, ne_eqb, not-true, not_from_false}
 use Rattle.chain_check.specs.Names.{IsAnchor, IsLeaf}
-use Rattle.chain_check.specs.Stages.{claims_in}
+use Rattle.chain_check.specs.Reading.{claims_in}
 use Rattle.chain_check.proofs.NameLaws.{agree-unless, agree-where, issuer-there, length-claims, same-exactly, subject-there}
 use Rattle.chain_check.proofs.names.is_of_kind.Goals as goal
 

@@ -1,6 +1,6 @@
 use Rattle.std.proofs.Common.{◌≡◌, map, take}
 use Rattle.chain_check.specs.Metadata.{place_of}
-use Rattle.chain_check.specs.Stages.{claims_in}
+use Rattle.chain_check.specs.Reading.{claims_in}
 use Rattle.chain_check.proofs.resolving.limited_places.Given as goal
 
 abbrev pub invariant-loop-entry : goal.invariant-loop-entry

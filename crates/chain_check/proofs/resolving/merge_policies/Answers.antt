@@ -5,7 +5,7 @@ use Rattle.policy_merge.specs.Merging.{merging}
 use Rattle.chain_check.specs.declared.reason.Reason.{Reason}
 use Rattle.chain_check.specs.Policies.{at_place}
 use Rattle.chain_check.specs.Resolving.{IsConflict}
-use Rattle.chain_check.specs.Stages.{claims_in}
+use Rattle.chain_check.specs.Reading.{claims_in}
 use Rattle.chain_check.proofs.MergeLaws.{conflict-found, conflict_in-empty, merged_from-all, merged_from-end, merged_from-step}
 use Rattle.chain_check.proofs.ResolveLaws.{Passes-err, length-policies, policies-drop, policies_of, policy-there}
 use Rattle.chain_check.proofs.resolving.merge_policies.Goals as goal

@@ -1,7 +1,7 @@
 use Rattle.std.proofs.Common.{◌≡◌, ◌≤◌, None, Ok, drop, length, map}
 use Rattle.policy_merge.specs.Combining.{conflict_in}
 use Rattle.chain_check.specs.Policies.{merged_from}
-use Rattle.chain_check.specs.Stages.{claims_in}
+use Rattle.chain_check.specs.Reading.{claims_in}
 use Rattle.chain_check.proofs.resolving.merge_policies.Given as goal
 
 abbrev pub invariant-loop-place : goal.invariant-loop-place

@@ -1,7 +1,7 @@
 use Rattle.std.proofs.Common.{below_more, arith}
 use Rattle.std.proofs.lemmas.Result.{err_from_is_err_and}
 use Rattle.chain_check.proofs.SignatureLaws.{AtMost-within, all-signed, length-texts, place-most, place-signed, place-unsigned, place-wanting}
-use Rattle.chain_check.specs.Stages.{claims_in, texts_in}
+use Rattle.chain_check.specs.Reading.{claims_in, texts_in}
 use Rattle.chain_check.proofs.signatures.check_signatures.Goals as goal
 
 pub returns-in_err-is_signed-clause-counted : goal.returns-in_err-is_signed-clause-counted

@@ -1,7 +1,7 @@
 use Rattle.fed_base.specs.Places.{HoldsBelow}
 use Rattle.chain_check.specs.Counts.{CountsAtMost, CountsSigned}
 use Rattle.chain_check.specs.Signatures.{NamesOneKey, SignedAt}
-use Rattle.chain_check.specs.Stages.{claims_in, texts_in}
+use Rattle.chain_check.specs.Reading.{claims_in, texts_in}
 use Rattle.chain_check.proofs.SignatureLaws.{most_at}
 use Rattle.chain_check.proofs.signatures.check_signatures.Given as goal
 
