@@ -1,0 +1,49 @@
+-- The issuer of a mark that is kept by what the last of its rounds found.
+use Rattle.std.proofs.Common.{◌≡◌, List, Option, Some, None, refl, sym, ap, ◌∙◌, subst}
+use Rattle.entity_statement.specs.Claims.{Claims}
+use Rattle.entity_statement.specs.Signed.{statement_of}
+use Rattle.resolve_reply.specs.declared.issuers.Issuer.{Issuer}
+use Rattle.resolve_round.specs.declared.trace.Trace.{Trace}
+use Rattle.resolve_round.specs.Rounds.{FoundPath}
+use Rattle.resolve_pages.specs.declared.aim.Aim.{Aim}
+use Rattle.resolve_search.specs.declared.round.FoundChain.{FoundChain}
+use Rattle.resolve_search.specs.declared.round.RoundEnd.{RoundEnd}
+use Rattle.resolve_search.specs.Turning.{IsChain, query_at}
+use Rattle.fed_resolver.specs.Going.{HasIssuer, HasRounds, KeepsBy, first_text}
+use Rattle.fed_resolver.specs.Searches.{said_in}
+use Rattle.fed_resolver.proofs.EndTexts.{Says, first-says}
+use Rattle.fed_resolver.proofs.WholeLaws.{round-last, said-none}
+
+module _ (aim : Aim) (old new : Trace) (ended : RoundEnd) (has : HasRounds aim old new ended) where
+  -- the first text of a chain that was found is the issuer's configuration
+  module _ (chain : FoundChain) (is : ended.chain ≡ Some chain) where
+    found_chain : IsChain (query_at aim old) new has.last (Some chain)
+    found_chain = subst (IsChain (query_at aim old) new has.last) is has.chain
+
+    says : Says (query_at aim old) has.last aim.leaf (first_text chain.texts)
+    says = first-says (query_at aim old) has.last (round-last (query_at aim old) has.courses has.last has.are has.is_last) found_chain.0 found_chain.1 new chain found_chain.2
+
+    pub issuer-reads : (own : Claims) × (statement_of (first_text chain.texts) ≡ Some own)
+    issuer-reads = (says.own, says.reads)
+
+    pub issuer-kept : (before after : List Issuer) → KeepsBy aim.leaf (statement_of (first_text chain.texts)) before after → HasIssuer aim old new before after
+    issuer-kept before after keeps = record {
+      courses = has.courses;
+      added = has.added;
+      are = has.are;
+      last = has.last;
+      is_last = has.is_last;
+      kept = subst (λ o. KeepsBy aim.leaf o before after) (says.reads ∙ sym says.said) keeps;
+    }
+
+  pub issuer-none : ended.chain ≡ None → (before after : List Issuer) → after ≡ before → HasIssuer aim old new before after
+  issuer-none is before after same =
+      let none : ¬ FoundPath has.last = subst (IsChain (query_at aim old) new has.last) is has.chain in
+      record {
+        courses = has.courses;
+        added = has.added;
+        are = has.are;
+        last = has.last;
+        is_last = has.is_last;
+        kept = subst (λ o. KeepsBy aim.leaf o before after) (sym (said-none (query_at aim old) has.last aim.leaf none)) same;
+      }

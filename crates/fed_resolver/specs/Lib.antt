@@ -1,0 +1,12 @@
+pub mod Calls
+pub mod Completeness
+pub mod Going
+pub mod Outcomes
+pub mod Refusals
+pub mod Replying
+pub mod Samples
+pub mod Searches
+pub mod Stretches
+pub mod Told
+pub mod Uses
+pub mod Worlds

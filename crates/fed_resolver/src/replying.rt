@@ -1,0 +1,230 @@
+// The reply on a chain that was found.
+
+ghost use Rattle.std.specs.Prelude.{◌≡◌, ℕ, length, IfErr, IfOk, MatchResult, OnErr, OnOk, Ok};
+ghost use Rattle.turn_log.specs.Groups.{known};
+ghost use Rattle.entity_statement.specs.Told.{told};
+ghost use Rattle.sealed.specs.Sealing.{IsSealedFor};
+ghost use Rattle.statement_shelf.specs.Passes.{IsPassOfAll};
+ghost use Rattle.resolve_reply.specs.Marks.{issuers_by_mark, judging_by, looked_at, tests_of_marks};
+ghost use Rattle.resolve_round.specs.Told.{IsTrueSoFar, ProvesGood};
+ghost use Rattle.resolve_pages.specs.Acts.{IsHalt, IsKept};
+ghost use Rattle.resolve_pages.specs.Linking.{link_seen};
+ghost use Rattle.resolve_pages.specs.Testing.{CountsChecks};
+ghost use Rattle.trust_mark.specs.Counts.{CountsAtMost, counted};
+ghost use Rattle.fed_json.specs.Forms.{IsWhole as IsWholeTree};
+ghost use Rattle.fed_resolver.specs.Going.{AreEnds, HasLeaf, usual_aim};
+ghost use Rattle.fed_resolver.specs.Outcomes.{IsWhole};
+ghost use Rattle.fed_resolver.specs.Refusals.{outcome_of};
+ghost use Rattle.fed_resolver.specs.Replying.{CanSay, IsMarked, IsSearched, said_on};
+ghost use Rattle.fed_resolver.specs.Stretches.{Goes, GoesTo, StumbledRounds, WalkedRounds, moment_at};
+ghost use Rattle.fed_resolver.specs.Told.{situation_of};
+ghost use Rattle.fed_resolver.specs.Uses.{CountsAll, CountsSome};
+
+use crate::issuers::search_issuers;
+use crate::texts::{Ends, read_ends, texts_of};
+use chain_check::{Resolved, Tried};
+use entity_statement::Statement;
+use fed_base::{Duplicate, Ledger, Memory, Seq, Steps};
+use fed_ports::Link;
+use resolve_reply::{GoodMarks, MarkIssuers, Reply, Said, Signer, cut_to, good_marks, seal_reply};
+use resolve_round::{ResolveRequest, Trace};
+use resolve_search::{FoundChain, Halt};
+use statement_shelf::{Commons, FedPass};
+use std::alloc::Global;
+use std::sync::Wait;
+
+// Searches the issuers of the leaf's marks, looks which of these are good, and seals the reply.
+pub(crate) fn reply_on<R: Wait, L: Link, G: Ledger>(
+    commons: &Commons,
+    rt: &R,
+    alloc: Global,
+    pass: &mut FedPass,
+    trace: &mut Trace,
+    signer: &Signer,
+    request: &ResolveRequest,
+    link: &mut L,
+    t: u64,
+    steps: &mut Steps<G>,
+    chain: FoundChain,
+) -> Result<Reply, Halt>
+    requires of { IsPassOfAll commons.now pass.old }
+    requires told { IsTrueSoFar signer.now.age trace.old }
+    requires good { ProvesGood trace.old }
+    requires leaf { HasLeaf (situation_of request.now signer.now.age t) trace.old chain }
+    ensures kept { IsKept commons.now pass.old pass.new }
+    ensures halt { IfErr result (IsHalt (known pass.new)) }
+    ensures ok { OnOk result (Goes signer.now.age 0 (moment_at trace.old (known pass.old) (link_seen (L.calls link.old) (L.link_faults link.old) (L.web link.old)))
+        (moment_at trace.new (known pass.new) (link_seen (L.calls link.new) (L.link_faults link.new) (L.web link.new)))) }
+    ensures err { IfErr result (GoesTo signer.now.age (moment_at trace.old (known pass.old) (link_seen (L.calls link.old) (L.link_faults link.old) (L.web link.old)))
+        (moment_at trace.new (known pass.new) (link_seen (L.calls link.new) (L.link_faults link.new) (L.web link.new)))) }
+    ensures walked { OnOk result (WalkedRounds L.gave link.old link.new trace.old trace.new) }
+    ensures stumbled { OnErr result (StumbledRounds L.gave link.old link.new trace.old trace.new) }
+    ensures whole { IfOk result (λ reply. IsWhole (situation_of request.now signer.now.age t) signer.now (outcome_of (Ok reply) trace.new)) }
+    ensures counted { (before : ℕ) → G.count steps.old.ledger ≡ counted (length trace.old.checks) before
+        → MatchResult result (λ reply. CountsAll (situation_of request.now signer.now.age t) signer.now (outcome_of (Ok reply) trace.new) before (G.count steps.new.ledger))
+        (λ _. CountsSome trace.new before (G.count steps.new.ledger)) }
+    ensures sealed { IfOk result (λ reply. IsSealedFor signer.now.keys reply.text) }
+{
+    let ends = read_ends(alloc, chain.texts.as_slice())?;
+    let reply = reply_by(
+        commons, rt, alloc, pass, trace, signer, request, link, t, steps, chain, &ends,
+    );
+    drop(ends);
+    reply
+}
+
+// The same by the statements at the ends of the chain.
+fn reply_by<R: Wait, L: Link, G: Ledger>(
+    commons: &Commons,
+    rt: &R,
+    alloc: Global,
+    pass: &mut FedPass,
+    trace: &mut Trace,
+    signer: &Signer,
+    request: &ResolveRequest,
+    link: &mut L,
+    t: u64,
+    steps: &mut Steps<G>,
+    chain: FoundChain,
+    ends: &Ends,
+) -> Result<Reply, Halt>
+    requires of { IsPassOfAll commons.now pass.old }
+    requires told { IsTrueSoFar signer.now.age trace.old }
+    requires good { ProvesGood trace.old }
+    requires ends { AreEnds chain.texts ends.now }
+    requires leaf { HasLeaf (situation_of request.now signer.now.age t) trace.old chain }
+    ensures kept { IsKept commons.now pass.old pass.new }
+    ensures halt { IfErr result (IsHalt (known pass.new)) }
+    ensures ok { OnOk result (Goes signer.now.age 0 (moment_at trace.old (known pass.old) (link_seen (L.calls link.old) (L.link_faults link.old) (L.web link.old)))
+        (moment_at trace.new (known pass.new) (link_seen (L.calls link.new) (L.link_faults link.new) (L.web link.new)))) }
+    ensures err { IfErr result (GoesTo signer.now.age (moment_at trace.old (known pass.old) (link_seen (L.calls link.old) (L.link_faults link.old) (L.web link.old)))
+        (moment_at trace.new (known pass.new) (link_seen (L.calls link.new) (L.link_faults link.new) (L.web link.new)))) }
+    ensures walked { OnOk result (WalkedRounds L.gave link.old link.new trace.old trace.new) }
+    ensures stumbled { OnErr result (StumbledRounds L.gave link.old link.new trace.old trace.new) }
+    ensures whole { IfOk result (λ reply. IsWhole (situation_of request.now signer.now.age t) signer.now (outcome_of (Ok reply) trace.new)) }
+    ensures counted { (before : ℕ) → G.count steps.old.ledger ≡ counted (length trace.old.checks) before
+        → MatchResult result (λ reply. CountsAll (situation_of request.now signer.now.age t) signer.now (outcome_of (Ok reply) trace.new) before (G.count steps.new.ledger))
+        (λ _. CountsSome trace.new before (G.count steps.new.ledger)) }
+    ensures sealed { IfOk result (λ reply. IsSealedFor signer.now.keys reply.text) }
+{
+    let issuers = found_issuers(
+        commons,
+        rt,
+        alloc,
+        pass,
+        trace,
+        signer,
+        request,
+        link,
+        steps,
+        &ends.leaf,
+        &ends.anchor,
+    )?;
+    let reply = sealed_reply(
+        alloc,
+        signer,
+        request,
+        t,
+        steps,
+        chain,
+        &ends.leaf,
+        &ends.anchor,
+        &issuers,
+    )?;
+    Ok(reply)
+}
+
+// The issuers of the leaf's marks, of whom those whose chain was found are kept.
+fn found_issuers<R: Wait, L: Link, G: Ledger>(
+    commons: &Commons,
+    rt: &R,
+    alloc: Global,
+    pass: &mut FedPass,
+    trace: &mut Trace,
+    signer: &Signer,
+    request: &ResolveRequest,
+    link: &mut L,
+    steps: &mut Steps<G>,
+    leaf: &Statement,
+    anchor: &Statement,
+) -> Result<MarkIssuers, Halt>
+    requires of { IsPassOfAll commons.now pass.old }
+    requires told { IsTrueSoFar signer.now.age trace.old }
+    requires good { ProvesGood trace.old }
+    ensures kept { IsKept commons.now pass.old pass.new }
+    ensures halt { IfErr result (IsHalt (known pass.new)) }
+    ensures ok { OnOk result (Goes signer.now.age 0 (moment_at trace.old (known pass.old) (link_seen (L.calls link.old) (L.link_faults link.old) (L.web link.old)))
+        (moment_at trace.new (known pass.new) (link_seen (L.calls link.new) (L.link_faults link.new) (L.web link.new)))) }
+    ensures err { IfErr result (GoesTo signer.now.age (moment_at trace.old (known pass.old) (link_seen (L.calls link.old) (L.link_faults link.old) (L.web link.old)))
+        (moment_at trace.new (known pass.new) (link_seen (L.calls link.new) (L.link_faults link.new) (L.web link.new)))) }
+    ensures walked { OnOk result (WalkedRounds L.gave link.old link.new trace.old trace.new) }
+    ensures stumbled { OnErr result (StumbledRounds L.gave link.old link.new trace.old trace.new) }
+    ensures counted { CountsChecks trace.old.checks trace.new.checks (G.count steps.old.ledger) (G.count steps.new.ledger) }
+    ensures good { OnOk result (ProvesGood trace.new) }
+    ensures issuers { IfOk result (IsSearched (usual_aim request.now.sub request.now.anchor signer.now.age) (told leaf.now) (told anchor.now) trace.old trace.new) }
+{
+    let mut issuers = MarkIssuers::of(alloc, leaf, anchor)?;
+    search_issuers(
+        commons,
+        rt,
+        alloc,
+        pass,
+        trace,
+        link,
+        steps,
+        request,
+        signer.age,
+        &mut issuers,
+    )?;
+    Ok(issuers)
+}
+
+// Looks which of the leaf's marks are good, and seals what the chain says with them.
+fn sealed_reply<G: Ledger>(
+    alloc: Global,
+    signer: &Signer,
+    request: &ResolveRequest,
+    t: u64,
+    steps: &mut Steps<G>,
+    chain: FoundChain,
+    leaf: &Statement,
+    anchor: &Statement,
+    issuers: &MarkIssuers,
+) -> Result<Reply, Memory>
+    requires marks { issuers.now.by_mark ≡ issuers_by_mark leaf.now.marks (told anchor.now) }
+    requires writable { CanSay chain }
+    ensures reply { IfOk result (IsMarked (judging_by leaf.now.sub (told anchor.now) issuers.now.found t) leaf.now.marks request.now signer.now chain) }
+    ensures sealed { IfOk result (λ reply. IsSealedFor signer.now.keys reply.text) }
+    ensures counted { MatchResult result
+        (λ _. G.count steps.new.ledger ≡ counted (tests_of_marks (judging_by leaf.now.sub (told anchor.now) issuers.now.found t) (looked_at leaf.now.marks)) (G.count steps.old.ledger))
+        (λ _. CountsAtMost (tests_of_marks (judging_by leaf.now.sub (told anchor.now) issuers.now.found t) (looked_at leaf.now.marks)) (G.count steps.old.ledger) (G.count steps.new.ledger)) }
+{
+    let good = good_marks(alloc, leaf, anchor, issuers, chain.resolved.exp, t, steps)?;
+    let said = said_by(alloc, request, t, chain.texts, chain.resolved, good)?;
+    seal_reply(alloc, signer, said)
+}
+
+// What is said of a chain with its good marks.
+fn said_by(
+    alloc: Global,
+    request: &ResolveRequest,
+    t: u64,
+    texts: Seq<Tried>,
+    resolved: Resolved,
+    good: GoodMarks,
+) -> Result<Said, Memory>
+    ensures said { IfOk result (λ said. said ≡ said_on request.now t texts resolved good) }
+    ensures whole { IsWholeTree resolved.metadata → IfOk result (λ said. IsWholeTree said.metadata) }
+{
+    let sub = request.sub.copy(alloc)?;
+    let chain = texts_of(alloc, texts)?;
+    let metadata = cut_to(alloc, &request.types, resolved.metadata);
+    Ok(Said {
+        sub,
+        iat: t,
+        exp: good.exp,
+        metadata,
+        chain,
+        marks: good.entries,
+    })
+}

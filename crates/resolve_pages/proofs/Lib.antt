@@ -1,0 +1,14 @@
+pub mod ActsLaws
+pub mod AskingLaws
+pub mod GettingLaws
+pub mod KeepingLaws
+pub mod Lasts
+pub mod LinkLaws
+pub mod LookLaws
+pub mod OwnLaws
+pub mod PassLaws
+pub mod PlaceLaws
+pub mod PlacingLaws
+pub mod ProvingLaws
+pub mod TestingLaws
+pub mod WalkLaws

@@ -1,0 +1,10 @@
+pub mod Acts
+pub mod Asking
+pub mod Getting
+pub mod Keeping
+pub mod Linking
+pub mod Looking
+pub mod Placing
+pub mod Proving
+pub mod Testing
+pub mod Walking

@@ -1,0 +1,11 @@
+use Rattle.std.proofs.Common.{◌≡◌, take}
+use Rattle.entity_statement.specs.Told.{told}
+use Rattle.trust_mark.specs.Counts.{counted}
+use Rattle.resolve_reply.specs.Marks.{AreGood, judging_by, looked_at, tests_of_marks}
+use Rattle.resolve_reply.proofs.marks.good_marks.Given as goal
+
+abbrev pub invariant-loop-place : goal.invariant-loop-place
+invariant-loop-place g l = record {
+  good : AreGood (judging_by l.leaf.sub (told l.anchor) l.issuers.found l.t) (take l.place (looked_at l.leaf.marks)) l.exp l.good;
+  counted : g.L.Ledger.count l.steps.ledger ≡ counted (tests_of_marks (judging_by l.leaf.sub (told l.anchor) l.issuers.found l.t) (take l.place (looked_at l.leaf.marks))) (g.L.Ledger.count l.fn.steps.ledger);
+}

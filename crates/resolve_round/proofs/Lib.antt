@@ -1,0 +1,13 @@
+pub mod BestLaws
+pub mod Elements
+pub mod FollowLaws
+pub mod Following
+pub mod HintLaws
+pub mod KnowingLaws
+pub mod RoundEnds
+pub mod RoundLaws
+pub mod SessionLaws
+pub mod StopLaws
+pub mod ToldLaws
+pub mod TraceLaws
+pub mod WordLaws

@@ -1,0 +1,9 @@
+pub mod Answers
+pub mod Courses
+pub mod Following
+pub mod Knowing
+pub mod Pages
+pub mod Reading
+pub mod Rounds
+pub mod Told
+pub mod Traces

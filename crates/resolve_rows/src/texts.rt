@@ -1,0 +1,145 @@
+// Rows that keep texts and pages.
+
+use crate::names::{entities, entity};
+use crate::pages::Shop;
+use crate::words::{at, number};
+use entity_id::{EntityId, fetch_url};
+use fed_base::{Memory, Text};
+use fed_ports::Page;
+use std::alloc::Global;
+
+// The claims that every statement has, without their last brace.
+fn common(alloc: Global, iss: &[u8], sub: &[u8], exp: &str, keys: &Text) -> Result<Text, Memory> {
+    let mut out = Text::of(alloc, b"{\"exp\":")?;
+    out.append(exp.as_bytes())?;
+    out.append(b",\"iat\":1799990000,\"iss\":\"")?;
+    out.append(iss)?;
+    out.append(b"\",\"jwks\":")?;
+    out.append(keys.as_slice())?;
+    out.append(b",\"sub\":\"")?;
+    out.append(sub)?;
+    out.push(b'"')?;
+    Ok(out)
+}
+
+// Adds the hints, without the entity itself.
+fn add_hints(alloc: Global, out: &mut Text, id: &EntityId, hints: &str) -> Result<(), Memory> {
+    let mut before: &[u8] = b",\"authority_hints\":[\"";
+    for hint in entities(alloc, hints)?.as_slice() {
+        if *hint != *id {
+            out.append(before)?;
+            out.append(hint.text())?;
+            before = b"\",\"";
+        }
+    }
+    if before.len() == 3 {
+        out.append(b"\"]")
+    } else {
+        Ok(())
+    }
+}
+
+// Where an entity is asked for statements.
+fn endpoint(alloc: Global, id: &EntityId) -> Result<Text, Memory> {
+    let mut out = Text::of(alloc, id.text())?;
+    out.append(b"/fetch")?;
+    Ok(out)
+}
+
+fn add_endpoint(alloc: Global, out: &mut Text, id: &EntityId) -> Result<(), Memory> {
+    out.append(b",\"metadata\":{\"federation_entity\":{\"federation_fetch_endpoint\":\"")?;
+    out.append(endpoint(alloc, id)?.as_slice())?;
+    out.append(b"\"}}")
+}
+
+// Adds further claims, and the last brace.
+fn add_more(alloc: Global, shop: &mut Shop, out: &mut Text, more: &str) -> Result<(), Memory> {
+    if !more.is_empty() {
+        out.push(b',')?;
+        shop.add_claims(alloc, out, more)?;
+    }
+    out.push(b'}')
+}
+
+/// `leaf` or `superior` and `NAME ENTITY KEY EXP HINTS MORE`: keeps the configuration of an entity, a superior's with its endpoint.
+pub(crate) fn configuration(alloc: Global, shop: &mut Shop, row: &str) -> Result<Text, Memory> {
+    let Some(id) = entity(alloc, at(row, 2).as_bytes())? else {
+        return Text::of(alloc, b"no entity");
+    };
+    let key = at(row, 3);
+    let keys = shop.keys.set(alloc, number(key).min(255) as u8)?;
+    let mut claims = common(alloc, id.text(), id.text(), at(row, 4), &keys)?;
+    add_hints(alloc, &mut claims, &id, at(row, 5))?;
+    if at(row, 0) == "superior" {
+        add_endpoint(alloc, &mut claims, &id)?;
+    }
+    add_more(alloc, shop, &mut claims, at(row, 6))?;
+    let text = shop.sealed(alloc, "statement", key, &claims)?;
+    let url = id.well_known(alloc)?;
+    shop.keep(alloc, at(row, 1), url, Page::Document(text))?;
+    Text::of(alloc, b"kept")
+}
+
+// Keeps the statement of one entity about another.
+fn keep_statement(
+    alloc: Global,
+    shop: &mut Shop,
+    row: &str,
+    superior: &EntityId,
+    subject: &EntityId,
+) -> Result<(), Memory> {
+    let keys = shop.keys.set(alloc, number(at(row, 5)).min(255) as u8)?;
+    let mut claims = common(alloc, superior.text(), subject.text(), at(row, 6), &keys)?;
+    add_more(alloc, shop, &mut claims, at(row, 7))?;
+    let text = shop.sealed(alloc, "statement", at(row, 3), &claims)?;
+    let url = fetch_url(alloc, &endpoint(alloc, superior)?, subject)?;
+    shop.keep(alloc, at(row, 1), url, Page::Document(text))
+}
+
+fn keep_statements(
+    alloc: Global,
+    shop: &mut Shop,
+    row: &str,
+    superior: &EntityId,
+) -> Result<(), Memory> {
+    for subject in entities(alloc, at(row, 4))?.as_slice() {
+        if *subject != *superior {
+            keep_statement(alloc, shop, row, superior, subject)?;
+        }
+    }
+    Ok(())
+}
+
+/// `states NAME SUPERIORS KEY SUBJECTS KEY EXP MORE`: keeps the statement of each superior about each subject.
+pub(crate) fn statements(alloc: Global, shop: &mut Shop, row: &str) -> Result<Text, Memory> {
+    for superior in entities(alloc, at(row, 2))?.as_slice() {
+        keep_statements(alloc, shop, row, superior)?;
+    }
+    Text::of(alloc, b"kept")
+}
+
+/// `mark` or `delegation` and `NAME KEY CLAIMS`: keeps the text of these claims.
+pub(crate) fn mark(alloc: Global, shop: &mut Shop, row: &str) -> Result<Text, Memory> {
+    let mut claims = Text::new(alloc);
+    shop.add_claims(alloc, &mut claims, at(row, 3))?;
+    let text = shop.sealed(alloc, at(row, 0), at(row, 2), &claims)?;
+    shop.keep(alloc, at(row, 1), Text::new(alloc), Page::Document(text))?;
+    Text::of(alloc, b"kept")
+}
+
+fn page_of(word: &str) -> Page {
+    match word {
+        "too long" => Page::TooLong,
+        "garbled" => Page::Garbled,
+        _ => Page::Refusal(number(word).min(999) as u16),
+    }
+}
+
+/// `page NAME ENTITIES WORD`: keeps such a page in place of each entity's configuration.
+pub(crate) fn pages(alloc: Global, shop: &mut Shop, row: &str) -> Result<Text, Memory> {
+    for id in entities(alloc, at(row, 2))?.as_slice() {
+        let url = id.well_known(alloc)?;
+        shop.keep(alloc, at(row, 1), url, page_of(at(row, 3)))?;
+    }
+    Text::of(alloc, b"kept")
+}

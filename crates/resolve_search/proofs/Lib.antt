@@ -1,0 +1,9 @@
+pub mod AnsweringLaws
+pub mod ChainLaws
+pub mod DrivingLaws
+pub mod EndingLaws
+pub mod JudgeLaws
+pub mod PathUrls
+pub mod ReportLaws
+pub mod TurningLaws
+pub mod WalkRounds

@@ -1,0 +1,4 @@
+pub mod Answering
+pub mod Driving
+pub mod Judging
+pub mod Turning
