@@ -12,7 +12,7 @@ use Rattle.http_plain.specs.Readings.{CausedBy, Taken}
 use Rattle.http_plain.specs.Writings.{Writes}
 use Rattle.authority_core.specs.Nodes.{Node}
 use Rattle.fed_serve.specs.declared.answer.Answer.{Answer}
-use Rattle.fed_serve.specs.declared.kind.Served.{Served}
+use Rattle.fed_serve.specs.declared.served.Served.{Served}
 use Rattle.fed_serve.specs.declared.serving.ServeFault.{ServeFault}
 use Rattle.fed_serve.specs.declared.serving.ServeFault.TheVariants.{ReadFault, WriteFault, Ended, Worn}
 use Rattle.fed_serve.specs.Handlings.{Handling}

@@ -1,11 +1,9 @@
 -- Where a node is asked.
-use Rattle.std.specs.Prelude.{ℕ, List, [], None}
-use Rattle.std.specs.Option.{option_map_or}
-use Rattle.std.specs.Result.{result_ok}
-use Rattle.url.specs.Parser.{parse_url}
-use Rattle.entity_id.specs.Urls.{base_of}
-use Rattle.entity_statement.specs.Claims.{Identifier}
+use Rattle.std.specs.Prelude.{false}
+use Rattle.authority_core.specs.Nodes.{Node}
+use Rattle.node_requests.specs.declared.place.Place.{Place}
+use Rattle.node_requests.specs.Places.{node_path, place_at}
 
--- the path of the URL that an identifier is (URL Standard section 4.1), without the slash at its end
-unfoldable pub node_path : Identifier → List ℕ
-node_path id = base_of (option_map_or (λ url. url.path) (result_ok (parse_url None id)) [])
+-- under the path of its identifier, as an authority: no node resolves yet
+abbrev pub place_of : Node → Place
+place_of node = place_at (node_path node.settings.id) false

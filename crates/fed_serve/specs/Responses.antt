@@ -5,8 +5,8 @@ use Rattle.http_plain.specs.declared.response.Response.{Response}
 use Rattle.authority_core.specs.Answers.{configuration_response, fetch_response, historical_response, list_response, status_response}
 use Rattle.authority_core.specs.Nodes.{Node, registered}
 use Rattle.authority_core.specs.Statuses.{status_tests}
-use Rattle.fed_serve.specs.declared.asked.Asked.{Asked}
-use Rattle.fed_serve.specs.declared.asked.Asked.TheVariants as asked
+use Rattle.node_requests.specs.declared.asked.Asked.{Asked}
+use Rattle.node_requests.specs.declared.asked.Asked.TheVariants as asked
 use Rattle.fed_serve.specs.Handlings.{Handling, unread, not_asked, issued}
 
 -- a refusal, with its body
@@ -25,19 +25,21 @@ not_a_request = refusal 400 (codes "invalid_request") (codes "not a request of t
 abbrev pub out_of_memory : Response
 out_of_memory = refusal 507 (codes "server_error") (codes "out of memory")
 
--- what the node answers as an authority at the moment
-abbrev pub issued_response : Node → ℕ → Asked → Response
-issued_response node t asked.Configuration = configuration_response node t
-issued_response node t (asked.Fetch sub) = fetch_response node t sub
-issued_response node t (asked.List query) = list_response node query
-issued_response node t asked.HistoricalKeys = historical_response node t
-issued_response node t (asked.Status mark) = status_response node t mark
+-- what the node answers as an authority at the moment, and none where a resolver is asked
+abbrev pub issued_response : Node → ℕ → Asked → Option Response
+issued_response node t asked.Configuration = Some (configuration_response node t)
+issued_response node t (asked.Fetch sub) = Some (fetch_response node t sub)
+issued_response node t (asked.List query) = Some (list_response node query)
+issued_response node t asked.HistoricalKeys = Some (historical_response node t)
+issued_response node t (asked.Status mark) = Some (status_response node t mark)
+issued_response node t (asked.Resolution resolution) = None
+issued_response node t (asked.Rotation change) = None
 
 -- the response to a handling, where it has one of its own
 abbrev pub response_of : Node → ℕ → Handling → Option Response
 response_of node t unread = None
 response_of node t not_asked = Some not_a_request
-response_of node t (issued asked) = Some (issued_response node t asked)
+response_of node t (issued asked) = issued_response node t asked
 
 -- its status: 404 to a fetch where no subordinate has that identifier
 abbrev pub status_of : Node → Asked → ℕ

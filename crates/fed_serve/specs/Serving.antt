@@ -10,13 +10,13 @@ use Rattle.http_plain.specs.Readings.{Reads, Taken}
 use Rattle.http_plain.specs.Writings.{Writes}
 use Rattle.trust_mark.specs.Counts.{CountsAtMost, counted}
 use Rattle.authority_core.specs.Nodes.{Node}
-use Rattle.fed_serve.specs.declared.asked.Asked.{Asked}
-use Rattle.fed_serve.specs.declared.kind.Served.{Served}
+use Rattle.node_requests.specs.declared.asked.Asked.{Asked}
+use Rattle.fed_serve.specs.declared.served.Served.{Served}
 use Rattle.fed_serve.specs.declared.serving.ServeFault.{ServeFault}
 use Rattle.fed_serve.specs.declared.serving.ServeFault.TheVariants.{ReadFault, WriteFault, Ended, Worn}
 use Rattle.fed_serve.specs.Handlings.{Handles, Handling, Wants, WantsNothing, kind_of}
 use Rattle.fed_serve.specs.Moments.{Around, IsOneReading, PeerAt}
-use Rattle.fed_serve.specs.Places.{node_path}
+use Rattle.fed_serve.specs.Places.{place_of}
 use Rattle.fed_serve.specs.Responses.{out_of_memory, response_of, status_of, tests_of}
 
 -- ---- what came
@@ -40,7 +40,7 @@ IsMessage node t handling before now response =
 
 -- it is handled so and answered with this message, at the clock's one reading
 pub record IsHandled (node : Node) (before now : Around) (came : Came) (handling : Handling) (response : Response) : Type 0 where
-  pub handles : Handles (node_path node.settings.id) came handling
+  pub handles : Handles (place_of node) came handling
   pub clock : IsOneReading before.clock now.clock
   pub message : IsMessage node now.clock.last handling before now response
 
@@ -51,12 +51,12 @@ IsOrWanting expected status = (status ≡ expected) ⊎ (status ≡ 507)
 -- when each status comes
 pub record ComesWhere (node : Node) (came : Came) (status : ℕ) : Type 0 where
   -- 400 exactly where what came is no request of the node
-  pub bad_request : status ≡ 400 → WantsNothing (node_path node.settings.id) came
-  pub refused : WantsNothing (node_path node.settings.id) came → IsOrWanting 400 status
+  pub bad_request : status ≡ 400 → WantsNothing (place_of node) came
+  pub refused : WantsNothing (place_of node) came → IsOrWanting 400 status
   -- 404 exactly where it asks for a statement about no subordinate, 200 exactly where it is any other request
   pub issued : (status ≡ 200) ⊎ (status ≡ 404)
-      → (asked : Asked) × Wants (node_path node.settings.id) came asked × (status ≡ status_of node asked)
-  pub wanted : (asked : Asked) → Wants (node_path node.settings.id) came asked → IsOrWanting (status_of node asked) status
+      → (asked : Asked) × Wants (place_of node) came asked × (status ≡ status_of node asked)
+  pub wanted : (asked : Asked) → Wants (place_of node) came asked → IsOrWanting (status_of node asked) status
   -- and no other but 507
   pub known : IsOrWanting 200 status ⊎ ((status ≡ 400) ⊎ (status ≡ 404))
 

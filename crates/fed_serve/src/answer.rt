@@ -2,18 +2,17 @@
 
 ghost use Rattle.std.specs.Prelude.{◌≡◌, IfOk, IfSome, MatchOption, MatchResult};
 ghost use Rattle.trust_mark.specs.Counts.{CountsAtMost, counted};
-ghost use Rattle.fed_serve.specs.Places.{node_path};
-ghost use Rattle.fed_serve.specs.Requests.{AsksFor, AsksNothing};
+ghost use Rattle.node_requests.specs.Requests.{AsksFor, AsksNothing, IsFormed};
+ghost use Rattle.fed_serve.specs.Handlings.{IsIssued};
+ghost use Rattle.fed_serve.specs.Places.{place_of};
 ghost use Rattle.fed_serve.specs.Responses.{issued_response, tests_asked};
-ghost use Rattle.fed_serve.specs.Steps.{HasUtf8Mark, IsAnswer};
+ghost use Rattle.fed_serve.specs.Steps.{IsAnswer};
 
-use crate::asked::{Asked, asked_for};
-use crate::kind::Kind;
-use crate::place::node_path;
 use crate::refusals::not_a_request;
 use authority_core::Registry;
 use fed_base::{Ledger, Memory, Steps};
 use http_plain::{Incoming, Request, Response};
+use node_requests::{Asked, Kind, Place, asked_for};
 use std::alloc::Global;
 
 /// A response that was made, or that memory was wanting, to a request of that kind.
@@ -25,15 +24,16 @@ pub(crate) struct Answer {
 
 // What the request asks for.
 fn asked_at(alloc: Global, registry: &Registry, request: &Request) -> Result<Option<Asked>, Memory>
-    ensures asked { IfOk result (λ asked. MatchOption asked (AsksNothing (node_path registry.now.settings.id) request.now)
-        (AsksFor (node_path registry.now.settings.id) request.now)) }
-    ensures utf8 { IfOk result (λ asked. IfSome asked HasUtf8Mark) }
+    ensures asked { IfOk result (λ asked. MatchOption asked (AsksNothing (place_of registry.now) request.now)
+        (AsksFor (place_of registry.now) request.now)) }
+    ensures formed { IfOk result (λ asked. IfSome asked IsFormed) }
+    ensures issued { IfOk result (λ asked. IfSome asked IsIssued) }
 {
-    let path = node_path(alloc, registry.id())?;
-    asked_for(alloc, path.as_slice(), request)
+    let place = Place::of(alloc, registry.id(), false)?;
+    asked_for(alloc, &place, request)
 }
 
-// What the node answers as an authority.
+// What the node answers as an authority. It isn't asked to resolve.
 fn issue<G: Ledger>(
     registry: &Registry,
     alloc: Global,
@@ -41,8 +41,9 @@ fn issue<G: Ledger>(
     asked: &Asked,
     steps: &mut Steps<G>,
 ) -> Result<Response, Memory>
-    requires { HasUtf8Mark asked.now }
-    ensures response { IfOk result (λ response. response ≡ issued_response registry.now t asked.now) }
+    requires formed { IsFormed asked.now }
+    requires issued { IsIssued asked.now }
+    ensures response { IfOk result (λ response. issued_response registry.now t asked.now ≡ Some response) }
     ensures counted { MatchResult result
         (λ _. G.count steps.new.ledger ≡ counted (tests_asked registry.now asked.now) (G.count steps.old.ledger))
         (λ _. CountsAtMost (tests_asked registry.now asked.now) (G.count steps.old.ledger) (G.count steps.new.ledger)) }
@@ -53,6 +54,7 @@ fn issue<G: Ledger>(
         Asked::List(query) => registry.list(alloc, query),
         Asked::HistoricalKeys => registry.historical_keys(alloc, t),
         Asked::Status(mark) => registry.status(alloc, t, mark, steps),
+        Asked::Resolution(_) | Asked::Rotation(_) => unreachable!(),
     }
 }
 

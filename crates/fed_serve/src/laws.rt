@@ -3,20 +3,11 @@
 ghost use Rattle.std.specs.Prelude.{◌≡◌, ◌≢◌, List, ℕ, Result};
 ghost use Rattle.http_plain.specs.declared.read.ReadEnd.{ReadEnd};
 ghost use Rattle.http_plain.specs.declared.request.Incoming.{Incoming};
-ghost use Rattle.http_plain.specs.declared.request.Request.{Request};
 ghost use Rattle.http_plain.specs.Readings.{Reads};
 ghost use Rattle.authority_core.specs.Nodes.{Node as Authority};
-ghost use Rattle.fed_serve.specs.declared.asked.Asked.{Asked};
-ghost use Rattle.fed_serve.specs.declared.kind.Served.{Served as Told};
+ghost use Rattle.fed_serve.specs.declared.served.Served.{Served as Told};
 ghost use Rattle.fed_serve.specs.Moments.{Around};
-ghost use Rattle.fed_serve.specs.Requests.{AsksFor};
 ghost use Rattle.fed_serve.specs.Serving.{IsServed};
-
-/// What holds of requests.
-pub fn requests()
-    // At a node a request asks for one thing.
-    ensures one { (path : List ℕ) (r : Request) (a b : Asked) → AsksFor path r a → AsksFor path r b → a ≡ b }
-{}
 
 /// What holds of answers.
 pub fn answers()

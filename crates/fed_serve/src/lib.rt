@@ -4,17 +4,15 @@
 #![tactic(auto)]
 
 mod answer;
-mod asked;
-mod kind;
 mod laws;
 mod node;
-mod parameters;
-mod place;
 mod refusals;
 mod send;
+mod served;
 mod serving;
 
-pub use kind::{Kind, Served};
-pub use laws::{answers, requests};
+pub use laws::answers;
 pub use node::Node;
+pub use node_requests::Kind;
+pub use served::Served;
 pub use serving::{ServeFault, serve_one};

@@ -9,11 +9,12 @@ ghost use Rattle.fed_serve.specs.Responses.{out_of_memory};
 ghost use Rattle.fed_serve.specs.Steps.{IsSaid, Sends};
 
 use crate::answer::Answer;
-use crate::kind::{Kind, Served};
 use crate::refusals::out_of_memory;
+use crate::served::Served;
 use crate::serving::ServeFault;
 use fed_ports::{Failed, Sink};
 use http_plain::{WriteEnd, write_response};
+use node_requests::Kind;
 use std::alloc::Global;
 
 // Gives all the bytes, or a part of them and then a fault.

@@ -6,9 +6,9 @@ ghost use Rattle.fed_serve.specs.Serving.{Serves};
 ghost use Rattle.fed_serve.specs.Steps.{IsReading};
 
 use crate::answer::answer_to;
-use crate::kind::Served;
 use crate::node::Node;
 use crate::send::send;
+use crate::served::Served;
 use fed_ports::{Clock, Ledger, Peer, Steps};
 use http_plain::{Incoming, ReadEnd, read_request};
 use std::alloc::Global;

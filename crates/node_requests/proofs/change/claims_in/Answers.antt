@@ -1,0 +1,7 @@
+use Rattle.std.proofs.Common.{sym, ap, ◌∙◌}
+use Rattle.fed_json.specs.Forms.{well_formed, members_well_formed}
+use Rattle.fed_json.proofs.Layers.{well_formed-Object}
+use Rattle.node_requests.proofs.change.claims_in.Goals as goal
+
+pub claims_of-requires : goal.claims_of-requires
+claims_of-requires c = ap members_well_formed c.as_slice.ensures ∙ sym (well_formed-Object c.in-Object.members) ∙ sym (ap well_formed c.in-Object.is) ∙ c.requires

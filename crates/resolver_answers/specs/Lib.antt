@@ -1,0 +1,3 @@
+pub mod Resolutions
+pub mod Responses
+pub mod Rotations
