@@ -5,9 +5,9 @@ ghost use Rattle.std.specs.Option.{option_copied};
 ghost use Rattle.fed_ports.specs.Causes.{HasCause};
 ghost use Rattle.fed_commands.specs.Answers.{named, text_of, wants_input, MayBe, IsNamed, IsRead, IsReached, IsKeptAs, StopsAs, IsTextRead};
 ghost use Rattle.fed_commands.specs.Sealings.{RepliesSealed};
+ghost use Rattle.fed_commands.specs.Streams.{without_line_end};
 ghost use Rattle.fed_commands.specs.Operations.{IsFileOf};
 
-use crate::input::without_line_end;
 use crate::operation::{File, Prepared, perform, prepare};
 use crate::reply::Reply;
 use fed_ports::{Failed, Memory, ReadEnd, Source, Store, StoreFault, Text, read_all};
@@ -97,6 +97,21 @@ fn read_text<S: Source>(
     }
 }
 
+// The bytes without the one LF or CR LF that may stand behind them.
+fn without_line_end(mut bytes: Text) -> Text
+    ensures { result ≡ without_line_end bytes }
+{
+    let end = if bytes.as_slice().ends_with(b"\r\n") {
+        2
+    } else if bytes.as_slice().ends_with(b"\n") {
+        1
+    } else {
+        0
+    };
+    bytes.truncate(bytes.len() - end);
+    bytes
+}
+
 /// The command's reply on its file and its input, at a moment in seconds since 1970, with what is said of it. No file is changed.
 pub fn reply_to<S: Source, D: Store>(
     alloc: Global,
@@ -116,7 +131,9 @@ pub fn reply_to<S: Source, D: Store>(
     ensures store_apart { named command.now ≡ None → store.new ≡ store.old }
 {
     let file = load(alloc, command, store, notes)?;
-    match prepare(alloc, command, moment, &file, notes)? {
+    let prepared = prepare(alloc, command, moment, &file, notes);
+    drop(file);
+    match prepared? {
         Prepared::Answered(reply) => Ok(reply),
         Prepared::WantsInput(operation) => {
             let text = read_text(alloc, input, notes)?;

@@ -39,9 +39,13 @@ pub fn check(
         moment: t,
     };
     explain_verdict(alloc, &chain, &asked, &verdict, notes);
+    drop(chain);
+    let status = status(&verdict);
+    let text = lines(alloc, &verdict);
+    drop(verdict);
     Ok(Reply {
-        status: status(&verdict),
-        text: lines(alloc, &verdict)?,
+        status,
+        text: text?,
         kept: None,
     })
 }

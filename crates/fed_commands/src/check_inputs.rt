@@ -19,7 +19,9 @@ pub fn read_keys(alloc: Global, file: &[u8]) -> Result<Option<JwkSet>, Memory>
         Err(TreeFault::Syntax) => return Ok(None),
         Err(TreeFault::Memory) => return Err(Memory),
     };
-    match JwkSet::read(alloc, &tree) {
+    let read = JwkSet::read(alloc, &tree);
+    drop(tree);
+    match read {
         Ok(keys) => Ok(Some(keys)),
         Err(SetFault::Memory) => Err(Memory),
         Err(_) => Ok(None),

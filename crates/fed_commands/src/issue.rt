@@ -11,15 +11,16 @@ ghost use Rattle.trust_mark.specs.declared.mark.Mark.{Mark as Claimed};
 ghost use Rattle.fed_commands.specs.Issues.{claims_read, issue_reply, of_object};
 ghost use Rattle.fed_commands.specs.Sealings.{IsSealedReply};
 
-use crate::claim_notes::warn_of_sealing;
 use crate::reply::{Reply, plain};
 use entity_statement::{Statement, StatementFault};
 use fed_json::{Json, TreeFault, is_whole, read_tree, write_tree};
 use fed_notes::{
     explain_claims, explain_length, explain_mark_claims, explain_numbers, explain_unless_object,
+    warn_of_claims, warn_of_statement,
 };
 use fed_ports::{Memory, Text};
 use fed_words::TextType;
+use jwk_set::thumbprint;
 use plain_notes::Notes;
 use sealed::seal_payload;
 use slh_dsa::KeyPair;
@@ -86,10 +87,12 @@ fn seal_claims(
 {
     if !is_whole(&tree) {
         explain_numbers(alloc, &tree, notes);
+        drop(tree);
         return plain(alloc, 1, b"refused Form\n");
     }
     let payload = write_tree(alloc, &tree)?;
     if payload.len() > MOST_CLAIMS {
+        drop(tree);
         explain_length(alloc, payload.len(), notes);
         return plain(alloc, 1, b"refused TooLong\n");
     }
@@ -105,6 +108,23 @@ fn seal_claims(
         text,
         kept: None,
     })
+}
+
+// Says what looks wrong in claims that the signer seals as a text of that type.
+fn warn_of_sealing(
+    alloc: Global,
+    signer: &KeyPair,
+    typ: TextType,
+    claims: &Json,
+    notes: &mut Notes,
+) {
+    warn_of_claims(alloc, claims, notes);
+    match typ {
+        TextType::Statement => if let Ok(kid) = thumbprint(alloc, &signer.public()) {
+            warn_of_statement(alloc, claims, &kid, notes);
+        },
+        TextType::Mark | TextType::Delegation => {},
+    }
 }
 
 // Whether the claims, whose compact JSON is the payload, are those of a text of the type.
@@ -150,7 +170,10 @@ fn is_statement(
     ensures { IfOk result (λ read. read ≡ is_ok (claims_of_tree claims)) }
 {
     match Statement::of_claims(alloc, claims) {
-        Ok(_) => Ok(true),
+        Ok(statement) => {
+            drop(statement);
+            Ok(true)
+        }
         Err(StatementFault::Memory) => Err(Memory),
         Err(fault) => {
             explain_claims(alloc, payload, &fault, notes);

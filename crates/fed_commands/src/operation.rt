@@ -8,14 +8,16 @@ ghost use Rattle.fed_commands.specs.Replies.{bad_input, plain};
 
 use crate::check::check;
 use crate::check_inputs::read_keys;
-use crate::file_notes::{explain_no_keys, explain_no_ring, warn_of_signer};
 use crate::issue::issue;
 use crate::keygen::keygen;
 use crate::reply::{Reply, plain};
 use crate::rotate::{add, retire, revoke};
 use crate::verify::verify;
 use entity_id::EntityId;
-use fed_notes::{explain_existing_file, explain_long_input};
+use fed_notes::{
+    explain_absent_file, explain_existing_file, explain_keys_file, explain_long_file,
+    explain_long_input, explain_ring_file, warn_of_ended_key,
+};
 use fed_ports::{Duplicate, Memory, Text};
 use fed_words::{Act, Command, HELP, Moment, TextType, VERSION};
 use jwk_set::JwkSet;
@@ -158,6 +160,15 @@ fn open_ring(alloc: Global, file: &File) -> Result<Option<KeyRing>, Memory>
     }
 }
 
+// Says why the file isn't that of a ring.
+fn explain_no_ring(alloc: Global, name: &Text, file: &File, notes: &mut Notes) {
+    match file {
+        File::Absent => explain_absent_file(alloc, name, notes),
+        File::TooLong => explain_long_file(alloc, name, notes),
+        File::Whole(bytes) => explain_ring_file(alloc, name, bytes.as_slice(), notes),
+    }
+}
+
 // What is answered where there is no ring.
 fn no_ring(alloc: Global, name: &Text, file: &File, notes: &mut Notes) -> Result<Prepared, Memory>
     ensures { IfOk result (λ prepared. prepared ≡ Prepared.Answered bad_input) }
@@ -182,6 +193,14 @@ fn prepare_issue(
             Ok(Prepared::WantsInput(Operation::Issue { ring, typ }))
         }
         None => no_ring(alloc, name, file, notes),
+    }
+}
+
+// Says where the signer of the ring in the file has ended.
+fn warn_of_signer(alloc: Global, name: &Text, file: &File, notes: &mut Notes) {
+    match file {
+        File::Absent | File::TooLong => {},
+        File::Whole(bytes) => warn_of_ended_key(alloc, name, bytes.as_slice(), notes),
     }
 }
 
@@ -242,6 +261,15 @@ fn prepare_check(
     }
 }
 
+// Says why the file isn't that of a key set.
+fn explain_no_keys(alloc: Global, name: &Text, file: &File, notes: &mut Notes) {
+    match file {
+        File::Absent => explain_absent_file(alloc, name, notes),
+        File::TooLong => explain_long_file(alloc, name, notes),
+        File::Whole(bytes) => explain_keys_file(alloc, name, bytes.as_slice(), notes),
+    }
+}
+
 // What is answered where there are no keys.
 fn no_keys(alloc: Global, name: &Text, file: &File, notes: &mut Notes) -> Result<Prepared, Memory>
     ensures { IfOk result (λ prepared. prepared ≡ Prepared.Answered bad_input) }
@@ -262,6 +290,7 @@ pub fn perform(
     ensures sealed { (ring : Ring) (typ : TextType) → operation ≡ Operation.Issue ring typ → IfOk result (IsSealedBySigner ring) }
 {
     let Some(input) = input else {
+        drop(operation);
         explain_long_input(alloc, notes);
         return plain(alloc, 2, b"input\n");
     };

@@ -57,7 +57,7 @@ fn add_key(
     let name = Text::new(alloc);
     match ring.rotate(alloc, &mut store, &name, seeds, at.seconds(), exp.seconds()) {
         Ok(kid) => changed(alloc, kid, store.file(b"")),
-        Err(fault) => refused(alloc, fault, notes),
+        Err(fault) => refused(alloc, &fault, notes),
     }
 }
 
@@ -72,9 +72,11 @@ pub fn retire(
 {
     let mut store = blank_store(alloc)?;
     let name = Text::new(alloc);
-    match ring.retire(alloc, &mut store, &name, kid) {
-        Ok(()) => changed(alloc, Text::of(alloc, b"done")?, store.file(b"")),
-        Err(fault) => refused(alloc, fault, notes),
+    let made = ring.retire(alloc, &mut store, &name, kid);
+    drop(ring);
+    match made {
+        Ok(()) => done(alloc, store.file(b"")),
+        Err(fault) => refused(alloc, &fault, notes),
     }
 }
 
@@ -91,10 +93,19 @@ pub fn revoke(
 {
     let mut store = blank_store(alloc)?;
     let name = Text::new(alloc);
-    match ring.revoke(alloc, &mut store, &name, kid, at.seconds(), reason) {
-        Ok(()) => changed(alloc, Text::of(alloc, b"done")?, store.file(b"")),
-        Err(fault) => refused(alloc, fault, notes),
+    let made = ring.revoke(alloc, &mut store, &name, kid, at.seconds(), reason);
+    drop(ring);
+    match made {
+        Ok(()) => done(alloc, store.file(b"")),
+        Err(fault) => refused(alloc, &fault, notes),
     }
+}
+
+// The reply of a change that has no name to tell.
+fn done(alloc: Global, file: Option<&[u8]>) -> Result<Reply, Memory>
+    ensures { IfOk result (λ reply. (bytes : List ℕ) → option_copied file.entry ≡ Some bytes → reply ≡ record { status = 0; text = codes "done" ++ 10 ∷ []; kept = Some bytes }) }
+{
+    changed(alloc, Text::of(alloc, b"done")?, file)
 }
 
 // The line, and the file that was kept.
@@ -113,10 +124,10 @@ fn changed(alloc: Global, mut line: Text, file: Option<&[u8]>) -> Result<Reply, 
 }
 
 // The refusal of a change. The store has room for its one file, so the store's fault is want of memory.
-fn refused(alloc: Global, fault: RingFault, notes: &mut Notes) -> Result<Reply, Memory>
-    ensures { IfOk result (IsRefusedAs fault) }
+fn refused(alloc: Global, fault: &RingFault, notes: &mut Notes) -> Result<Reply, Memory>
+    ensures { IfOk result (IsRefusedAs fault.now) }
 {
-    explain_change(alloc, &fault, notes);
+    explain_change(alloc, fault, notes);
     match fault {
         RingFault::Known(_) => plain(alloc, 1, b"refused Known\n"),
         RingFault::Unknown(_) => plain(alloc, 1, b"refused Unknown\n"),

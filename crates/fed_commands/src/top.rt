@@ -154,8 +154,15 @@ fn answer<S: Source, K: Sink, D: Store, C: Clock>(
     explain_command(alloc, words.as_slice(), &command, notes);
     let moment = moment_for(&command, clock);
     match reply_to(alloc, &command, moment, input, store, notes) {
-        Ok(reply) => conclude(alloc, &command, &reply, store, out, notes),
-        Err(stop) => stopped(alloc, stop, notes),
+        Ok(reply) => {
+            let status = conclude(alloc, &command, &reply, store, out, notes);
+            drop(command);
+            status
+        }
+        Err(stop) => {
+            drop(command);
+            stopped(alloc, stop, notes)
+        }
     }
 }
 

@@ -21,9 +21,12 @@ pub fn verify(
 {
     let finding = examine(alloc, key, text)?;
     explain_finding(alloc, &finding, text, notes);
+    let status = finding.status();
+    let text = finding.line(alloc);
+    drop(finding);
     Ok(Reply {
-        status: finding.status(),
-        text: finding.line(alloc)?,
+        status,
+        text: text?,
         kept: None,
     })
 }

@@ -1,11 +1,13 @@
 // Whether a text is a valid entity configuration under a public key.
 
 ghost use Rattle.std.specs.Prelude.{◌≡◌, ◌↔◌, IfOk, IsTrue};
+ghost use Rattle.slh_dsa.specs.Verifying.{Verifies};
 ghost use Rattle.fed_commands.specs.Findings.{IsFinding, status_of, line_of};
 
 use entity_id::EntityId;
 use entity_statement::{SignedStatement, Statement};
 use fed_ports::{Memory, Plain, Steps, Text};
+use jws_form::Compact;
 use slh_dsa::verify;
 use std::alloc::Global;
 
@@ -26,22 +28,39 @@ pub enum Finding {
 pub fn examine(alloc: Global, key: &[u8; 32], text: &[u8]) -> Result<Finding, Memory>
     ensures { IfOk result (IsFinding key.now text.now) }
 {
-    let Some(SignedStatement { compact, statement }) = SignedStatement::read(alloc, text)? else {
+    let Some(signed) = SignedStatement::read(alloc, text)? else {
         return Ok(Finding::Form);
     };
-    if !is_own(&statement) {
+    if !is_own(&signed.statement) {
+        drop(signed);
         return Ok(Finding::Names);
     }
+    if has_signature(key, &signed.compact) {
+        Ok(Finding::Valid(subject(signed)))
+    } else {
+        drop(signed);
+        Ok(Finding::Signature)
+    }
+}
+
+// Whether the signature verifies under the key.
+fn has_signature(key: &[u8; 32], compact: &Compact) -> bool
+    ensures { IsTrue result ↔ Verifies key.now compact.now.signed compact.now.signature }
+{
     let mut steps = Steps {
         ledger: Plain::new(),
     };
     let signed = compact.signed.as_slice();
     let signature = compact.signature.as_slice();
-    if verify(key, signed, signature, &mut steps) {
-        Ok(Finding::Valid(statement.sub))
-    } else {
-        Ok(Finding::Signature)
-    }
+    verify(key, signed, signature, &mut steps)
+}
+
+// Whom the statement is about.
+fn subject(signed: SignedStatement) -> EntityId
+    ensures { result ≡ signed.statement.sub }
+{
+    let statement = signed.statement;
+    statement.sub
 }
 
 // Whether the statement is its issuer's about itself.

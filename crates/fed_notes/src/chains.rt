@@ -55,7 +55,7 @@ fn explain_reason(
     };
     let about = place_of(alloc, place, &entry.statement);
     match reason {
-        Reason::Form => {},
+        Reason::Form => drop(about),
         Reason::Names => explain_names(alloc, entries, asked.anchor, place, about, notes),
         Reason::Times => notes.say(times_sentence(
             alloc,
@@ -83,7 +83,10 @@ fn explain_reason(
             entity_type,
             parameter,
             operator,
-        } => notes.say(policy_sentence(alloc, entity_type, parameter, *operator)),
+        } => {
+            drop(about);
+            notes.say(policy_sentence(alloc, entity_type, parameter, *operator));
+        }
     }
 }
 

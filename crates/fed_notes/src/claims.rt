@@ -3,6 +3,7 @@
 use crate::keys::explain_set_fault;
 use entity_statement::{Statement, StatementFault};
 use fed_json::{Json, TreeFault, find, object_members, read_tree};
+use jwk_set::SetFault;
 use plain_notes::{Notes, Sentence, is_like};
 use std::alloc::Global;
 
@@ -21,7 +22,7 @@ pub fn explain_claims(alloc: Global, payload: &[u8], fault: &StatementFault, not
 pub(crate) fn explain_payload(alloc: Global, about: Sentence, payload: &[u8], notes: &mut Notes) {
     match read_tree(alloc, payload) {
         Ok(tree) => match Statement::of_claims(alloc, tree) {
-            Ok(_) => {},
+            Ok(statement) => drop(statement),
             Err(fault) => explain_fault(alloc, about, payload, &fault, notes),
         },
         Err(TreeFault::Syntax) => notes.say(about.and(b"the claims aren't JSON")),
@@ -37,15 +38,33 @@ fn explain_fault(
     notes: &mut Notes,
 ) {
     match fault {
-        StatementFault::Keys(fault) => {
-            if let Ok(tree) = read_tree(alloc, payload) {
-                if let Some(set) = find(object_members(&tree), b"jwks") {
-                    explain_set_fault(alloc, about.and(b"the claim jwks"), set, *fault, notes);
-                }
-            }
-        }
+        StatementFault::Keys(fault) => explain_keys(alloc, about, payload, *fault, notes),
         StatementFault::Memory => {},
         _ => notes.say(fault_sentence(about, fault)),
+    }
+}
+
+fn explain_keys(
+    alloc: Global,
+    about: Sentence,
+    payload: &[u8],
+    fault: SetFault,
+    notes: &mut Notes,
+) {
+    if let Ok(claims) = read_tree(alloc, payload) {
+        explain_keys_in(alloc, about, &claims, fault, notes);
+    }
+}
+
+fn explain_keys_in(
+    alloc: Global,
+    about: Sentence,
+    claims: &Json,
+    fault: SetFault,
+    notes: &mut Notes,
+) {
+    if let Some(set) = find(object_members(claims), b"jwks") {
+        explain_set_fault(alloc, about.and(b"the claim jwks"), set, fault, notes);
     }
 }
 
@@ -82,21 +101,9 @@ fn fault_sentence(about: Sentence, fault: &StatementFault) -> Sentence {
 
 // The form of a claim.
 fn form_of(claim: &[u8]) -> &'static [u8] {
-    match std::str::from_utf8(claim) {
-        Ok("iss" | "sub") =>
-            b"an identifier: a URL of https or http without query, fragment and user",
-        Ok("iat" | "exp") => b"a whole number from 0 to 2^62 - 1, in seconds since 1970",
-        Ok("crit") => b"a list of one text at least",
-        Ok("authority_hints") => b"a list of 1 to 32 identifiers",
-        Ok("metadata") =>
-            b"an object of objects, without null as a parameter and with whole numbers alone",
-        Ok("metadata_policy") => b"a policy; see docs/POLICY.md",
-        Ok("metadata_policy_crit") => b"a list of texts",
-        Ok("constraints") => b"an object of constraints; see docs/STATEMENTS.md",
-        Ok("trust_marks") => b"a list of objects with the texts trust_mark_type and trust_mark",
-        Ok("trust_mark_issuers") => b"an object from type to a list of texts",
-        Ok("trust_mark_owners") => b"an object from type to an object with sub and jwks",
-        _ => b"of its form",
+    match CLAIMS.iter().find(|known| known.0.as_bytes() == claim) {
+        Some(known) => known.1.as_bytes(),
+        None => b"of its form",
     }
 }
 
@@ -111,32 +118,59 @@ fn place_of(claim: &[u8]) -> &'static [u8] {
 
 /// The name that is meant by a member that looks like a claim and isn't one.
 pub(crate) fn meant_by(name: &[u8]) -> Option<&'static str> {
-    let known = CLAIMS.iter().any(|claim| claim.as_bytes() == name);
+    let known = CLAIMS.iter().any(|claim| claim.0.as_bytes() == name);
     if known {
         return None;
     }
-    CLAIMS
+    let like = CLAIMS
         .iter()
-        .find(|claim| is_like(name, claim.as_bytes()))
-        .copied()
+        .find(|claim| is_like(name, claim.0.as_bytes()));
+    like.map(|claim| claim.0)
 }
 
-// The claims of a statement.
-const CLAIMS: [&str; 14] = [
-    "crit",
-    "iss",
-    "sub",
-    "iat",
-    "exp",
-    "jwks",
-    "authority_hints",
-    "metadata",
-    "metadata_policy",
-    "metadata_policy_crit",
-    "constraints",
-    "trust_marks",
-    "trust_mark_issuers",
-    "trust_mark_owners",
+// The claims of a statement with the form of each.
+const CLAIMS: [(&str, &str); 14] = [
+    ("crit", "a list of one text at least"),
+    (
+        "iss",
+        "an identifier: a URL of https or http without query, fragment and user",
+    ),
+    (
+        "sub",
+        "an identifier: a URL of https or http without query, fragment and user",
+    ),
+    (
+        "iat",
+        "a whole number from 0 to 2^62 - 1, in seconds since 1970",
+    ),
+    (
+        "exp",
+        "a whole number from 0 to 2^62 - 1, in seconds since 1970",
+    ),
+    ("jwks", "of its form"),
+    ("authority_hints", "a list of 1 to 32 identifiers"),
+    (
+        "metadata",
+        "an object of objects, without null as a parameter and with whole numbers alone",
+    ),
+    ("metadata_policy", "a policy; see docs/POLICY.md"),
+    ("metadata_policy_crit", "a list of texts"),
+    (
+        "constraints",
+        "an object of constraints; see docs/STATEMENTS.md",
+    ),
+    (
+        "trust_marks",
+        "a list of objects with the texts trust_mark_type and trust_mark",
+    ),
+    (
+        "trust_mark_issuers",
+        "an object from type to a list of texts",
+    ),
+    (
+        "trust_mark_owners",
+        "an object from type to an object with sub and jwks",
+    ),
 ];
 
 /// Whether the tree is of one of JSON's kinds but an object, and which.

@@ -36,16 +36,19 @@ pub(crate) fn explain_name(
         limits,
         entry.1.statement.sub.host(),
     ).is_empty());
-    if let Some((at, below)) = refused {
-        let host = below.statement.sub.host();
-        notes.say(
-            about
-                .and(b": the host ")
-                .and(host)
-                .and(b" of place ")
-                .and_number(alloc, at as u64)
-                .and(name_fault(limits, host)),
-        );
+    match refused {
+        Some((at, below)) => {
+            let host = below.statement.sub.host();
+            notes.say(
+                about
+                    .and(b": the host ")
+                    .and(host)
+                    .and(b" of place ")
+                    .and_number(alloc, at as u64)
+                    .and(name_fault(limits, host)),
+            );
+        }
+        None => drop(about),
     }
 }
 

@@ -17,23 +17,33 @@ pub(crate) fn explain_names(
     notes: &mut Notes,
 ) {
     if entries.len() == 2 {
+        drop(about);
         notes.say(Sentence::of(
             alloc,
             b"a chain has 1 text, or 3 and more: between the configurations of leaf and anchor stand statements",
         ));
     } else if let Some(entry) = entries.get(place as usize) {
         notes.say(match issuer_below(entries, place) {
-            Some(issuer) if entry.statement.sub != *issuer => about
-                .and(b" is about ")
-                .and(entry.statement.sub.text())
-                .and(b"; the text before it is by ")
-                .and(issuer.text()),
+            Some(issuer) if entry.statement.sub != *issuer => {
+                link_sentence(about, &entry.statement.sub, issuer)
+            }
             _ => {
                 let ends = (place as usize).saturating_add(1) == entries.len();
                 role_sentence(alloc, about, place, ends, anchor, &entry.statement)
             }
         });
+    } else {
+        drop(about);
     }
+}
+
+// Whom the statement is about, and who says so below.
+fn link_sentence(about: Sentence, sub: &EntityId, issuer: &EntityId) -> Sentence {
+    about
+        .and(b" is about ")
+        .and(sub.text())
+        .and(b"; the text before it is by ")
+        .and(issuer.text())
 }
 
 // The issuer of the text before the place.
@@ -88,6 +98,7 @@ pub(crate) fn explain_signature(
     notes: &mut Notes,
 ) {
     let Some(entry) = entries.get(place as usize) else {
+        drop(about);
         return;
     };
     notes.say(match &entry.compact.kid {
@@ -96,16 +107,27 @@ pub(crate) fn explain_signature(
             .and(b" is signed by the key ")
             .and(kid.as_slice())
             .and(b", which isn't in its own jwks"),
-        Some(kid) => match entries.get((place as usize).saturating_add(1)) {
-            Some(above) => key_sentence(
-                about,
-                kid,
-                &above.statement.jwks,
-                b" in the jwks of the next text",
-            ),
-            None => key_sentence(about, kid, keys, b" among the keys of the anchor's file"),
-        },
+        Some(kid) => signer_sentence(about, kid, entries, place, keys),
     });
+}
+
+// What became of the key of that name, which is looked for above the place.
+fn signer_sentence(
+    about: Sentence,
+    kid: &Text,
+    entries: &[SignedStatement],
+    place: u64,
+    keys: &JwkSet,
+) -> Sentence {
+    match entries.get((place as usize).saturating_add(1)) {
+        Some(above) => key_sentence(
+            about,
+            kid,
+            &above.statement.jwks,
+            b" in the jwks of the next text",
+        ),
+        None => key_sentence(about, kid, keys, b" among the keys of the anchor's file"),
+    }
 }
 
 // The set in which the key was looked for is that of the next text, or the anchor's for the last.

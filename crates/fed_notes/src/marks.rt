@@ -6,24 +6,22 @@ use trust_mark::MarkFault;
 
 /// Says why claims with this fault aren't those of a trust mark or of a delegation.
 pub fn explain_mark_claims(alloc: Global, fault: &MarkFault, notes: &mut Notes) {
-    let about = Sentence::of(alloc, b"standard input: ");
     match fault {
-        MarkFault::Missing(claim) => notes.say(
-            about
-                .and(b"the claim ")
-                .and(claim.as_slice())
-                .and(b" is missing"),
-        ),
+        MarkFault::Missing(claim) => notes.say(about_claim(alloc, claim.as_slice()).and(
+            b" is missing",
+        )),
         MarkFault::Shape(claim) => notes.say(
-            about
-                .and(b"the claim ")
-                .and(claim.as_slice())
+            about_claim(alloc, claim.as_slice())
                 .and(b" isn't ")
                 .and(form_of(claim.as_slice()))
                 .and(b" (Shape)"),
         ),
         MarkFault::Typ | MarkFault::Tree | MarkFault::Memory => {},
     }
+}
+
+fn about_claim(alloc: Global, claim: &[u8]) -> Sentence {
+    Sentence::of(alloc, b"standard input: the claim ").and(claim)
 }
 
 // The form of a claim of a mark.

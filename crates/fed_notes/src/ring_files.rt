@@ -15,20 +15,23 @@ pub(crate) fn explain_ring(alloc: Global, about: Sentence, tree: &Json, notes: &
 }
 
 fn explain_keys(alloc: Global, about: Sentence, keys: &[Json], notes: &mut Notes) {
-    if keys.is_empty() || keys.len() > 16 {
-        notes.say(
-            about
-                .and(b" has ")
-                .and_number(alloc, keys.len() as u64)
-                .and(b" keys; a ring has 1 to 16"),
-        );
-        return;
-    }
+    notes.say(if keys.is_empty() || keys.len() > 16 {
+        about
+            .and(b" has ")
+            .and_number(alloc, keys.len() as u64)
+            .and(b" keys; a ring has 1 to 16")
+    } else {
+        keys_sentence(alloc, about, keys)
+    });
+}
+
+// What is wrong with the first faulty one of the keys, or with them all.
+fn keys_sentence(alloc: Global, about: Sentence, keys: &[Json]) -> Sentence {
     let fault = keys
         .iter()
         .enumerate()
         .find(|entry| !key_fault(object_members(entry.1)).is_empty());
-    notes.say(match fault {
+    match fault {
         Some((place, key)) => about
             .and(b": key ")
             .and_number(alloc, place as u64)
@@ -36,7 +39,7 @@ fn explain_keys(alloc: Global, about: Sentence, keys: &[Json], notes: &mut Notes
         None => about.and(
             b" has no live key, one key twice, a member that isn't a ring's, or a version that isn't 1",
         ),
-    });
+    }
 }
 
 // What is wrong with a key, or nothing.
@@ -85,17 +88,7 @@ pub fn warn_of_ended_key(alloc: Global, name: &Text, file: &[u8], notes: &mut No
     let Some(moment) = notes.moment() else {
         return;
     };
-    let Ok(tree) = read_tree(alloc, file) else {
-        return;
-    };
-    let Some(Json::List(keys)) = find(object_members(&tree), b"keys") else {
-        return;
-    };
-    let signer = keys
-        .as_slice()
-        .iter()
-        .find(|key| is_live(object_members(key)));
-    let Some(exp) = signer.and_then(|key| moment_at(object_members(key), b"exp")) else {
+    let Some(exp) = signer_end(alloc, file) else {
         return;
     };
     if exp <= moment {
@@ -106,6 +99,25 @@ pub fn warn_of_ended_key(alloc: Global, name: &Text, file: &[u8], notes: &mut No
                 .and_moment(alloc, exp),
         );
     }
+}
+
+// When the signer of a ring's file ends.
+fn signer_end(alloc: Global, file: &[u8]) -> Option<u64> {
+    match read_tree(alloc, file) {
+        Ok(tree) => signer_end_in(&tree),
+        Err(_) => None,
+    }
+}
+
+fn signer_end_in(tree: &Json) -> Option<u64> {
+    let Some(Json::List(keys)) = find(object_members(tree), b"keys") else {
+        return None;
+    };
+    let signer = keys
+        .as_slice()
+        .iter()
+        .find(|key| is_live(object_members(key)))?;
+    moment_at(object_members(signer), b"exp")
 }
 
 fn is_live(members: &[Member]) -> bool {

@@ -36,23 +36,27 @@ fn explain_compact(alloc: Global, about: Sentence, compact: &Compact, notes: &mu
 
 fn explain_form(alloc: Global, about: Sentence, text: &[u8], fault: FormFault, notes: &mut Notes) {
     match fault {
-        FormFault::TooLong => notes.say(about.and(b"the text has more than 262,144 bytes")),
-        FormFault::Parts => notes.say(about.and(parts_fault(text))),
-        FormFault::Base64(_) if is_json(text) => notes.say(about.and(parts_fault(text))),
-        FormFault::Base64(part) => notes.say(
-            about
-                .and(b"the ")
-                .and(part_name(part))
-                .and(b" isn't base64url without padding"),
-        ),
-        FormFault::Header => notes.say(about.and(
-            b"the header isn't a JSON object whose alg, typ and kid are texts",
-        )),
-        FormFault::Crit => notes.say(about.and(
-            b"the header has crit, extensions of which fed knows none",
-        )),
         FormFault::Algorithm => explain_algorithm(alloc, about, text, notes),
         FormFault::Memory => {},
+        _ => notes.say(about.and(form_fault(text, fault))),
+    }
+}
+
+fn form_fault(text: &[u8], fault: FormFault) -> &'static [u8] {
+    match fault {
+        FormFault::TooLong => b"the text has more than 262,144 bytes",
+        FormFault::Base64(part) if !is_json(text) => part_fault(part),
+        FormFault::Header => b"the header isn't a JSON object whose alg, typ and kid are texts",
+        FormFault::Crit => b"the header has crit, extensions of which fed knows none",
+        _ => parts_fault(text),
+    }
+}
+
+fn part_fault(part: u8) -> &'static [u8] {
+    match part {
+        0 => b"the header isn't base64url without padding",
+        1 => b"the payload isn't base64url without padding",
+        _ => b"the signature isn't base64url without padding",
     }
 }
 
@@ -71,49 +75,53 @@ fn is_json(text: &[u8]) -> bool {
     text.starts_with(b"{") || text.starts_with(b"[")
 }
 
-fn part_name(part: u8) -> &'static [u8] {
-    match part {
-        0 => b"header",
-        1 => b"payload",
-        _ => b"signature",
-    }
-}
-
 fn explain_algorithm(alloc: Global, about: Sentence, text: &[u8], notes: &mut Notes) {
-    notes.say(match algorithm_of(alloc, text) {
+    let about = match algorithm_of(alloc, text) {
         Some(algorithm) => about
             .and(b"this text is signed with ")
-            .and(algorithm.as_slice())
-            .and(b"; fed checks ")
-            .and(ALGORITHM),
-        None => about
-            .and(b"the header names no alg; fed checks ")
-            .and(ALGORITHM),
-    });
+            .and(algorithm.as_slice()),
+        None => about.and(b"the header names no alg"),
+    };
+    notes.say(about.and(b"; fed checks ").and(ALGORITHM));
 }
 
 // The `alg` of the text's header.
 fn algorithm_of(alloc: Global, text: &[u8]) -> Option<Text> {
     let header = text.split(|byte| *byte == b'.').next()?;
-    let Ok(Some(header)) = decode(alloc, header) else {
-        return None;
-    };
-    let Ok(tree) = read_tree(alloc, header.as_slice()) else {
-        return None;
-    };
-    let algorithm = text_at(object_members(&tree), b"alg")?;
-    algorithm.copy(alloc).ok()
+    match decode(alloc, header) {
+        Ok(Some(header)) => algorithm_in(alloc, header.as_slice()),
+        _ => None,
+    }
+}
+
+// The `alg` of a header, in its bytes.
+fn algorithm_in(alloc: Global, header: &[u8]) -> Option<Text> {
+    match read_tree(alloc, header) {
+        Ok(tree) => copy_of(alloc, text_at(object_members(&tree), b"alg")),
+        Err(_) => None,
+    }
+}
+
+fn copy_of(alloc: Global, text: Option<&Text>) -> Option<Text> {
+    text?.copy(alloc).ok()
 }
 
 /// Says why the text isn't a configuration that verifies under the public key that was given.
 pub fn explain_verify(alloc: Global, text: &[u8], notes: &mut Notes) {
     let about = Sentence::of(alloc, b"standard input: ");
     match split(alloc, text) {
-        Ok(compact) => match Statement::read(alloc, &compact) {
-            Ok(statement) => explain_read(about, &compact, &statement, notes),
-            Err(_) => explain_compact(alloc, about, &compact, notes),
-        },
+        Ok(compact) => explain_parts(alloc, about, &compact, notes),
         Err(fault) => explain_form(alloc, about, text, fault, notes),
+    }
+}
+
+fn explain_parts(alloc: Global, about: Sentence, compact: &Compact, notes: &mut Notes) {
+    match Statement::read(alloc, compact) {
+        Ok(statement) => {
+            explain_read(about, compact, &statement, notes);
+            drop(statement);
+        }
+        Err(_) => explain_compact(alloc, about, compact, notes),
     }
 }
 

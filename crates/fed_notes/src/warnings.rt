@@ -3,7 +3,7 @@
 use crate::claims::meant_by;
 use crate::keys::has_key;
 use fed_base::{MOMENT_LIMIT, Text};
-use fed_json::{Json, Member, count_below, find, object_members};
+use fed_json::{Json, Member, count_below, find, object_members, text_at};
 use plain_notes::{Notes, Sentence, warn_of_moment};
 use std::alloc::Global;
 
@@ -48,19 +48,23 @@ fn moment_at(members: &[Member], name: &[u8]) -> Option<u64> {
 
 // A configuration is signed by a key that it has itself.
 fn warn_of_signer(alloc: Global, members: &[Member], kid: &Text, notes: &mut Notes) {
-    let (Some(Json::Text(iss)), Some(Json::Text(sub)), Some(set)) = (
-        find(members, b"iss"),
-        find(members, b"sub"),
-        find(members, b"jwks"),
-    ) else {
+    let Some(set) = find(members, b"jwks") else {
         return;
     };
-    if iss.as_slice() == sub.as_slice() && !has_key(set, kid.as_slice()) {
+    if is_configuration(members) && !has_key(set, kid.as_slice()) {
         notes.say(
             Sentence::of(alloc, b"warning: the signing key ")
                 .and(kid.as_slice())
                 .and(b" isn't in the claims' jwks, so no one can check the text by them"),
         );
+    }
+}
+
+// Whether the claims are by an entity about itself.
+fn is_configuration(members: &[Member]) -> bool {
+    match (text_at(members, b"iss"), text_at(members, b"sub")) {
+        (Some(iss), Some(sub)) => iss.as_slice() == sub.as_slice(),
+        _ => false,
     }
 }
 

@@ -1,8 +1,10 @@
--- The service that the words ask for: a command that answers others over a network.
+-- What the words ask for over a network: to answer others, or to resolve an entity.
 use Rattle.std.specs.Prelude.{ℕ, List, [], ◌∷◌, ◌==◌, length, codes, bytes_eq, Option, Some, None, if◌then◌else◌}
+use Rattle.std.specs.Option.{option_and_then}
+use Rattle.entity_id.specs.Identifiers.{identifier_of}
 use Rattle.fed_words.specs.Options.{count_in, option_in}
 use Rattle.fed_words.specs.declared.service.Service.{Service}
-use Rattle.fed_words.specs.declared.service.Service.TheVariants.{Authority}
+use Rattle.fed_words.specs.declared.service.Service.TheVariants.{Authority, Resolve}
 
 -- the service, where the file and both numbers are there
 abbrev pub authority_with : Option (List ℕ) → Option ℕ → Option ℕ → Option Service
@@ -18,7 +20,28 @@ authority_of words =
     then authority_with (option_in (codes "--config") words) (count_in (codes "--port") 65535 words) (count_in (codes "--connections") 1000000 words)
     else None
 
+-- the entity identifier that the option's value is (OpenID Federation 1.0 section 1.2)
+abbrev pub identifier_in : List ℕ → List (List ℕ) → Option (List ℕ)
+identifier_in name words = option_and_then identifier_of (option_in name words)
+
+-- the call, where the file and both entities are there
+abbrev pub resolve_with : Option (List ℕ) → Option (List ℕ) → Option (List ℕ) → Option Service
+resolve_with (Some config) (Some sub) (Some anchor) = Some (Resolve config sub anchor)
+resolve_with (Some config) (Some sub) None = None
+resolve_with (Some config) None anchor = None
+resolve_with None sub anchor = None
+
+-- three options with their values: a file, the entity that is asked for, and a trust anchor
+unfoldable pub resolve_of : List (List ℕ) → Option Service
+resolve_of words =
+    if length words == 6
+    then resolve_with (option_in (codes "--config") words) (identifier_in (codes "--sub") words) (identifier_in (codes "--anchor") words)
+    else None
+
 -- the words after the program's name
 unfoldable pub service_of : List (List ℕ) → Option Service
 service_of [] = None
-service_of (verb ∷ words) = if bytes_eq verb (codes "authority") then authority_of words else None
+service_of (verb ∷ words) =
+    if bytes_eq verb (codes "authority") then authority_of words
+    else (if bytes_eq verb (codes "resolve") then resolve_of words
+    else None)

@@ -3,6 +3,7 @@
 ghost use Rattle.std.specs.Prelude.{◌≡◌, IfOk, codes};
 ghost use Rattle.std.specs.Option.{option_and_then};
 ghost use Rattle.fed_words.specs.TextTypes.{type_of};
+ghost use Rattle.fed_words.specs.declared.command.Command.TheVariants.{Check};
 ghost use Rattle.fed_words.specs.Options.{option_in};
 ghost use Rattle.fed_words.specs.Commands.{command_of, verb_of, verify_of, keygen_of, issue_of, rotate_of, check_of, flag_of};
 
@@ -181,11 +182,28 @@ fn read_check(alloc: Global, rest: &[Text]) -> Result<Command, Memory>
         return Ok(Command::Faulty);
     };
     match EntityId::of(alloc, anchor.as_slice())? {
-        Some(anchor) => Ok(Command::Check {
+        Some(anchor) => check_call(alloc, anchor, keys_file, at),
+        None => Ok(Command::Faulty),
+    }
+}
+
+fn check_call(
+    alloc: Global,
+    anchor: EntityId,
+    keys_file: &Text,
+    at: Option<Moment>,
+) -> Result<Command, Memory>
+    ensures { IfOk result (λ c. c ≡ Check anchor keys_file.now at) }
+{
+    match keys_file.copy(alloc) {
+        Ok(keys_file) => Ok(Command::Check {
             anchor,
-            keys_file: keys_file.copy(alloc)?,
+            keys_file,
             at,
         }),
-        None => Ok(Command::Faulty),
+        Err(memory) => {
+            drop(anchor);
+            Err(memory)
+        }
     }
 }

@@ -11,6 +11,7 @@ usage: fed verify PUB < TEXT
        fed rotate --ring FILE --act revoke --kid KID --at T --reason R
        fed check --anchor ID --keys FILE [--at T] < CHAIN
        fed authority --config FILE --port P --connections N
+       fed resolve --config FILE --sub ID --anchor ID
        fed --help | --version
 
 verify   checks one entity configuration under the public key PUB, 43 base64url
@@ -36,6 +37,9 @@ authority
          FED_LISTEN, as the authority of the configuration in the file --config:
          its configuration, statements, list, historical keys and marks' statuses.
          It writes `served N`. FED_LOG=off leaves out the line of each connection.
+resolve  resolves the entity --sub up to the trust anchor --anchor, over HTTP by
+         the routes of the configuration in the file --config, and writes the
+         signed reply, or the error of the resolve endpoint.
 
 Options stand in any order. T is a moment in seconds since 1970, below 2^62. An
 input or a file has at most 4,194,304 bytes; one LF or CR LF may end an input.
@@ -45,7 +49,9 @@ status  0  the work is done              1  refused
            their form                    3  reading the input failed
         4  writing the output failed     5  memory was wanting
         6  reading or keeping a file failed
-        7  the network failed: the port is taken, or nobody can be accepted
+        7  the network failed: the port is taken, nobody can be accepted, or
+           what was asked for couldn't be fetched
+        8  a counter is worn             9  the search's budget ended
 ";
 
 /// What `--version` writes.

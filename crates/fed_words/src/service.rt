@@ -1,9 +1,11 @@
-// Commands that answer others over a network.
+// Commands that work over a network.
 
-ghost use Rattle.std.specs.Prelude.{◌≡◌, ◌≢◌, IfOk, None, OnErr};
-ghost use Rattle.fed_words.specs.Services.{authority_of, service_of};
+ghost use Rattle.std.specs.Prelude.{◌≡◌, IfOk, Some, codes};
+ghost use Rattle.fed_words.specs.Services.{authority_of, identifier_in, resolve_of, resolve_with, service_of};
+ghost use Rattle.fed_words.specs.declared.service.Service.TheVariants.{Resolve};
 
 use crate::options::{count_in, option_in};
+use entity_id::EntityId;
 use fed_base::{Duplicate, Memory, Text};
 use std::alloc::Global;
 
@@ -13,7 +15,7 @@ pub(crate) const CONNECTIONS: u64 = 1_000_000;
 /// The greatest port.
 pub(crate) const PORTS: u64 = 65_535;
 
-/// What is to be served.
+/// What is to be done over a network.
 #[derive(Drop)]
 pub enum Service {
     /// `authority --config FILE --port P --connections N`: answer so many connections on a port, as the authority of a configuration file.
@@ -24,19 +26,26 @@ pub enum Service {
         /// 1 to 1,000,000.
         connections: u64,
     },
+    /// `resolve --config FILE --sub ID --anchor ID`: resolve an entity up to a trust anchor, as the resolver of a configuration file.
+    Resolve {
+        config_file: Text,
+        sub: EntityId,
+        anchor: EntityId,
+    },
 }
 
-/// The service that the words after the program's name ask for, or `None` where they ask for none.
+/// What the words after the program's name ask for over a network, or `None` where they ask for no such thing.
 #[tactic(auto, unfolding(crate::specs::Services::service_of))]
 pub fn read_service(alloc: Global, words: &[Text]) -> Result<Option<Service>, Memory>
     ensures service { IfOk result (λ service. service ≡ service_of words.now) }
-    ensures only { OnErr result (service_of words.now ≢ None) }
 {
     let Some((verb, rest)) = words.split_first() else {
         return Ok(None);
     };
     if verb.as_slice() == b"authority".as_slice() {
         read_authority(alloc, rest)
+    } else if verb.as_slice() == b"resolve".as_slice() {
+        read_resolve(alloc, rest)
     } else {
         Ok(None)
     }
@@ -45,7 +54,6 @@ pub fn read_service(alloc: Global, words: &[Text]) -> Result<Option<Service>, Me
 #[tactic(auto, unfolding(crate::specs::Services::authority_of))]
 fn read_authority(alloc: Global, rest: &[Text]) -> Result<Option<Service>, Memory>
     ensures service { IfOk result (λ service. service ≡ authority_of rest.now) }
-    ensures only { OnErr result (authority_of rest.now ≢ None) }
 {
     match (
         option_in(rest, b"--config"),
@@ -60,5 +68,83 @@ fn read_authority(alloc: Global, rest: &[Text]) -> Result<Option<Service>, Memor
             }))
         }
         _ => Ok(None),
+    }
+}
+
+#[tactic(auto, unfolding(crate::specs::Services::resolve_of))]
+fn read_resolve(alloc: Global, rest: &[Text]) -> Result<Option<Service>, Memory>
+    ensures { IfOk result (λ service. service ≡ resolve_of rest.now) }
+{
+    match option_in(rest, b"--config") {
+        Some(config_file) if rest.len() == 6 => read_entities(alloc, config_file, rest),
+        _ => Ok(None),
+    }
+}
+
+// The call with this configuration file, where both entities are there.
+fn read_entities(
+    alloc: Global,
+    config_file: &Text,
+    rest: &[Text],
+) -> Result<Option<Service>, Memory>
+    ensures { IfOk result (λ service. service ≡ resolve_with (Some config_file.now) (identifier_in (codes "--sub") rest.now) (identifier_in (codes "--anchor") rest.now)) }
+{
+    match identifier_in(alloc, rest, b"--sub")? {
+        Some(sub) => read_anchor(alloc, config_file, sub, rest),
+        None => Ok(None),
+    }
+}
+
+// The call for this entity, where the anchor is there.
+fn read_anchor(
+    alloc: Global,
+    config_file: &Text,
+    sub: EntityId,
+    rest: &[Text],
+) -> Result<Option<Service>, Memory>
+    ensures { IfOk result (λ service. service ≡ resolve_with (Some config_file.now) (Some sub) (identifier_in (codes "--anchor") rest.now)) }
+{
+    match identifier_in(alloc, rest, b"--anchor") {
+        Ok(Some(anchor)) => resolve_call(alloc, config_file, sub, anchor),
+        Ok(None) => {
+            drop(sub);
+            Ok(None)
+        }
+        Err(memory) => {
+            drop(sub);
+            Err(memory)
+        }
+    }
+}
+
+fn resolve_call(
+    alloc: Global,
+    config_file: &Text,
+    sub: EntityId,
+    anchor: EntityId,
+) -> Result<Option<Service>, Memory>
+    ensures { IfOk result (λ service. service ≡ Some (Resolve config_file.now sub anchor)) }
+{
+    match config_file.copy(alloc) {
+        Ok(config_file) => Ok(Some(Service::Resolve {
+            config_file,
+            sub,
+            anchor,
+        })),
+        Err(memory) => {
+            drop(sub);
+            drop(anchor);
+            Err(memory)
+        }
+    }
+}
+
+// The entity that an option's value names.
+fn identifier_in(alloc: Global, rest: &[Text], name: &[u8]) -> Result<Option<EntityId>, Memory>
+    ensures { IfOk result (λ id. id ≡ identifier_in name.now rest.now) }
+{
+    match option_in(rest, name) {
+        Some(value) => EntityId::of(alloc, value.as_slice()),
+        None => Ok(None),
     }
 }

@@ -35,6 +35,7 @@ pub enum OptionName {
     Port,
     Reason,
     Ring,
+    Sub,
     Typ,
 }
 
@@ -53,6 +54,7 @@ impl OptionName {
             OptionName::Port => b"--port",
             OptionName::Reason => b"--reason",
             OptionName::Ring => b"--ring",
+            OptionName::Sub => b"--sub",
             OptionName::Typ => b"--typ",
         }
     }
@@ -61,7 +63,7 @@ impl OptionName {
     pub fn value(self) -> &'static [u8] {
         match self {
             OptionName::Act => b"ACT",
-            OptionName::Anchor => b"ID",
+            OptionName::Anchor | OptionName::Sub => b"ID",
             OptionName::At | OptionName::Exp => b"T",
             OptionName::Config | OptionName::Keys | OptionName::Ring => b"FILE",
             OptionName::Connections => b"N",
@@ -76,7 +78,7 @@ impl OptionName {
     pub fn form(self) -> Form {
         match self {
             OptionName::Act => Form::Act,
-            OptionName::Anchor => Form::Identifier,
+            OptionName::Anchor | OptionName::Sub => Form::Identifier,
             OptionName::At | OptionName::Exp => Form::Moment,
             OptionName::Config | OptionName::Keys | OptionName::Kid | OptionName::Ring =>
                 Form::Word,
@@ -103,7 +105,7 @@ pub struct Usage {
 }
 
 /// All commands but `verify`, which takes one word, and the flags, which stand alone.
-pub const USAGES: [Usage; 7] = [
+pub const USAGES: [Usage; 8] = [
     Usage {
         command: "keygen",
         act: "",
@@ -165,6 +167,13 @@ pub const USAGES: [Usage; 7] = [
             OptionName::Port,
             OptionName::Connections,
         ],
+        free: &[],
+        input: "",
+    },
+    Usage {
+        command: "resolve",
+        act: "",
+        needed: &[OptionName::Config, OptionName::Sub, OptionName::Anchor],
         free: &[],
         input: "",
     },

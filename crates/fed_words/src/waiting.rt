@@ -8,16 +8,25 @@ use std::alloc::Global;
 
 /// Says what the command of these words waits for where standard input is a terminal, and how it ends.
 pub fn explain_waiting(alloc: Global, words: &[Text], notes: &mut Notes) {
-    let Ok(command) = read_command(alloc, words) else {
-        return;
-    };
-    let wanted = wanted_by(&command);
+    let wanted = wanted_after(alloc, words);
     if !wanted.is_empty() {
         notes.say(
             Sentence::of(alloc, b"reading ").and(wanted).and(
                 b" from the terminal; end it with Ctrl-D on a line of its own",
             ),
         );
+    }
+}
+
+// The input that the command of these words wants, or nothing.
+fn wanted_after(alloc: Global, words: &[Text]) -> &'static [u8] {
+    match read_command(alloc, words) {
+        Ok(command) => {
+            let wanted = wanted_by(&command);
+            drop(command);
+            wanted
+        }
+        Err(_) => b"",
     }
 }
 

@@ -1,4 +1,4 @@
-use Rattle.std.proofs.Common.{codes}
+use Rattle.std.proofs.Common.{codes, refl}
 use Rattle.key_ring.specs.Changes.{retire_key}
 use Rattle.fed_commands.proofs.RotateLaws.{change_made, change_refused}
 use Rattle.fed_commands.proofs.rotate.retire.Goals as goal
@@ -6,8 +6,8 @@ use Rattle.fed_commands.proofs.rotate.retire.Goals as goal
 -- src/rotate.rt
 pub returns-in-Ok : goal.returns-in-Ok
 returns-in-Ok c =
-    change_made c.changed.result c.args.ring (retire_key c.args.kid.now) (codes "done") c.in_ok-of-in-Ok.field-0 _ _ c.new-name.result _ c.in-Ok.ensures.answer c.in-Ok.ensures.left.files
-    c.new-name.ensures c.file.ensures c.in_ok-of-in-Ok.ensures c.changed.ensures
+    change_made c.done.result c.args.ring (retire_key c.args.kid.now) (codes "done") (codes "done") _ _ c.new-name.result _ c.in-Ok.ensures.answer c.in-Ok.ensures.left.files
+    c.new-name.ensures c.file.ensures refl c.done.ensures
 
 -- src/rotate.rt
 pub returns : goal.returns

@@ -12,7 +12,7 @@ pub returns-in-Ok-reply_to : goal.returns-in-Ok-reply_to
 returns-in-Ok-reply_to g c =
     let cmd = c.in-Ok.command in
     let reply = c.in-Ok-reply_to.reply in
-    let status = c.conclude.result in
+    let status = c.conclude-status.result in
     let first : Readings = record { count = g.C.Clock.readings c.args.clock.now; last = g.C.Clock.last c.args.clock.now; told = g.C.Clock.told c.args.clock.now } in
     let now : Readings = record { count = g.C.Clock.readings c.moment_for-moment.new.clock; last = g.C.Clock.last c.moment_for-moment.new.clock; told = g.C.Clock.told c.moment_for-moment.new.clock } in
     let left = g.S.Source.left c.args.input.now in
@@ -22,14 +22,14 @@ returns-in-Ok-reply_to g c =
     let store = g.D.Store.store_faults c.reply_to.new.store in
     let x : Output = record { held = held; write_faults = sink; files = g.D.Store.files c.args.store.now; store_faults = store } in
     let y : Output = record {
-      held = g.K.Sink.held c.conclude.new.out;
-      write_faults = g.K.Sink.write_faults c.conclude.new.out;
-      files = g.D.Store.files c.conclude.new.store;
-      store_faults = g.D.Store.store_faults c.conclude.new.store;
+      held = g.K.Sink.held c.conclude-status.new.out;
+      write_faults = g.K.Sink.write_faults c.conclude-status.new.out;
+      files = g.D.Store.files c.conclude-status.new.store;
+      store_faults = g.D.Store.store_faults c.conclude-status.new.store;
     } in
     let same : cmd ≡ command_of c.args.words.now = c.in-Ok.ensures ∙ ap command_of c.as_slice.ensures in
     let reached = reached_at cmd first now c.moment_for-moment.result x.files left left' reply c.moment_for-moment.ensures.moment c.in-Ok-reply_to.ensures.reply in
-    let ended = subst (λ f. IsEnded cmd reply (record { held = held; write_faults = sink; files = f; store_faults = store }) y status) c.in-Ok-reply_to.ensures.files c.conclude.ensures.ended in
+    let ended = subst (λ f. IsEnded cmd reply (record { held = held; write_faults = sink; files = f; store_faults = store }) y status) c.in-Ok-reply_to.ensures.files c.conclude-status.ensures.ended in
     record {
       answers = subst (λ k. Answers k now.last (outside left x) (outside left' y) status) same (ended_answers cmd now.last left left' x y reply status reached ended);
       sealed = subst (λ k. IssuesSealed k x.files x.held y.held status) same (ended_sealed cmd reply x y status c.in-Ok-reply_to.ensures.sealed ended);
@@ -39,6 +39,6 @@ returns-in-Ok-reply_to g c =
       clock = subst (λ k. UsesClock k first now status) same (clock_used cmd first now c.moment_for-moment.result status c.moment_for-moment.ensures.moment);
       range = ended_range cmd now.last left left' x y reply status reached ended;
       input_apart = subst (λ k. wants_input k ≡ false → c.reply_to.new.input ≡ c.args.input.now) same c.in-Ok-reply_to.ensures.input_apart;
-      store_apart = subst (λ k. named k ≡ None → c.conclude.new.store ≡ c.args.store.now) same (λ none. c.conclude.ensures.apart none ∙ c.in-Ok-reply_to.ensures.store_apart none);
+      store_apart = subst (λ k. named k ≡ None → c.conclude-status.new.store ≡ c.args.store.now) same (λ none. c.conclude-status.ensures.apart none ∙ c.in-Ok-reply_to.ensures.store_apart none);
       clock_apart = subst (λ k. reads_clock k ≡ false → c.moment_for-moment.new.clock ≡ c.args.clock.now) same c.moment_for-moment.ensures.apart;
     }
