@@ -6,7 +6,7 @@ _fed() {
         *[\<\>]*) before=--files ;;
     esac
     case $COMP_CWORD:$before in
-        1:*) offered='verify keygen issue rotate check authority --help --version' ;;
+        1:*) offered='verify keygen issue rotate check authority resolve --help --version' ;;
         *:--act) offered='add retire revoke' ;;
         *:--reason) offered='unspecified compromised superseded' ;;
         *:--typ) offered='entity-statement+jwt trust-mark+jwt trust-mark-delegation+jwt' ;;
@@ -15,7 +15,7 @@ _fed() {
             mapfile -t COMPREPLY < <(compgen -f -- "$word")
             return
             ;;
-        *:--anchor | *:--at | *:--connections | *:--exp | *:--kid | *:--port) return ;;
+        *:--anchor | *:--at | *:--connections | *:--exp | *:--kid | *:--port | *:--sub) return ;;
         *)
             for ((at = 2; at < COMP_CWORD; at++)); do
                 [[ ${COMP_WORDS[at]} == --act ]] && act=${COMP_WORDS[at + 1]}
@@ -25,6 +25,7 @@ _fed() {
                 check:) offered='--anchor --keys --at' ;;
                 issue:) offered='--ring --typ' ;;
                 keygen:) offered='--ring --at --exp' ;;
+                resolve:) offered='--config --sub --anchor' ;;
                 rotate:) offered='--ring --act --at --exp --kid --reason' ;;
                 rotate:add) offered='--ring --act --at --exp' ;;
                 rotate:retire) offered='--ring --act --kid' ;;

@@ -5,7 +5,7 @@ function __fed_offered
     set -l offered
     switch (count $words):$words[-1]
         case '1:*'
-            printf '%s\n' verify\t'checks an entity configuration under a public key' keygen\t'makes a key and the file of its ring' issue\t'signs claims by a ring'\''s newest live key' rotate\t'changes a key ring' check\t'checks a trust chain for its trust anchor' authority\t'answers connections as an authority' --help\t'shows every command' --version\t'shows the version'
+            printf '%s\n' verify\t'checks an entity configuration under a public key' keygen\t'makes a key and the file of its ring' issue\t'signs claims by a ring'\''s newest live key' rotate\t'changes a key ring' check\t'checks a trust chain for its trust anchor' authority\t'answers connections as an authority' resolve\t'resolves an entity up to a trust anchor' --help\t'shows every command' --version\t'shows the version'
             return
         case '*:--act'
             printf '%s\n' add retire revoke
@@ -16,7 +16,7 @@ function __fed_offered
         case '*:--typ'
             printf '%s\n' entity-statement+jwt trust-mark+jwt trust-mark-delegation+jwt
             return
-        case '*:--config' '*:--keys' '*:--ring' '*:--anchor' '*:--at' '*:--connections' '*:--exp' '*:--kid' '*:--port'
+        case '*:--config' '*:--keys' '*:--ring' '*:--anchor' '*:--at' '*:--connections' '*:--exp' '*:--kid' '*:--port' '*:--sub'
             return
     end
     if set -l at (contains -i -- --act $words)
@@ -31,6 +31,8 @@ function __fed_offered
             set offered --ring\t'the file of the key ring' --typ\t'which type of text is signed'
         case keygen:
             set offered --ring\t'the file of the key ring' --at\t'from when, or for which moment, in seconds since 1970' --exp\t'until when, in seconds since 1970'
+        case resolve:
+            set offered --config\t'the file of the node'\''s configuration' --sub\t'the entity that is resolved' --anchor\t'the trust anchor'\''s identifier'
         case rotate:
             set offered --ring\t'the file of the key ring' --act\t'what is changed' --at\t'from when, or for which moment, in seconds since 1970' --exp\t'until when, in seconds since 1970' --kid\t'the name of a key of the ring' --reason\t'why the key is revoked'
         case rotate:add

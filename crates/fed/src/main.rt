@@ -121,9 +121,10 @@ fn main(rt: HostRuntime) -> ExitCode {
     let mut out = RealSink::new(rt.stdout());
     let mut store = RealStore::new(&rt);
     let mut clock = RealClock::new(&rt);
+    let mut worn = None;
     if is_quiet(&rt) {
         let status = run(
-            &rt, alloc, &words, &mut input, &mut out, &mut store, &mut net, &mut clock,
+            &rt, alloc, &words, &mut input, &mut out, &mut store, &mut net, &mut clock, &mut worn,
         );
         return ExitCode::from(status);
     }
@@ -132,7 +133,8 @@ fn main(rt: HostRuntime) -> ExitCode {
     }
     let mut said = RealSink::new(rt.stderr());
     let status = run_with_notes(
-        &rt, alloc, &words, &mut input, &mut out, &mut store, &mut net, &mut clock, &mut said,
+        &rt, alloc, &words, &mut input, &mut out, &mut store, &mut net, &mut clock, &mut worn,
+        &mut said,
     );
     tell_of_file(&rt, alloc, words.as_slice(), status);
     ExitCode::from(status)

@@ -7,7 +7,8 @@ use Rattle.node_service.specs.Ends.{At, Ends, Order}
 use Rattle.std.specs.Prelude.{List}
 use Rattle.fed_words.specs.declared.service.Service.{Service}
 use Rattle.fed_words.specs.declared.service.Service.TheVariants.{Authority}
-use Rattle.fed_run.specs.Authorities.{HasNoNode, Outside, RunsAuthority, RunsService, WritesLine, input_line}
+use Rattle.fed_run.specs.Authorities.{HasNoNode, Outside, RunsAuthority, WritesLine, input_line}
+use Rattle.fed_run.specs.Services.{RunsService}
 
 no_node : {P : Type 0} (at : P → PeerAt) (order : Order) (before now : At P) (end : ServiceEnd) → end ≡ ends.Input → Ends at order before now end
     → HasNoNode order before now
@@ -21,8 +22,8 @@ not_silent s n is small (inr (inr e)) = absurd (omega (arith, is, small, e))
 
 pub runs_input : {P : Type 0} (at : P → PeerAt) (order : Order) (before now : Outside P) (end : ServiceEnd) (status : ℕ) → end ≡ ends.Input
     → Ends at order before.node now.node end → WritesLine 2 input_line before.held now.held before.write_faults now.write_faults status
-    → RunsAuthority at order before now status
-runs_input at order before now end status is e (inl (done, written, same)) = record {
+    → now.exchanges ≡ before.exchanges → RunsAuthority at order before now status
+runs_input at order before now end status is e (inl (done, written, same)) shut = record {
   done = λ zero. absurd (omega (arith, done, zero));
   input = λ two. (no_node at order before.node now.node end is e, written);
   cut = λ four. absurd (omega (arith, done, four));
@@ -33,10 +34,11 @@ runs_input at order before now end status is e (inl (done, written, same)) = rec
   failed = λ seven. absurd (omega (arith, done, seven));
   dropped = λ five. absurd (omega (arith, done, five));
   silent = λ either. absurd (not_silent status 2 done (lit< tt) either);
+  exchanges = shut;
   files = e.files;
   range = inr (inl done);
 }
-runs_input at order before now end status is e (inr (four, (n, written), rose)) = record {
+runs_input at order before now end status is e (inr (four, (n, written), rose)) shut = record {
   done = λ zero. absurd (omega (arith, four, zero));
   input = λ two. absurd (omega (arith, four, two));
   cut = λ _. (n, inr ((no_node at order before.node now.node end is e, written)));
@@ -47,6 +49,7 @@ runs_input at order before now end status is e (inr (four, (n, written), rose)) 
   failed = λ seven. absurd (omega (arith, four, seven));
   dropped = λ five. absurd (omega (arith, four, five));
   silent = λ either. absurd (not_silent status 4 four (lit< tt) either);
+  exchanges = shut;
   files = e.files;
   range = inr (inr (inl four));
 }

@@ -1,1 +1,2 @@
 mod AuthorityLaws
+mod ResolveLaws

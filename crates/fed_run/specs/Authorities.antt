@@ -2,22 +2,23 @@
 use Rattle.std.specs.Prelude.{◌≡◌, ◌⊎◌, ℕ, List, [], ◌∷◌, ◌++◌, take, codes, decimal, Option, None}
 use Rattle.fed_base.specs.Counts.{Rose}
 use Rattle.fed_ports.specs.Bytes.{Appends}
+use Rattle.fed_ports.specs.Exchanges.{Exchange}
 use Rattle.authority_core.specs.Nodes.{Node}
 use Rattle.fed_commands.specs.Answers.{Tells}
 use Rattle.fed_serve.specs.Moments.{PeerAt}
-use Rattle.fed_words.specs.declared.service.Service.{Service}
-use Rattle.fed_words.specs.declared.service.Service.TheVariants.{Authority}
 use Rattle.node_service.specs.Ends.{At, HasDropped, HasFailed, HasServed, Order}
 use Rattle.node_service.specs.NodeFiles.{IsAuthorityAlone, IsNodeOf}
 
--- the output, where it is told, and how often it failed; the files, the network and the clock
+-- the output, where it is told, and how often it failed; the files, the network and the clock; and the exchanges of the network, where
+-- these are told
 pub record Outside (P : Type 0) : Type 0 where
   pub held : Option (List ℕ)
   pub write_faults : ℕ
   pub node : At P
+  pub exchanges : Option (List Exchange)
 
-abbrev pub outside : {P : Type 0} → Option (List ℕ) → ℕ → At P → Outside P
-outside held write_faults node = record { held = held; write_faults = write_faults; node = node }
+abbrev pub outside : {P : Type 0} → Option (List ℕ) → ℕ → At P → Option (List Exchange) → Outside P
+outside held write_faults node exchanges = record { held = held; write_faults = write_faults; node = node; exchanges = exchanges }
 
 -- the line was written and the status says so, or a beginning of it was and the sink failed
 abbrev pub WritesLine : ℕ → List ℕ → Option (List ℕ) → Option (List ℕ) → ℕ → ℕ → ℕ → Type 0
@@ -56,10 +57,8 @@ pub record RunsAuthority {P : Type 0} (at : P → PeerAt) (order : Order) (befor
   pub dropped : status ≡ 5 → (now.node.service ≡ before.node.service) ⊎ HasDropped at order before.node now.node
   -- after these and want of memory nothing is written
   pub silent : (status ≡ 5) ⊎ ((status ≡ 6) ⊎ (status ≡ 7)) → now.held ≡ before.held
+  -- no connection is opened
+  pub exchanges : now.exchanges ≡ before.exchanges
   -- no file is changed
   pub files : now.node.files ≡ before.node.files
   pub range : (status ≡ 0) ⊎ ((status ≡ 2) ⊎ ((status ≡ 4) ⊎ ((status ≡ 5) ⊎ ((status ≡ 6) ⊎ (status ≡ 7)))))
-
--- what a service does, by what is asked for
-abbrev pub RunsService : {P : Type 0} → (P → PeerAt) → Service → Outside P → Outside P → ℕ → Type 0
-RunsService at (Authority config port connections) before now status = RunsAuthority at (record { config = config; post = record { port = port; connections = connections } }) before now status

@@ -1,1 +1,3 @@
 pub mod Authorities
+pub mod Resolving
+pub mod Services

@@ -24,7 +24,13 @@ fn served_line(alloc: Global, connections: u64) -> Result<Text, Memory>
 }
 
 // Writes the line, and gives the status.
-fn conclude<K: Sink>(alloc: Global, status: u8, line: &[u8], out: &mut K, notes: &mut Notes) -> u8
+pub(crate) fn conclude<K: Sink>(
+    alloc: Global,
+    status: u8,
+    line: &[u8],
+    out: &mut K,
+    notes: &mut Notes,
+) -> u8
     ensures { WritesLine status line.now (K.held out.old) (K.held out.new) (K.write_faults out.old) (K.write_faults out.new) result }
 {
     match write_all(out, line) {
@@ -54,12 +60,11 @@ pub(crate) fn serve<R, K: Sink, D: Store, N: Network, C: Clock>(
         (record { config = config.now; post = record { port = port; connections = connections } })
         (outside (K.held out.old) (K.write_faults out.old) (at_moment (D.files store.old)
         (service_at (N.port net.old) (N.callers net.old) (N.settled net.old) (clock_at (C.readings clock.old) (C.last clock.old) (C.told clock.old)))
-        (D.store_faults store.old) (N.faults net.old)))
+        (D.store_faults store.old) (N.faults net.old)) (N.exchanges net.old))
         (outside (K.held out.new) (K.write_faults out.new) (at_moment (D.files store.new)
         (service_at (N.port net.new) (N.callers net.new) (N.settled net.new) (clock_at (C.readings clock.new) (C.last clock.new) (C.told clock.new)))
-        (D.store_faults store.new) (N.faults net.new)))
+        (D.store_faults store.new) (N.faults net.new)) (N.exchanges net.new))
         result }
-    ensures exchanges { N.exchanges net.new ≡ N.exchanges net.old }
 {
     let Ok(line) = served_line(alloc, connections) else {
         explain_memory(alloc, notes);

@@ -5,6 +5,7 @@
 #![tactic(auto)]
 
 mod authority;
+mod resolving;
 mod top;
 
 pub use top::{run, run_with_notes};

@@ -6,21 +6,27 @@ ghost use Rattle.fed_commands.specs.Runs.{IsRun};
 ghost use Rattle.fed_words.specs.Commands.{command_of};
 ghost use Rattle.fed_words.specs.Services.{service_of};
 ghost use Rattle.fed_serve.specs.Moments.{clock_at, peer_at};
-ghost use Rattle.fed_run.specs.Authorities.{RunsService, outside};
+ghost use Rattle.fed_run.specs.Authorities.{outside};
+ghost use Rattle.fed_run.specs.Resolving.{HoldsBy};
+ghost use Rattle.fed_run.specs.Services.{RunsService};
 ghost use Rattle.node_service.specs.Connections.{service_at};
 ghost use Rattle.node_service.specs.Ends.{at_moment};
 
 use crate::authority::serve;
+use crate::resolving::resolve;
 use fed_commands::hand_notes;
 use fed_ports::{Clock, Network, Seq, Sink, Source, Store, Text};
+use fed_resolver::ResolveRequest;
 use fed_words::{Service, read_service};
 use plain_notes::Notes;
+use statement_shelf::FedPass;
 use std::alloc::Global;
+use std::sync::Wait;
 
 /// Does all that the program does, and answers its exit status.
 ///
-/// The words are those after the program's name. Where they ask for a service, others are answered over the network; any other command is
-/// done by [`fed_commands::run`], whose table of statuses holds with 7 added.
+/// The words are those after the program's name. Where they ask for a service, others are answered over the network, and for `resolve`
+/// others are asked. Any other command is done by [`fed_commands::run`], which has its statuses.
 ///
 /// | Status | A service ends so | Written |
 /// |---|---|---|
@@ -30,7 +36,17 @@ use std::alloc::Global;
 /// | 5 | memory was wanting | nothing |
 /// | 6 | the store failed | nothing |
 /// | 7 | the network failed to listen or to accept a connection | nothing |
-pub fn run<R, S: Source, K: Sink, D: Store, N: Network, C: Clock>(
+///
+/// `resolve` ends so, and with 2, 4, 5 and 6 as a service does:
+///
+/// | Status | | Written |
+/// |---|---|---|
+/// | 0 | the entity is resolved | the reply's text |
+/// | 1 | the anchor isn't listed, the entity's configuration isn't good, or there is no valid chain | the error of the resolve endpoint |
+/// | 7 | no valid chain was found, and a fetch failed | nothing |
+/// | 8 | a shared object has counted 2^62 calls, and `worn` has the pass that has seen them | nothing |
+/// | 9 | no valid chain was found before a bound of the search | nothing |
+pub fn run<R: Wait, S: Source, K: Sink, D: Store, N: Network + Drop, C: Clock>(
     rt: &R,
     alloc: Global,
     words: &Seq<Text>,
@@ -39,7 +55,9 @@ pub fn run<R, S: Source, K: Sink, D: Store, N: Network, C: Clock>(
     store: &mut D,
     net: &mut N,
     clock: &mut C,
+    worn: &mut Option<FedPass>,
 ) -> u8
+    requires { worn.old ≡ None }
     ensures command { service_of words.now ≡ None → (net.new ≡ net.old) × IsRun (command_of words.now)
         (record {
           input = input.old;
@@ -69,18 +87,18 @@ pub fn run<R, S: Source, K: Sink, D: Store, N: Network, C: Clock>(
         (λ peer. peer_at (N.Peer.left peer) (N.Peer.held peer) (N.Peer.read_faults peer) (N.Peer.write_faults peer)) service
         (outside (K.held out.old) (K.write_faults out.old) (at_moment (D.files store.old)
         (service_at (N.port net.old) (N.callers net.old) (N.settled net.old) (clock_at (C.readings clock.old) (C.last clock.old) (C.told clock.old)))
-        (D.store_faults store.old) (N.faults net.old)))
+        (D.store_faults store.old) (N.faults net.old)) (N.exchanges net.old))
         (outside (K.held out.new) (K.write_faults out.new) (at_moment (D.files store.new)
         (service_at (N.port net.new) (N.callers net.new) (N.settled net.new) (clock_at (C.readings clock.new) (C.last clock.new) (C.told clock.new)))
-        (D.store_faults store.new) (N.faults net.new)))
+        (D.store_faults store.new) (N.faults net.new)) (N.exchanges net.new))
         result) }
-    ensures exchanges { N.exchanges net.new ≡ N.exchanges net.old }
+    ensures worn { HoldsBy worn.new result }
 {
     match read_service(alloc, words.as_slice()) {
         Ok(None) => fed_commands::run(rt, alloc, words, input, out, store, clock),
         Ok(Some(service)) => {
             let mut notes = Notes::new(alloc, None);
-            serve_as(rt, alloc, &service, out, store, net, clock, &mut notes)
+            serve_as(rt, alloc, service, out, store, net, clock, worn, &mut notes)
         }
         Err(_) => 5,
     }
@@ -88,7 +106,15 @@ pub fn run<R, S: Source, K: Sink, D: Store, N: Network, C: Clock>(
 
 /// Does what [`run`] does, and then hands what a person is to read of it to `said`: lines that say why the status isn't 0, and what looks
 /// wrong where it is. A note for which memory is wanting, or that can't be written, changes nothing.
-pub fn run_with_notes<R, S: Source, K: Sink, D: Store, N: Network, C: Clock + Drop, W: Sink>(
+pub fn run_with_notes<
+    R: Wait,
+    S: Source,
+    K: Sink,
+    D: Store,
+    N: Network + Drop,
+    C: Clock + Drop,
+    W: Sink,
+>(
     rt: &R,
     alloc: Global,
     words: &Seq<Text>,
@@ -97,8 +123,10 @@ pub fn run_with_notes<R, S: Source, K: Sink, D: Store, N: Network, C: Clock + Dr
     store: &mut D,
     net: &mut N,
     clock: &mut C,
+    worn: &mut Option<FedPass>,
     said: &mut W,
 ) -> u8
+    requires { worn.old ≡ None }
     ensures command { service_of words.now ≡ None → (net.new ≡ net.old) × IsRun (command_of words.now)
         (record {
           input = input.old;
@@ -128,12 +156,12 @@ pub fn run_with_notes<R, S: Source, K: Sink, D: Store, N: Network, C: Clock + Dr
         (λ peer. peer_at (N.Peer.left peer) (N.Peer.held peer) (N.Peer.read_faults peer) (N.Peer.write_faults peer)) service
         (outside (K.held out.old) (K.write_faults out.old) (at_moment (D.files store.old)
         (service_at (N.port net.old) (N.callers net.old) (N.settled net.old) (clock_at (C.readings clock.old) (C.last clock.old) (C.told clock.old)))
-        (D.store_faults store.old) (N.faults net.old)))
+        (D.store_faults store.old) (N.faults net.old)) (N.exchanges net.old))
         (outside (K.held out.new) (K.write_faults out.new) (at_moment (D.files store.new)
         (service_at (N.port net.new) (N.callers net.new) (N.settled net.new) (clock_at (C.readings clock.new) (C.last clock.new) (C.told clock.new)))
-        (D.store_faults store.new) (N.faults net.new)))
+        (D.store_faults store.new) (N.faults net.new)) (N.exchanges net.new))
         result) }
-    ensures exchanges { N.exchanges net.new ≡ N.exchanges net.old }
+    ensures worn { HoldsBy worn.new result }
     // What is handed to `said` are notes, or a beginning of them.
     ensures said { HandsNotes (W.held said.old) (W.held said.new) }
 {
@@ -141,7 +169,7 @@ pub fn run_with_notes<R, S: Source, K: Sink, D: Store, N: Network, C: Clock + Dr
         Ok(None) => fed_commands::run_with_notes(rt, alloc, words, input, out, store, clock, said),
         Ok(Some(service)) => {
             let mut notes = Notes::new(alloc, None);
-            let status = serve_as(rt, alloc, &service, out, store, net, clock, &mut notes);
+            let status = serve_as(rt, alloc, service, out, store, net, clock, worn, &mut notes);
             hand_notes(said, &notes);
             status
         }
@@ -149,27 +177,29 @@ pub fn run_with_notes<R, S: Source, K: Sink, D: Store, N: Network, C: Clock + Dr
     }
 }
 
-// Serves what is asked for.
-fn serve_as<R, K: Sink, D: Store, N: Network, C: Clock>(
+// Serves, or resolves, as is asked for.
+fn serve_as<R: Wait, K: Sink, D: Store, N: Network + Drop, C: Clock>(
     rt: &R,
     alloc: Global,
-    service: &Service,
+    service: Service,
     out: &mut K,
     store: &mut D,
     net: &mut N,
     clock: &mut C,
+    worn: &mut Option<FedPass>,
     notes: &mut Notes,
 ) -> u8
+    requires { worn.old ≡ None }
     ensures runs { RunsService
-        (λ peer. peer_at (N.Peer.left peer) (N.Peer.held peer) (N.Peer.read_faults peer) (N.Peer.write_faults peer)) service.now
+        (λ peer. peer_at (N.Peer.left peer) (N.Peer.held peer) (N.Peer.read_faults peer) (N.Peer.write_faults peer)) service
         (outside (K.held out.old) (K.write_faults out.old) (at_moment (D.files store.old)
         (service_at (N.port net.old) (N.callers net.old) (N.settled net.old) (clock_at (C.readings clock.old) (C.last clock.old) (C.told clock.old)))
-        (D.store_faults store.old) (N.faults net.old)))
+        (D.store_faults store.old) (N.faults net.old)) (N.exchanges net.old))
         (outside (K.held out.new) (K.write_faults out.new) (at_moment (D.files store.new)
         (service_at (N.port net.new) (N.callers net.new) (N.settled net.new) (clock_at (C.readings clock.new) (C.last clock.new) (C.told clock.new)))
-        (D.store_faults store.new) (N.faults net.new)))
+        (D.store_faults store.new) (N.faults net.new)) (N.exchanges net.new))
         result }
-    ensures exchanges { N.exchanges net.new ≡ N.exchanges net.old }
+    ensures worn { HoldsBy worn.new result }
 {
     match service {
         Service::Authority {
@@ -179,14 +209,34 @@ fn serve_as<R, K: Sink, D: Store, N: Network, C: Clock>(
         } => serve(
             rt,
             alloc,
-            config_file,
-            *port,
-            *connections,
+            &config_file,
+            port,
+            connections,
             out,
             store,
             net,
             clock,
             notes,
         ),
+        Service::Resolve {
+            config_file,
+            sub,
+            anchor,
+        } => {
+            let types = Seq::new(alloc);
+            let request = ResolveRequest { sub, anchor, types };
+            resolve(
+                rt,
+                alloc,
+                &config_file,
+                &request,
+                out,
+                store,
+                net,
+                clock,
+                worn,
+                notes,
+            )
+        }
     }
 }

@@ -1,5 +1,5 @@
 -- How it ends without a node, and with one.
-use Rattle.std.proofs.Common.{rules, ◌≡◌, ◌<◌, ℕ, List, Option, Err, refl, inl, inr}
+use Rattle.std.proofs.Common.{rules, ◌≡◌, ℕ, Option, Err, refl, inl, inr}
 use Rattle.fed_ports.specs.Stores.{Files}
 use Rattle.authority_core.specs.Nodes.{Node}
 use Rattle.fed_serve.specs.Moments.{PeerAt}

@@ -2,7 +2,7 @@
 use Rattle.std.proofs.Common.{rules, ◌≡◌, ◌⊎◌, ⊎_elim, inl, inr, ℕ, List, [], codes, Option, Some, None, Result, Ok, Err, refl, sym, ap, ◌∙◌, subst, ok_or, unwrap_or}
 use Rattle.fed_base.specs.Answers.{◌>>=◌}
 use Rattle.fed_json.specs.Reading.{tree_in}
-use Rattle.fed_json.specs.Trees.{as_object, as_text, object_members, text_at}
+use Rattle.fed_json.specs.Trees.{as_object, as_text, text_at}
 use Rattle.fed_json.specs.declared.tree.Json.{Json}
 use Rattle.fed_json.specs.declared.tree.Member.{Member}
 use Rattle.fed_ports.specs.Stores.{Files}
@@ -19,7 +19,7 @@ use Rattle.node_config.specs.declared.fault.ConfigFault.{ConfigFault}
 use Rattle.node_config.specs.declared.fault.ConfigFault.TheVariants.{Shape as ConfigShape}
 use Rattle.authority_core.specs.Configurations.{if_short, node_in, sizes_of}
 use Rattle.authority_core.specs.Nodes.{Node}
-use Rattle.node_service.specs.NodeFiles.{Answers, Counts, IsAuthorityAlone, IsNodeFor, IsNodeOf, IsReadAs, IsRingFor, IsRingOf, fault_of, ring_name}
+use Rattle.node_service.specs.NodeFiles.{Answers, Counts, IsNodeFor, IsNodeOf, IsReadAs, IsRingFor, IsRingOf, fault_of, ring_name}
 use Rattle.node_service.specs.declared.node_files.NodeFault.{NodeFault}
 use Rattle.node_service.specs.declared.node_files.NodeFault.TheVariants.{Input, Store, Memory}
 

@@ -5,7 +5,7 @@ use Rattle.fed_ports.specs.Lists.{Added, Gave}
 use Rattle.authority_core.specs.Nodes.{Node}
 use Rattle.fed_serve.specs.Moments.{ClockAt, PeerAt}
 use Rattle.fed_serve.specs.Serving.{Serves as ServesOne}
-use Rattle.fed_serve.specs.declared.kind.Served.{Served}
+use Rattle.fed_serve.specs.declared.served.Served.{Served}
 use Rattle.fed_serve.specs.declared.serving.ServeFault.{ServeFault}
 
 -- one connection: the peer as it was accepted and as it was settled, the clock and the count of tested signatures before and after, and

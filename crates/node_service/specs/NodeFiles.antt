@@ -1,5 +1,5 @@
 -- The node of a configuration file and of the ring file that it names.
-use Rattle.std.specs.Prelude.{◌≡◌, ◌≤◌, ℕ, List, codes, length, Option, Some, None, Result, Ok, Err}
+use Rattle.std.specs.Prelude.{◌≡◌, ◌≤◌, ℕ, List, codes, length, IsSome, Option, Some, None, Result, Ok, Err}
 use Rattle.fed_base.specs.Counts.{Rose}
 use Rattle.fed_json.specs.Reading.{tree_in}
 use Rattle.fed_json.specs.Trees.{object_members, text_at}
@@ -42,6 +42,10 @@ pub record IsNodeOf (files : Option Files) (name : List ℕ) (node : Node) : Typ
 -- a node that is an authority alone: its configuration says nothing of resolving
 abbrev pub IsAuthorityAlone : Node → Type 0
 IsAuthorityAlone node = node.settings.resolver ≡ None
+
+-- a node that resolves: its configuration says with what
+abbrev pub IsResolver : Node → Type 0
+IsResolver node = IsSome node.settings.resolver
 
 -- the answer is such a value; or there is none, where the files are told
 abbrev pub Answers : {X : Type 0} → Option Files → (X → Type 0) → Result X NodeFault → Type 0

@@ -7,4 +7,5 @@ mod node_files;
 mod notes;
 mod service;
 
+pub use node_files::{NodeFault, open_resolver};
 pub use service::{ServiceEnd, serve_authority};

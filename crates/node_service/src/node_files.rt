@@ -5,9 +5,9 @@ ghost use Rattle.fed_json.specs.Forms.{IsWellFormed};
 ghost use Rattle.fed_json.specs.Reading.{tree_in};
 ghost use Rattle.key_ring.specs.Files.{Opens};
 ghost use Rattle.authority_core.specs.Configurations.{node_in};
-ghost use Rattle.node_service.specs.NodeFiles.{Answers, Counts, IsAuthorityAlone, IsNodeFor, IsNodeOf, IsReadAs, IsRingFor, IsRingOf, fault_of};
+ghost use Rattle.node_service.specs.NodeFiles.{Answers, Counts, IsAuthorityAlone, IsNodeFor, IsNodeOf, IsReadAs, IsResolver, IsRingFor, IsRingOf, fault_of};
 
-use crate::notes::{explain_member, explain_no_json, explain_resolver};
+use crate::notes::{explain_member, explain_no_json, explain_no_resolver, explain_resolver};
 use authority_core::Registry;
 use fed_json::{Json, TreeFault, object_members, read_tree, text_at};
 use fed_notes::{explain_absent_file, explain_long_file, explain_ring_file};
@@ -158,8 +158,9 @@ fn explain_config(alloc: Global, name: &Text, config: &Json, notes: &mut Notes)
     requires { IsWellFormed config.now }
 {
     match NodeConfig::read(alloc, config) {
+        Ok(read) => drop(read),
         Err(ConfigFault::Shape(member)) => explain_member(alloc, name, &member, notes),
-        Ok(_) | Err(ConfigFault::Memory) => {}
+        Err(ConfigFault::Memory) => {}
     }
 }
 
@@ -230,7 +231,29 @@ pub fn open_authority<D: Store>(
 {
     let registry = open_node(alloc, config, store, notes)?;
     if registry.resolver_config().is_some() {
+        drop(registry);
         explain_resolver(alloc, config, notes);
+        Err(NodeFault::Input)
+    } else {
+        Ok(registry)
+    }
+}
+
+/// The node of the configuration file of that name, where it resolves.
+pub fn open_resolver<D: Store>(
+    alloc: Global,
+    config: &Text,
+    store: &mut D,
+    notes: &mut Notes,
+) -> Result<Registry, NodeFault>
+    ensures node { Answers (D.files store.old) (λ node. IsNodeOf (D.files store.old) config.now node × IsResolver node) result }
+    ensures files { D.files store.new ≡ D.files store.old }
+    ensures counts { Counts (D.store_faults store.old) (D.store_faults store.new) result }
+{
+    let registry = open_node(alloc, config, store, notes)?;
+    if registry.resolver_config().is_none() {
+        drop(registry);
+        explain_no_resolver(alloc, config, notes);
         Err(NodeFault::Input)
     } else {
         Ok(registry)

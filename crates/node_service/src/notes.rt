@@ -59,6 +59,13 @@ pub fn explain_resolver(alloc: Global, name: &Text, notes: &mut Notes) {
     ));
 }
 
+/// Says that the node doesn't resolve.
+pub fn explain_no_resolver(alloc: Global, name: &Text, notes: &mut Notes) {
+    notes.say(Sentence::of(alloc, name.as_slice()).and(
+        b" has no member resolver, which says for which trust anchors and how the node resolves",
+    ));
+}
+
 /// Says that nobody can be listened to on the port.
 pub fn explain_port(alloc: Global, port: u16, notes: &mut Notes) {
     let sentence = Sentence::of(alloc, b"port ").and_number(alloc, u64::from(port));

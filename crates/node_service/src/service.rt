@@ -74,16 +74,12 @@ pub fn serve_authority<R, D: Store, N: Network, C: Clock>(
     ensures exchanges { N.exchanges net.new ≡ N.exchanges net.old }
 {
     match open_authority(alloc, config, store, notes) {
-        Ok(registry) => serve_node(
-            &Node { registry },
-            rt,
-            alloc,
-            port,
-            connections,
-            net,
-            clock,
-            notes,
-        ),
+        Ok(registry) => {
+            let node = Node { registry };
+            let end = serve_node(&node, rt, alloc, port, connections, net, clock, notes);
+            drop(node);
+            end
+        }
         Err(fault) => ServiceEnd::from(fault),
     }
 }

@@ -1,6 +1,7 @@
-use Rattle.std.proofs.Common.{rules, ◌≡◌, Some, refl}
+use Rattle.std.proofs.Common.{rules, ◌≡◌, Some, refl, arith, lit<}
 use Rattle.fed_words.specs.Services.{service_of}
 use Rattle.fed_commands.proofs.NotedLaws.{hands-none}
+use Rattle.fed_run.proofs.ResolveLaws.{holds-none, small-other, unread_words}
 use Rattle.fed_run.proofs.top.run_with_notes.Goals as goal
 
 pub returns-in-Err-clause-said : goal.returns-in-Err-clause-said
@@ -10,3 +11,12 @@ pub returns-in-Ok-Some-clause-service : goal.returns-in-Ok-Some-clause-service
 returns-in-Ok-Some-clause-service g c =
     let asked : service_of c.args.words.now ≡ Some c.in-Ok-Some.service = search rules in
     rw asked (refl, c.serve_as-status.ensures.runs)
+
+pub returns-in-Ok-None-clause-worn : goal.returns-in-Ok-None-clause-worn
+returns-in-Ok-None-clause-worn g c = holds-none _ _ c.requires (small-other _ 6 c.run_with_notes.ensures.run.range (lit< tt))
+
+pub returns-in-Err-clause-worn : goal.returns-in-Err-clause-worn
+returns-in-Err-clause-worn g c = holds-none _ _ c.requires (λ eight. absurd (omega (arith, eight)))
+
+pub returns-in-Err-clause-service : goal.returns-in-Err-clause-service
+returns-in-Err-clause-service g c = unread_words _ (service_of c.args.words.now) c.args.input.now _

@@ -1,0 +1,119 @@
+-- What is told of a call, and the pass that is held then.
+use Rattle.std.proofs.Common.{◌≡◌, ◌≢◌, ◌≤◌, ◌<◌, ◌⊎◌, ℕ, List, [], Option, Some, None, Result, Ok, Err, IfSome, refl, subst, sym, inl, inr, arith, lit<}
+use Rattle.fed_serve.specs.Moments.{PeerAt}
+use Rattle.node_service.specs.Ends.{Order}
+use Rattle.node_service.specs.declared.node_files.NodeFault.{NodeFault}
+use Rattle.node_service.specs.declared.node_files.NodeFault.TheVariants as fault
+use Rattle.turn_log.specs.declared.pass.PassSeat.{PassSeat}
+use Rattle.turn_log.specs.declared.group.Group.{Group}
+use Rattle.statement_shelf.specs.Book.{Book}
+use Rattle.statement_shelf.specs.Entries.{Part}
+use Rattle.statement_shelf.specs.declared.calls.ShelfCall.{ShelfCall}
+use Rattle.statement_shelf.specs.declared.calls.ShelfReply.{ShelfReply}
+use Rattle.statement_shelf.specs.declared.calls.BookCall.{BookCall}
+use Rattle.statement_shelf.specs.declared.calls.BookReply.{BookReply}
+use Rattle.resolve_reply.specs.declared.reply.Reply.{Reply}
+use Rattle.fed_resolver.specs.declared.outcome.Refusal.{Refusal}
+use Rattle.fed_resolver.specs.declared.outcome.Refusal.TheVariants.{NoAnchor, NotFound, PolicyOnly, NoChain, Unavailable, Budget, Worn, Memory}
+use Rattle.resolve_once.specs.Calls.{HoldsWorn, Question}
+use Rattle.fed_words.specs.declared.service.Service.{Service}
+use Rattle.fed_words.specs.declared.service.Service.TheVariants.{Authority, Resolve}
+use Rattle.fed_run.specs.Authorities.{Outside, RunsAuthority, WritesLine}
+use Rattle.fed_run.specs.Resolving.{HoldsBy, IsSilent, IsTold, IsToldBy, RunsResolve, Written}
+use Rattle.fed_run.specs.Services.{RunsService}
+
+-- ---- statuses other than 8
+
+lines-other : (status : ℕ) (line : List ℕ) (old new : Option (List ℕ)) (before now result : ℕ) → WritesLine status line old new before now result → status < 8 → result ≢ 8
+lines-other status line old new before now result (inl (is, written, same)) small eight = absurd (omega (arith, is, small, eight))
+lines-other status line old new before now result (inr (four, written, rose)) small eight = absurd (omega (arith, four, eight))
+
+silent-other : (status : ℕ) (before now : Written) (result : ℕ) → IsSilent status before now result → status < 8 → result ≢ 8
+silent-other status before now result (is, same) small eight = absurd (omega (arith, is, small, eight))
+
+pub authority-other : {P : Type 0} (at : P → PeerAt) (order : Order) (before now : Outside P) (status : ℕ) → RunsAuthority at order before now status → status ≢ 8
+authority-other at order before now status runs eight = other runs.range
+  where
+    other : (status ≡ 0) ⊎ ((status ≡ 2) ⊎ ((status ≡ 4) ⊎ ((status ≡ 5) ⊎ ((status ≡ 6) ⊎ (status ≡ 7))))) → ⊥
+    other (inl is) = absurd (omega (arith, is, eight))
+    other (inr (inl is)) = absurd (omega (arith, is, eight))
+    other (inr (inr (inl is))) = absurd (omega (arith, is, eight))
+    other (inr (inr (inr (inl is)))) = absurd (omega (arith, is, eight))
+    other (inr (inr (inr (inr (inl is))))) = absurd (omega (arith, is, eight))
+    other (inr (inr (inr (inr (inr is))))) = absurd (omega (arith, is, eight))
+
+pub small-other : (status most : ℕ) → status ≤ most → most < 8 → status ≢ 8
+small-other status most within small eight = absurd (omega (arith, within, small, eight))
+
+-- ---- the pass
+
+module _ {S T : Type 0} (worn : Option (Group (PassSeat S Part ShelfCall ShelfReply) (PassSeat T Book BookCall BookReply))) where
+  -- none is held, and the status is another
+  pub holds-none : (status : ℕ) → worn ≡ None → status ≢ 8 → HoldsBy worn status
+  holds-none status none other = record { held = λ eight. absurd (other eight); none = λ _. none }
+
+  -- one is held where an object was worn, and that is status 8
+  pub holds-told : (result : Result Reply Refusal) (before now : Written) (status : ℕ) → HoldsWorn result worn → IsToldBy result before now status → HoldsBy worn status
+  holds-told (Ok reply) before now status none (inl told) = holds-none status none (lines-other _ _ _ _ _ _ status told (lit< tt))
+  holds-told (Ok reply) before now status none (inr told) = holds-none status none (silent-other _ before now status told (lit< tt))
+  holds-told (Err NoAnchor) before now status none told = holds-none status none (lines-other _ _ _ _ _ _ status told (lit< tt))
+  holds-told (Err NotFound) before now status none told = holds-none status none (lines-other _ _ _ _ _ _ status told (lit< tt))
+  holds-told (Err PolicyOnly) before now status none told = holds-none status none (lines-other _ _ _ _ _ _ status told (lit< tt))
+  holds-told (Err NoChain) before now status none told = holds-none status none (lines-other _ _ _ _ _ _ status told (lit< tt))
+  holds-told (Err Unavailable) before now status none told = holds-none status none (silent-other _ before now status told (lit< tt))
+  holds-told (Err (Budget calls paths)) before now status none told = holds-none status none (λ eight. nine status told.0 eight)
+    where
+      nine : (status : ℕ) → status ≡ 9 → status ≡ 8 → ⊥
+      nine status is eight = absurd (omega (arith, is, eight))
+  holds-told (Err (Worn count)) before now status held told = record { held = λ _. held; none = λ other. absurd (other told.0) }
+  holds-told (Err Memory) before now status none told = holds-none status none (silent-other _ before now status told (lit< tt))
+
+  -- there is no node
+  pub holds-fault : (e : NodeFault) (before now : Written) (status : ℕ) → worn ≡ None → IsTold (Err e) before now status → HoldsBy worn status
+  holds-fault fault.Input before now status none told = holds-none status none (lines-other _ _ _ _ _ _ status told (lit< tt))
+  holds-fault fault.Store before now status none told = holds-none status none (silent-other _ before now status told (lit< tt))
+  holds-fault fault.Memory before now status none told = holds-none status none (silent-other _ before now status told (lit< tt))
+
+-- ---- the service
+
+-- a service resolves as it is asked to, where that is what it does
+pub resolves_service : {P : Type 0} (at : P → PeerAt) (service : Service) (before now : Outside P) (status : ℕ) (config sub anchor : List ℕ) (types : List (List ℕ)) → service ≡ Resolve config sub anchor → types ≡ []
+    → RunsResolve (record { config = config; request = record { sub = sub; anchor = anchor; types = types } }) before now status → RunsService at service before now status
+resolves_service at service before now status config sub anchor types is none runs =
+    subst (λ s. RunsService at s before now status) (sym is)
+    (subst (λ ts. RunsResolve (record { config = config; request = record { sub = sub; anchor = anchor; types = ts } }) before now status) none runs)
+
+-- ---- memory was wanting for the words
+
+unserved : {P : Type 0} (at : P → PeerAt) (order : Order) (o : Outside P) → RunsAuthority at order o o 5
+unserved at order o = record {
+  done = λ zero. absurd (omega (arith, zero));
+  input = λ two. absurd (omega (arith, two));
+  cut = λ four. absurd (omega (arith, four));
+  sink = record { only = λ four. absurd (omega (arith, four)); always = λ less. absurd (omega (arith, less)) };
+  store = record { only = λ six. absurd (omega (arith, six)); always = λ less. absurd (omega (arith, less)) };
+  network = record { only = λ seven. absurd (omega (arith, seven)); always = λ less. absurd (omega (arith, less)) };
+  unread = λ six. refl;
+  failed = λ seven. absurd (omega (arith, seven));
+  dropped = λ five. inl refl;
+  silent = λ either. refl;
+  exchanges = refl;
+  files = refl;
+  range = inr (inr (inr (inl refl)));
+}
+
+unresolved : {P : Type 0} (question : Question) (o : Outside P) → RunsResolve question o o 5
+unresolved question o = record {
+  result = Err fault.Memory;
+  resolves = record { calls = record { input = λ is. cc is; unasked = refl }; files = refl; store = refl };
+  told = (refl, refl);
+}
+
+unrun : {P : Type 0} (at : P → PeerAt) (service : Service) (o : Outside P) → RunsService at service o o 5
+unrun at (Authority config port connections) o = unserved at (record { config = config; post = record { port = port; connections = connections } }) o
+unrun at (Resolve config sub anchor) o = unresolved (record { config = config; request = record { sub = sub; anchor = anchor; types = [] } }) o
+
+-- nothing was done, whatever was asked for
+pub unread_words : {P I : Type 0} (at : P → PeerAt) (asked : Option Service) (input : I) (o : Outside P) → IfSome asked (λ service. (input ≡ input) × RunsService at service o o 5)
+unread_words at None input o = tt
+unread_words at (Some service) input o = (refl, unrun at service o)

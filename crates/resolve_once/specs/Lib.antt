@@ -1,0 +1,4 @@
+pub mod Calls
+pub mod Exchanged
+pub mod Nodes
+pub mod Steps

@@ -1,0 +1,66 @@
+// What a node resolves with.
+
+ghost use Rattle.std.specs.Prelude.{◌≡◌, IfOk, map};
+ghost use Rattle.node_service.specs.NodeFiles.{IsResolver};
+ghost use Rattle.resolve_once.specs.Nodes.{anchor_keys};
+ghost use Rattle.resolve_once.specs.Steps.{ArePartsOf};
+
+use authority_core::{AnchorPart, Registry};
+use fed_base::{Duplicate, Memory, Seq};
+use fed_resolver::Signer;
+use http_plain::Route;
+use statement_shelf::AnchorKeys;
+use std::alloc::Global;
+
+/// What a node resolves with.
+#[derive(Drop)]
+pub(crate) struct Parts {
+    /// Who signs the reply.
+    pub(crate) signer: Signer,
+    /// The trust anchors with their keys.
+    pub(crate) anchors: Seq<AnchorKeys>,
+    /// Where hosts are reached.
+    pub(crate) routes: Seq<Route>,
+}
+
+/// What the node resolves with.
+pub(crate) fn parts_of(alloc: Global, registry: &Registry) -> Result<Parts, Memory>
+    requires { IsResolver registry.now }
+    ensures { IfOk result (ArePartsOf registry.now) }
+{
+    let Some(part) = registry.resolver_config() else {
+        unreachable!()
+    };
+    let iss = registry.id().copy(alloc)?;
+    let anchors = book_of(alloc, part.anchors.as_slice())?;
+    let routes = part.routes.copy(alloc)?;
+    let signer = Signer {
+        iss,
+        keys: registry.signer().twin(),
+        age: part.age,
+    };
+    Ok(Parts {
+        signer,
+        anchors,
+        routes,
+    })
+}
+
+// The anchors as the book has them.
+fn book_of(alloc: Global, parts: &[AnchorPart]) -> Result<Seq<AnchorKeys>, Memory>
+    ensures { IfOk result (λ anchors. anchors ≡ map anchor_keys parts.now) }
+{
+    let mut anchors = Seq::new(alloc);
+    for part in parts {
+        anchors.push(anchor_keys(alloc, part)?)?;
+    }
+    Ok(anchors)
+}
+
+fn anchor_keys(alloc: Global, part: &AnchorPart) -> Result<AnchorKeys, Memory>
+    ensures { IfOk result (λ keys. keys ≡ anchor_keys part.now) }
+{
+    let anchor = part.anchor.copy(alloc)?;
+    let keys = part.keys.copy(alloc)?;
+    Ok(AnchorKeys { anchor, keys })
+}
