@@ -1,0 +1,201 @@
+"""Good rings, texts and configurations, made once by the program itself from the seed, which all kinds change."""
+
+import json
+import os
+import random
+import subprocess
+from concurrent.futures import ThreadPoolExecutor
+
+from . import policies, rules
+
+BEGIN, AT, END = 1700000000, 1800000000, 4000000000
+STATEMENT, MARK = "entity-statement+jwt", "trust-mark+jwt"
+TA, IM, RP, RESOLVER = "https://ta.example", "https://im.example/fed", "https://rp.example", "https://resolver.example"
+NODE = "http://127.0.0.1/fed"
+# entities of which each has a configuration that is served, statements about the leaf and hints
+WIDTH = 20
+SUPERIORS = [f"https://h{number}.example" for number in range(WIDTH)]
+ABOVE = [f"https://g{number}.example/x" for number in range(WIDTH)]
+LONG = [f"https://e{number}.example" for number in range(9)]
+RELYING = "openid_relying_party"
+
+
+def endpoint(entity):
+    return {"federation_entity": {"federation_fetch_endpoint": f"{entity}/fetch"}}
+
+
+class Key:
+    def __init__(self, ring, jwk):
+        self.ring, self.jwk = ring, jwk
+        self.kid, self.pub = jwk["kid"], jwk["pub"]
+
+
+class Pool:
+    """All that is good. `texts` has what was signed by its name, `signers` the public key of each signed text."""
+
+    def __init__(self, program, folder, seed):
+        self.program, self.folder = program, folder
+        self.rng = random.Random(f"pool {seed}")
+        self.keys, self.claims, self.texts, self.signers = {}, {}, {}, {}
+        with ThreadPoolExecutor(os.cpu_count()) as self.workers:
+            names = ["ta", "im", "rp", "resolver", "node", "other"]
+            for name, key in zip(names, self.workers.map(self.key, names, [self.rng.getrandbits(384) for _ in names])):
+                self.keys[name] = key
+            self.state_chains()
+            self.state_policies()
+            self.state_web()
+            wanted = [(name, *it) for name, it in self.claims.items()]
+            for (name, _, by, _), text in zip(wanted, self.workers.map(lambda it: self.sealed(*it[1:]), wanted)):
+                self.texts[name] = text
+                self.signers[text] = self.keys[by].pub
+        self.write_files()
+        self.known = {text: rules.statement(text.encode()) for text in self.texts.values()}
+        self.judge = rules.Judge(self.signers)
+
+    def fed(self, words, given):
+        done = subprocess.run([self.program, *words], input=given, capture_output=True, cwd=self.folder, timeout=60, check=False)
+        if done.returncode:
+            raise SystemExit(f"fuzz: {words} on {given[:200]!r}: status {done.returncode}, {done.stdout[:200]!r} {done.stderr[:400]!r}")
+        return done.stdout
+
+    def key(self, name, seeds):
+        made = self.fed(["keygen", "--ring", f"{name}.ring", "--at", "1", "--exp", str(END)], b"%096x\n" % seeds)
+        return Key(f"{name}.ring", json.loads(made))
+
+    def sealed(self, claims, by, typ):
+        return self.fed(["issue", "--ring", self.keys[by].ring, "--typ", typ], json.dumps(claims).encode()).decode().strip()
+
+    def state(self, name, claims, by, typ=STATEMENT):
+        """Adds claims that are to be signed, under a name of their own."""
+        self.claims[name] = claims, by, typ
+
+    def own(self, entity, by, **more):
+        return {"iss": entity, "sub": entity, "iat": BEGIN, "exp": END, "jwks": {"keys": [self.keys[by].jwk]}, **more}
+
+    def about(self, superior, subject, by, **more):
+        return {"iss": superior, "sub": subject, "iat": BEGIN, "exp": END - 1, "jwks": {"keys": [self.keys[by].jwk]}, **more}
+
+    # ---- chains of one, three, four and ten texts
+
+    def state_chains(self):
+        foreign = {"kty": "RSA", "kid": "rsa", "n": "vQ", "e": "AQAB", "x": [1, {"y": None}]}
+        leaf = self.own(RP, "rp", authority_hints=[IM, TA], metadata={
+            RELYING: {"client_name": "\u00c4 \"b\"", "grant_types": ["authorization_code", "implicit"], "scope": "openid email", "contacts": []},
+            "federation_entity": {"organization_name": "RP"}}, extra={"a": [1, 2, {"b": None}], "n": -5},
+            trust_marks=[{"trust_mark_type": "t", "trust_mark": "no mark"}])
+        leaf["jwks"]["keys"].append(foreign)
+        self.state("leaf", leaf, "rp")
+        self.state("im about leaf", self.about(IM, RP, "rp", metadata={RELYING: {"logo": "x"}}, constraints={"max_path_length": 2}, metadata_policy={
+            RELYING: {"grant_types": {"subset_of": ["authorization_code"]}, "contacts": {"add": ["help@im.example"]}, "scope": {"add": ["phone"]}}}), "im")
+        self.state("ta about im", self.about(TA, IM, "im", exp=END - 7, constraints={
+            "max_path_length": 1, "naming_constraints": {"permitted": [".example"], "excluded": ["bad.example"]}},
+            metadata_policy={RELYING: {"client_name": {"essential": True}}}, metadata_policy_crit=["add"]), "ta")
+        self.state("ta about leaf", self.about(TA, RP, "rp"), "ta")
+        self.state("ta", self.own(TA, "ta", metadata=endpoint(TA), trust_mark_issuers={"t": [TA], "open": []}, trust_mark_owners={
+            "owned": {"sub": IM, "jwks": {"keys": [self.keys["im"].jwk]}}}), "ta")
+        self.state("long leaf", self.own(LONG[0], "rp", metadata={RELYING: {"p": "x"}}), "rp")
+        for number in range(1, 9):
+            superior = LONG[number] if number < 8 else TA
+            self.state(f"long {number}", self.about(superior, LONG[number - 1], "rp" if number == 1 else "im"), "im" if number < 8 else "ta")
+        self.chains = [["ta"], ["leaf", "ta about leaf", "ta"], ["leaf", "im about leaf", "ta about im", "ta"],
+                       ["long leaf", *(f"long {number}" for number in range(1, 9)), "ta"]]
+
+    # ---- leaves, and policies of two superiors, of which each fits each
+
+    VALUES = ["a", "b", "c", "a b", "", 1, True, {"a": 1}, ["a"], None]
+    PARAMETERS = ["scope", "list", "text", "x"]
+
+    def values(self):
+        return [self.rng.choice(self.VALUES[:-1]) for _ in range(self.rng.choice([0, 1, 2, 3, 4, 6]))]
+
+    def fitting(self, name):
+        """Operators that mostly stand together."""
+        while True:
+            found = self.operators()
+            if policies.operators_merged(found, {}, name)[0] is None or self.rng.random() < .02:
+                return found
+
+    def operators(self):
+        found = {}
+        for name in self.rng.sample(["value", "add", "default", "one_of", "subset_of", "superset_of", "essential"], self.rng.choice([1, 1, 1, 2, 2, 3])):
+            if name == "value":
+                found[name] = self.rng.choice([*self.VALUES, self.values(), self.values()])
+            elif name == "default":
+                found[name] = self.rng.choice([*self.VALUES[:-1], self.values(), self.values()])
+            else:
+                found[name] = self.rng.random() < .5 if name == "essential" else self.values()
+        return found
+
+    def policy(self):
+        policy = {}
+        for typ in self.rng.sample([RELYING, "other"], self.rng.choice([1, 1, 2])):
+            policy[typ] = {name: self.fitting(name) for name in self.rng.sample(self.PARAMETERS, self.rng.choice([1, 2, 2, 3]))}
+        return policy
+
+    def metadata(self):
+        types = self.rng.sample([RELYING, "other", "third"], self.rng.choice([1, 2, 2, 3]))
+        return {typ: {name: self.rng.choice([*self.VALUES[:-1], self.values(), self.values(), "a b a"])
+                      for name in self.rng.sample(self.PARAMETERS, self.rng.randrange(4))} for typ in types}
+
+    def state_policies(self, each=24):
+        self.leaves = [f"policy leaf {number}" for number in range(each)]
+        self.lower = [f"lower policy {number}" for number in range(each)]
+        self.upper = [f"upper policy {number}" for number in range(each)]
+        for name in self.leaves:
+            self.state(name, self.own(RP, "rp", metadata=self.metadata()), "rp")
+        for name in self.lower:
+            more = {"metadata": self.metadata()} if self.rng.random() < .3 else {}
+            self.state(name, self.about(IM, RP, "rp", metadata_policy=self.policy(), **more), "im")
+        for name in self.upper:
+            types = {"constraints": {"allowed_entity_types": self.rng.sample([RELYING, "other", "third"], 2)}} if self.rng.random() < .3 else {}
+            self.state(name, self.about(TA, IM, "im", metadata_policy=self.policy(), **types), "ta")
+
+    # ---- a web: a leaf with many superiors, each with one above it
+
+    def state_web(self):
+        self.state("web leaf", self.own(RP, "rp", authority_hints=SUPERIORS, metadata={RELYING: {"client_name": "A"}}), "rp")
+        for number, superior in enumerate(SUPERIORS):
+            self.state(f"superior {number}", self.own(superior, "im", authority_hints=[ABOVE[number]], metadata=endpoint(superior)), "im")
+            self.state(f"statement {number}", self.about(superior, RP, "rp", metadata_policy={RELYING: {"contacts": {"add": ["a"]}}}), "im")
+        self.state("im", self.own(IM, "im", authority_hints=[TA], metadata=endpoint(IM)), "im")
+        for typ in ("open", "t"):
+            self.state(f"mark {typ}", {"iss": NODE, "sub": RP, "trust_mark_type": typ, "iat": BEGIN}, "node", MARK)
+            self.state(f"mark of ta {typ}", {"iss": TA, "sub": RP, "trust_mark_type": typ, "iat": BEGIN, "exp": END, "logo": "x"}, "ta", MARK)
+
+    # ---- files
+
+    def configuration(self):
+        """A node without a resolver."""
+        return {
+            "entity_id": NODE, "ring": "node.ring", "lifetime": 3600, "metadata": {"federation_entity": {"organization_name": "N"}},
+            "authority_hints": [TA], "trust_marks": [{"trust_mark_type": "t", "trust_mark": "m"}], "trust_mark_issuers": {"t": [TA]},
+            "trust_mark_owners": {"t": {"sub": TA, "jwks": {"keys": [self.keys["ta"].jwk]}}},
+            "subordinates": [
+                {"entity_id": RP, "jwks": {"keys": [self.keys["rp"].jwk]}, "entity_types": [RELYING, "a b"], "mark_types": ["m1", "\u00e9&"],
+                 "metadata_policy": {RELYING: {"contacts": {"add": ["help@im.example"]}}}, "constraints": {"max_path_length": 0}},
+                {"entity_id": IM, "jwks": {"keys": [self.keys["im"].jwk]}, "intermediate": True, "metadata": {"a": {"b": 1}}, "metadata_policy_crit": ["add"]},
+                {"entity_id": "https://c.example", "jwks": {"keys": []}, "entity_types": ["other"], "intermediate": True},
+            ],
+            "revoked_marks": ["x"],
+        }
+
+    def resolver(self, routes):
+        """A node that only resolves, by these routes."""
+        return {
+            "entity_id": RESOLVER, "ring": "resolver.ring", "lifetime": 3600, "resolver": {
+                "anchors": [{"entity_id": TA, "jwks": {"keys": [self.keys["ta"].jwk]}}], "age": 3600, "workers": 1,
+                "control": {"keys": [self.keys["other"].jwk]},
+                "routes": [{"host": host, "ip": "127.0.0.1", "port": port} for host, port in routes.items()]}}
+
+    def write_files(self):
+        self.anchor_keys = {"keys": [self.keys["ta"].jwk]}
+        self.write("ta.keys", json.dumps(self.anchor_keys).encode())
+        self.write("node.json", json.dumps(self.configuration()).encode())
+        self.rings = {}
+        for name in self.keys:
+            with open(f"{self.folder}/{name}.ring", "rb") as it:
+                self.rings[name] = it.read()
+
+    def write(self, name, data):
+        with open(f"{self.folder}/{name}", "wb") as it:
+            it.write(data)
