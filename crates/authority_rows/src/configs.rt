@@ -21,7 +21,11 @@ fn read(alloc: Global, tree: &Json) -> Result<Text, Memory>
     requires { IsWellFormed tree.now }
 {
     match NodeConfig::read(alloc, tree) {
-        Ok(node) => summary(alloc, &node),
+        Ok(node) => {
+            let told = summary(alloc, &node);
+            drop(node);
+            told
+        }
         Err(fault) => shape(alloc, fault.copy(alloc)?),
     }
 }
@@ -44,9 +48,23 @@ fn summary(alloc: Global, node: &NodeConfig) -> Result<Text, Memory> {
     add_named(alloc, &mut told, b"subordinates", subordinates)?;
     add_named(alloc, &mut told, b"revoked", node.revoked.len() as u64)?;
     if let Some(resolver) = &node.resolver {
-        resolves(alloc, &mut told, &resolver.copy(alloc)?)?;
+        add_resolver(alloc, &mut told, resolver)?;
     }
     Ok(told)
+}
+
+fn add_resolver(alloc: Global, told: &mut Text, resolver: &ResolverConfig) -> Result<(), Memory> {
+    let resolver = resolver.copy(alloc)?;
+    let added = resolves(alloc, told, &resolver);
+    drop(resolver);
+    added
+}
+
+fn add_address(alloc: Global, told: &mut Text, ip: [u8; 4], port: u16) -> Result<(), Memory> {
+    for part in ip {
+        add_number(alloc, told, part as u64)?;
+    }
+    add_number(alloc, told, port as u64)
 }
 
 fn resolves(alloc: Global, told: &mut Text, resolver: &ResolverConfig) -> Result<(), Memory> {
@@ -55,10 +73,7 @@ fn resolves(alloc: Global, told: &mut Text, resolver: &ResolverConfig) -> Result
     add_named(alloc, told, b"workers", resolver.workers)?;
     for route in resolver.routes.as_slice() {
         add_word(told, route.host.as_slice())?;
-        for part in route.to.ip {
-            add_number(alloc, told, part as u64)?;
-        }
-        add_number(alloc, told, route.to.port as u64)?;
+        add_address(alloc, told, route.to.ip, route.to.port)?;
     }
     Ok(())
 }

@@ -29,7 +29,7 @@ fn answer(
         "text" => nodes::keep_text(alloc, given, text),
         "letters" => nodes::keep_letters(alloc, given, text),
         "node" => {
-            *node = None;
+            drop(std::mem::replace(node, None));
             nodes::keep_node(alloc, given, text, node)
         },
         _ => match node {
@@ -77,5 +77,6 @@ fn main(rt: HostRuntime) -> io::Result<()> {
             break;
         }
     }
+    drop(node);
     done
 }

@@ -9,6 +9,7 @@ use fed_base::{Memory, Text};
 use fed_json::{Json, TreeFault, read_tree};
 use key_ring::KeyRing;
 use std::alloc::Global;
+use std::mem::replace;
 
 /// `text TEXT`: keeps the text.
 pub(crate) fn keep_text(alloc: Global, given: &str, kept: &mut Text) -> Result<Text, Memory> {
@@ -75,9 +76,16 @@ fn keep_registry(
     registry: Registry,
     node: &mut Option<Registry>,
 ) -> Result<Text, Memory> {
-    let told = summary(alloc, &registry)?;
-    *node = Some(registry);
-    Ok(told)
+    match summary(alloc, &registry) {
+        Ok(told) => {
+            drop(replace(node, Some(registry)));
+            Ok(told)
+        }
+        Err(Memory) => {
+            drop(registry);
+            Err(Memory)
+        }
+    }
 }
 
 // The identifier, the lifetime, and how many anchors it resolves by, where it does.

@@ -104,8 +104,8 @@ pub wants-superior : (want next : Want) (superior subject : Identifier) (url : L
 wants-superior want next superior subject url same is = subst (λ w. WantsUrl w url) (sym is ∙ same) refl
 
 pub followed : (s now : Search) (urls more : List (List ℕ)) (most : ℕ) → Follows s urls most → (url : List ℕ) (answer : Answer) → WantsUrl (next_want s) url → Fits s (next_want s) answer
-    → more ≡ urls ++ url ∷ [] → now ≡ given s answer → Follows now more most
-followed s now urls more most follows url answer wants fits pushed is =
+    → now ≡ given s answer → more ≡ urls ++ url ∷ [] → Follows now more most
+followed s now urls more most follows url answer wants fits is pushed =
     subst (λ us. Follows now us most) (sym pushed) (subst (λ x. Follows x (urls ++ url ∷ []) most) (sym is) (follows-url s urls most follows (next_want s) url answer wants fits))
 
 pub begun-follows : (s : Search) (leaf anchor : Identifier) (bounds : Bounds) (most : ℕ) → s ≡ begun leaf anchor bounds → bounds.calls ≡ most → Follows s [] most

@@ -9,6 +9,7 @@ ghost use Rattle.climb_rows.specs.Following.{Follows, WantsUrl};
 use crate::names::path_names;
 use crate::web::{Entry, Page, configuration_page, statement_page};
 use chain_climb::{Answer, End, Origin, Path, Session, Want};
+use entity_id::EntityId;
 use fed_base::{Memory, Seq, Text};
 use std::alloc::Global;
 
@@ -59,6 +60,14 @@ fn verdict(alloc: Global, case: &Case, path: &Path) -> Result<Answer, Memory>
     }
 }
 
+fn judged(alloc: Global, case: &Case, path: Path) -> Result<Answer, Memory>
+    ensures { IfOk result IsVerdict }
+{
+    let answer = verdict(alloc, case, &path);
+    drop(path);
+    answer
+}
+
 fn is_among(urls: &Seq<Text>, url: &Text) -> bool
     ensures { result ≡ list_any (bytes_eq url.now) urls.now }
 {
@@ -87,6 +96,7 @@ fn from_link(page: Page, known: bool, calls: u64, most: u64) -> Answer
     ensures { FitsPage known calls most (report_in result) }
 {
     if is_spent(known, calls, most) {
+        drop(page);
         return Answer::Spent;
     }
     match page {
@@ -121,8 +131,46 @@ fn take(
 {
     let known = is_among(urls, &url);
     let answer = answer_of(page, case, known, session.calls());
-    urls.push(url)?;
-    session.give(alloc, answer)
+    session.give(alloc, answer)?;
+    urls.push(url)
+}
+
+// Answers the want of the entity's configuration.
+fn take_configuration(
+    alloc: Global,
+    case: &Case,
+    session: &mut Session,
+    urls: &mut Seq<Text>,
+    entity: EntityId,
+    url: Text,
+) -> Result<(), Memory>
+    requires follows { Follows session.old urls.old case.now.calls }
+    requires wants { WantsUrl (next_want session.old) url }
+    ensures { OnOk result (Follows session.new urls.new case.now.calls) }
+{
+    let page = configuration_page(alloc, &case.web, &entity, &url);
+    drop(entity);
+    take(alloc, case, session, urls, url, page?)
+}
+
+// Answers the want of the superior's statement about the subject.
+fn take_statement(
+    alloc: Global,
+    case: &Case,
+    session: &mut Session,
+    urls: &mut Seq<Text>,
+    superior: EntityId,
+    subject: EntityId,
+    url: Text,
+) -> Result<(), Memory>
+    requires follows { Follows session.old urls.old case.now.calls }
+    requires wants { WantsUrl (next_want session.old) url }
+    ensures { OnOk result (Follows session.new urls.new case.now.calls) }
+{
+    let page = statement_page(alloc, &case.web, &superior, &subject);
+    drop(superior);
+    drop(subject);
+    take(alloc, case, session, urls, url, page?)
 }
 
 // Answers what is wanted next. Gives the end where there is one.
@@ -138,9 +186,8 @@ fn step(
 {
     match session.next(alloc)? {
         Want::Config { entity, url } => {
-            let page = configuration_page(alloc, &case.web, &entity, &url)?;
             counts.pages = counts.pages.saturating_add(1);
-            take(alloc, case, session, urls, url, page)?;
+            take_configuration(alloc, case, session, urls, entity, url)?;
             Ok(None)
         }
         Want::Superior {
@@ -148,13 +195,12 @@ fn step(
             subject,
             url,
         } => {
-            let page = statement_page(alloc, &case.web, &superior, &subject)?;
             counts.pages = counts.pages.saturating_add(1);
-            take(alloc, case, session, urls, url, page)?;
+            take_statement(alloc, case, session, urls, superior, subject, url)?;
             Ok(None)
         }
         Want::Judge(path) => {
-            let answer = verdict(alloc, case, &path)?;
+            let answer = judged(alloc, case, path)?;
             counts.judged = counts.judged.saturating_add(1);
             session.give(alloc, answer)?;
             Ok(None)

@@ -50,30 +50,49 @@ fn add_longer(
     Ok(())
 }
 
-fn write_out(alloc: Global, entities: &Seq<EntityId>, most: usize) -> Result<Seq<Path>, Memory> {
-    let mut paths = Seq::new(alloc);
-    let alone = Path {
+// Adds those that go on from the path at this place, where there is one.
+fn add_after(
+    alloc: Global,
+    paths: &mut Seq<Path>,
+    at: usize,
+    entities: &Seq<EntityId>,
+    most: usize,
+) -> Result<(), Memory> {
+    if at < paths.len() {
+        let path = paths.as_slice()[at].copy(alloc)?;
+        let added = add_longer(alloc, paths, &path, entities, most);
+        drop(path);
+        added
+    } else {
+        Ok(())
+    }
+}
+
+// The path of the leaf alone.
+fn leaf_path(alloc: Global, leaf: &EntityId) -> Result<Path, Memory> {
+    let endpoint = text_of(alloc, "e1/fetch")?;
+    let empty = Path {
         entities: Seq::new(alloc),
         urls: Seq::new(alloc),
     };
+    let path = longer(alloc, &empty, leaf, &endpoint);
+    drop(empty);
+    path
+}
+
+fn write_out(alloc: Global, entities: &Seq<EntityId>, most: usize) -> Result<Seq<Path>, Memory> {
+    let mut paths = Seq::new(alloc);
     if let Some(leaf) = entities.as_slice().first() {
-        let endpoint = text_of(alloc, "e1/fetch")?;
-        paths.push(longer(alloc, &alone, leaf, &endpoint)?)?;
+        paths.push(leaf_path(alloc, leaf)?)?;
     }
     for at in 0..most {
-        if at < paths.len() {
-            let path = paths.as_slice()[at].copy(alloc)?;
-            add_longer(alloc, &mut paths, &path, entities, most)?;
-        }
+        add_after(alloc, &mut paths, at, entities, most)?;
     }
     Ok(paths)
 }
 
-/// `lattice NUMBER NAMES`: so many of the paths from the first entity, and how many entities they have together.
-pub(crate) fn lattice(alloc: Global, given: &str) -> Result<Text, Memory> {
-    let (number, names) = cut(given, '\t');
-    let entities = read_names(alloc, names)?;
-    let paths = write_out(alloc, &entities, number.parse().unwrap_or(0))?;
+// How many paths there are, and how many entities they have together.
+fn counted(alloc: Global, paths: &Seq<Path>) -> Result<Text, Memory> {
     let mut together = 0u64;
     for path in paths.as_slice() {
         together = together.saturating_add(path.entities.len() as u64);
@@ -82,4 +101,12 @@ pub(crate) fn lattice(alloc: Global, given: &str) -> Result<Text, Memory> {
     add_count(alloc, &mut out, paths.len() as u64, b"paths")?;
     add_count(alloc, &mut out, together, b"entities")?;
     Ok(out)
+}
+
+/// `lattice NUMBER NAMES`: so many of the paths from the first entity, and how many entities they have together.
+pub(crate) fn lattice(alloc: Global, given: &str) -> Result<Text, Memory> {
+    let (number, names) = cut(given, '\t');
+    let entities = read_names(alloc, names)?;
+    let paths = write_out(alloc, &entities, number.parse().unwrap_or(0))?;
+    counted(alloc, &paths)
 }

@@ -18,14 +18,18 @@ pub(crate) fn entity(alloc: Global, name: &str) -> Result<Option<EntityId>, Memo
     EntityId::of(alloc, text.as_slice())
 }
 
+fn add_name(out: &mut Text, entity: &EntityId) -> Result<(), Memory> {
+    if !out.is_empty() {
+        out.push(b'>')?;
+    }
+    out.append(entity.text().strip_prefix(b"https://").unwrap_or(b""))
+}
+
 /// The names on a path, from the leaf up.
 pub(crate) fn path_names(alloc: Global, path: &Path) -> Result<Text, Memory> {
     let mut out = Text::new(alloc);
     for entity in path.entities.as_slice() {
-        if !out.is_empty() {
-            out.push(b'>')?;
-        }
-        out.append(entity.text().strip_prefix(b"https://").unwrap_or(b""))?;
+        add_name(&mut out, entity)?;
     }
     Ok(out)
 }

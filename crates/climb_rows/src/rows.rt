@@ -1,12 +1,14 @@
 // Rows about searches.
 
-ghost use Rattle.std.specs.Prelude.{◌≡◌};
+ghost use Rattle.std.specs.Prelude.{◌≡◌, []};
+ghost use Rattle.climb_rows.specs.Following.{Follows};
 
 use crate::driving::{Case, Counts, Rule, drive};
 use crate::names::{entity, path_names};
 use crate::web::read_web;
 use crate::words::{add_count, add_word, cut};
-use chain_climb::{Bounds, End, Session};
+use chain_climb::{Bounds, End, Path, Session};
+use entity_id::EntityId;
 use fed_base::{Duplicate, Memory, Text};
 use std::alloc::Global;
 
@@ -29,14 +31,23 @@ fn rule(alloc: Global, given: &str) -> Result<Rule, Memory> {
     }
 }
 
+fn add_path(alloc: Global, out: &mut Text, path: &Path) -> Result<(), Memory> {
+    add_word(out, b"Found")?;
+    add_word(out, path_names(alloc, path)?.as_slice())?;
+    add_count(alloc, out, path.urls.len() as u64, b"URLs")
+}
+
+// Adds a copy of the path.
+fn add_found(alloc: Global, out: &mut Text, path: &Path) -> Result<(), Memory> {
+    let copy = path.copy(alloc)?;
+    let added = add_path(alloc, out, &copy);
+    drop(copy);
+    added
+}
+
 fn add_end(alloc: Global, out: &mut Text, end: &End) -> Result<(), Memory> {
     match end {
-        End::Found(path) => {
-            let path = path.copy(alloc)?;
-            add_word(out, b"Found")?;
-            add_word(out, path_names(alloc, &path)?.as_slice())?;
-            add_count(alloc, out, path.urls.len() as u64, b"URLs")
-        }
+        End::Found(path) => add_found(alloc, out, path),
         End::NoLeaf => add_word(out, b"NoLeaf"),
         End::PolicyOnly => add_word(out, b"PolicyOnly"),
         End::NoChain => add_word(out, b"NoChain"),
@@ -48,40 +59,82 @@ fn add_end(alloc: Global, out: &mut Text, end: &End) -> Result<(), Memory> {
     }
 }
 
-fn told(
+fn add_told(
     alloc: Global,
+    out: &mut Text,
     counts: &Counts,
     calls: u64,
     faults: u64,
     end: &Option<End>,
-) -> Result<Text, Memory> {
-    let mut out = Text::new(alloc);
-    add_count(alloc, &mut out, counts.pages, b"pages")?;
-    add_count(alloc, &mut out, counts.judged, b"judged")?;
-    add_count(alloc, &mut out, calls, b"calls")?;
-    add_count(alloc, &mut out, faults, b"faults:")?;
+) -> Result<(), Memory> {
+    add_count(alloc, out, counts.pages, b"pages")?;
+    add_count(alloc, out, counts.judged, b"judged")?;
+    add_count(alloc, out, calls, b"calls")?;
+    add_count(alloc, out, faults, b"faults:")?;
     match end {
-        Some(end) => add_end(alloc, &mut out, end)?,
-        None => add_word(&mut out, b"no end")?,
+        Some(end) => add_end(alloc, out, end),
+        None => add_word(out, b"no end"),
     }
-    Ok(out)
 }
 
-// What is counted and how it ends, from the leaf to the anchor.
-fn searched(alloc: Global, case: &Case, names: &str, bounds: Bounds) -> Result<Text, Memory>
-    requires { bounds.calls ≡ case.now.calls }
+// What is counted and how it ends, in this session.
+fn driven(alloc: Global, case: &Case, session: &mut Session) -> Result<Text, Memory>
+    requires { Follows session.old [] case.now.calls }
 {
-    let (leaf, anchor) = cut(names, ' ');
-    let (Some(leaf), Some(anchor)) = (entity(alloc, leaf)?, entity(alloc, anchor)?) else {
-        return Text::of(alloc, b"no identifier");
-    };
-    let mut session = Session::start(alloc, &leaf, &anchor, bounds)?;
     let mut counts = Counts {
         pages: 0,
         judged: 0,
     };
-    let end = drive(alloc, case, &mut session, &mut counts)?;
-    told(alloc, &counts, session.calls(), session.faults(), &end)
+    let end = drive(alloc, case, session, &mut counts)?;
+    let mut out = Text::new(alloc);
+    let (calls, faults) = (session.calls(), session.faults());
+    let added = add_told(alloc, &mut out, &counts, calls, faults, &end);
+    drop(end);
+    added?;
+    Ok(out)
+}
+
+// The same from the leaf to the anchor.
+fn searched(
+    alloc: Global,
+    case: &Case,
+    leaf: &EntityId,
+    anchor: &EntityId,
+    bounds: Bounds,
+) -> Result<Text, Memory>
+    requires { bounds.calls ≡ case.now.calls }
+{
+    let mut session = Session::start(alloc, leaf, anchor, bounds)?;
+    let told = driven(alloc, case, &mut session);
+    drop(session);
+    told
+}
+
+// The same to the anchor with this name.
+fn searched_to(
+    alloc: Global,
+    case: &Case,
+    leaf: &EntityId,
+    anchor: &str,
+    bounds: Bounds,
+) -> Result<Text, Memory>
+    requires { bounds.calls ≡ case.now.calls }
+{
+    match entity(alloc, anchor)? {
+        Some(anchor) => searched(alloc, case, leaf, &anchor, bounds),
+        None => Text::of(alloc, b"no identifier"),
+    }
+}
+
+// The same between entities with these names.
+fn searched_names(alloc: Global, case: &Case, names: &str, bounds: Bounds) -> Result<Text, Memory>
+    requires { bounds.calls ≡ case.now.calls }
+{
+    let (leaf, anchor) = cut(names, ' ');
+    match entity(alloc, leaf)? {
+        Some(leaf) => searched_to(alloc, case, &leaf, anchor, bounds),
+        None => Text::of(alloc, b"no identifier"),
+    }
 }
 
 /// `search BOUNDS NAMES RULE ENTITY ..`: how many wants of pages and of verdicts there were, the calls and the faults, and the end.
@@ -97,5 +150,7 @@ pub(crate) fn search(alloc: Global, given: &str) -> Result<Text, Memory> {
         cached: source == "cached",
         calls: bounds.calls,
     };
-    searched(alloc, &case, names, bounds)
+    let told = searched_names(alloc, &case, names, bounds);
+    drop(case);
+    told
 }

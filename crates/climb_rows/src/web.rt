@@ -85,38 +85,51 @@ fn configuration(
     Ok(out)
 }
 
-// An entity by its row: its kind, its name, its hints with commas between them, and whose endpoint it names, where that isn't its own.
-fn read_entry(alloc: Global, given: &str) -> Result<Option<Entry>, Memory> {
-    let (kind, given) = cut(given, ' ');
-    let (name, given) = cut(given, ' ');
-    let (hints, endpoint) = cut(given, ' ');
-    let Some(id) = entity(alloc, name)? else {
-        return Ok(None);
-    };
-    let shares = endpoint != "";
-    let claims = configuration(alloc, &id, hints, if shares { endpoint } else { name })?;
-    let url = id.well_known(alloc)?;
-    let kind = match kind {
+fn kind_of(word: &str) -> Kind {
+    match word {
         "page" => Kind::Page,
         "fault" => Kind::Fault,
         _ => Kind::Useless,
-    };
-    Ok(Some(Entry {
+    }
+}
+
+fn entry_of(
+    alloc: Global,
+    id: EntityId,
+    claims: Text,
+    kind: Kind,
+    shares: bool,
+) -> Result<Entry, Memory> {
+    let url = id.well_known(alloc)?;
+    Ok(Entry {
         id,
         url,
         claims,
         kind,
         shares,
-    }))
+    })
+}
+
+// Adds an entity by its row: its kind, its name, its hints with commas between them, and whose endpoint it names, where that isn't its own.
+fn add_entry(alloc: Global, web: &mut Seq<Entry>, given: &str) -> Result<(), Memory> {
+    let (kind, given) = cut(given, ' ');
+    let (name, given) = cut(given, ' ');
+    let (hints, endpoint) = cut(given, ' ');
+    let whose = if endpoint == "" { name } else { endpoint };
+    match entity(alloc, name)? {
+        Some(id) => {
+            let claims = configuration(alloc, &id, hints, whose)?;
+            web.push(entry_of(alloc, id, claims, kind_of(kind), endpoint != "")?)
+        }
+        None => Ok(()),
+    }
 }
 
 /// The web of these entities, with a tab between them.
 pub(crate) fn read_web(alloc: Global, given: &str) -> Result<Seq<Entry>, Memory> {
     let mut web = Seq::new(alloc);
     for part in given.split('\t') {
-        if let Some(entry) = read_entry(alloc, part)? {
-            web.push(entry)?;
-        }
+        add_entry(alloc, &mut web, part)?;
     }
     Ok(web)
 }
@@ -163,6 +176,13 @@ pub(crate) fn configuration_page(
     Ok(Page::Useless)
 }
 
+// The superior's statement about the subject.
+fn superior_page(alloc: Global, superior: &EntityId, subject: &EntityId) -> Result<Page, Memory> {
+    let mut claims = common(alloc, superior.text(), subject.text())?;
+    claims.push(b'}')?;
+    statement(alloc, claims.as_slice())
+}
+
 /// What is got for the want of a superior's statement. An endpoint has the statements of the entity that it belongs to.
 pub(crate) fn statement_page(
     alloc: Global,
@@ -172,9 +192,7 @@ pub(crate) fn statement_page(
 ) -> Result<Page, Memory> {
     for entry in web.as_slice() {
         if entry.id == *superior && !entry.shares {
-            let mut claims = common(alloc, superior.text(), subject.text())?;
-            claims.push(b'}')?;
-            return statement(alloc, claims.as_slice());
+            return superior_page(alloc, superior, subject);
         }
     }
     Ok(Page::Useless)

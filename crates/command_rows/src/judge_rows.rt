@@ -56,21 +56,33 @@ pub fn told(alloc: Global, given: &str) -> Result<String, Memory> {
         return copied(alloc, "no claims");
     };
     match taken_apart(alloc, text.as_slice()) {
-        Ok(compact) => judged(alloc, &compact, &question),
+        Ok(compact) => {
+            let told = judged(alloc, &compact, &question);
+            drop(compact);
+            told
+        }
         Err(_) => copied(alloc, "no sealed text"),
     }
 }
 
-// The claims, sealed.
-fn sealed(alloc: Global, question: &Question) -> Result<Option<Text>, Memory> {
-    let Ok(claims) = read_tree(alloc, question.claims.as_bytes()) else {
-        return Ok(None);
-    };
-    if !is_whole(&claims) || !matches!(claims, Json::Object(_)) {
+fn sealed_tree(alloc: Global, claims: &Json) -> Result<Option<Text>, Memory> {
+    if !is_whole(claims) || !matches!(claims, Json::Object(_)) {
         return Ok(None);
     }
     let typ = Text::of(alloc, b"entity-statement+jwt")?;
-    Ok(Some(seal(alloc, &KeyPair::from_seeds(&SEEDS), &typ, &claims)?))
+    Ok(Some(seal(alloc, &KeyPair::from_seeds(&SEEDS), &typ, claims)?))
+}
+
+// The claims, sealed.
+fn sealed(alloc: Global, question: &Question) -> Result<Option<Text>, Memory> {
+    match read_tree(alloc, question.claims.as_bytes()) {
+        Ok(claims) => {
+            let sealed = sealed_tree(alloc, &claims);
+            drop(claims);
+            sealed
+        }
+        Err(_) => Ok(None),
+    }
 }
 
 fn taken_apart(alloc: Global, text: &[u8]) -> Result<Compact, FormFault>
@@ -79,10 +91,10 @@ fn taken_apart(alloc: Global, text: &[u8]) -> Result<Compact, FormFault>
     split(alloc, text)
 }
 
-// The chain of this text alone, with what its test under a key tells.
-fn tested_chain(alloc: Global, compact: &Compact, public: &[u8; 32]) -> Result<Seq<Tried>, Memory>
+// This text, with what its test under a key tells.
+fn tested(alloc: Global, compact: &Compact, public: &[u8; 32]) -> Result<Tried, Memory>
     requires { IsCompact compact.now.whole compact.now }
-    ensures { IfOk result (All IsOfItsText) }
+    ensures { IfOk result IsOfItsText }
 {
     let mut steps = Steps {
         ledger: Plain::new(),
@@ -96,8 +108,16 @@ fn tested_chain(alloc: Global, compact: &Compact, public: &[u8; 32]) -> Result<S
         Tested::Yes(seal) => tried.seals.push(seal)?,
         Tested::No(miss) => tried.misses.push(miss)?,
     }
+    Ok(tried)
+}
+
+// The chain of this text alone.
+fn tested_chain(alloc: Global, compact: &Compact, public: &[u8; 32]) -> Result<Seq<Tried>, Memory>
+    requires { IsCompact compact.now.whole compact.now }
+    ensures { IfOk result (All IsOfItsText) }
+{
     let mut chain = Seq::new(alloc);
-    chain.push(tried)?;
+    chain.push(tested(alloc, compact, public)?)?;
     Ok(chain)
 }
 
@@ -105,19 +125,56 @@ fn judged(alloc: Global, compact: &Compact, question: &Question) -> Result<Strin
     requires { IsCompact compact.now.whole compact.now }
 {
     let chain = tested_chain(alloc, compact, &question.public)?;
-    let Some(anchor) = EntityId::of(alloc, question.anchor.as_bytes())? else {
-        return copied(alloc, "no anchor");
-    };
-    let Ok(tree) = read_tree(alloc, question.keys.as_bytes()) else {
-        return copied(alloc, "no keys");
-    };
-    let Ok(keys) = JwkSet::read(alloc, &tree) else {
-        return copied(alloc, "no keys");
-    };
-    answer(
-        alloc,
-        &judge(alloc, &chain, &anchor, &keys, question.moment)?,
-    )
+    let told = by_anchor(alloc, &chain, question);
+    drop(chain);
+    told
+}
+
+fn by_anchor(alloc: Global, chain: &Seq<Tried>, question: &Question) -> Result<String, Memory>
+    requires { All IsOfItsText chain.now }
+{
+    match EntityId::of(alloc, question.anchor.as_bytes())? {
+        Some(anchor) => by_keys(alloc, chain, &anchor, question),
+        None => copied(alloc, "no anchor"),
+    }
+}
+
+fn keys(alloc: Global, set: &str) -> Option<JwkSet> {
+    match read_tree(alloc, set.as_bytes()) {
+        Ok(tree) => {
+            let read = JwkSet::read(alloc, &tree);
+            drop(tree);
+            match read {
+                Ok(keys) => Some(keys),
+                Err(_) => None,
+            }
+        }
+        Err(_) => None,
+    }
+}
+
+fn by_keys(
+    alloc: Global,
+    chain: &Seq<Tried>,
+    anchor: &EntityId,
+    question: &Question,
+) -> Result<String, Memory>
+    requires { All IsOfItsText chain.now }
+{
+    match keys(alloc, question.keys) {
+        Some(keys) => {
+            let judged = judge(alloc, chain, anchor, &keys, question.moment);
+            drop(keys);
+            judgement(alloc, judged?)
+        }
+        None => copied(alloc, "no keys"),
+    }
+}
+
+fn judgement(alloc: Global, judged: Judged) -> Result<String, Memory> {
+    let told = answer(alloc, &judged);
+    drop(judged);
+    told
 }
 
 fn answer(alloc: Global, judged: &Judged) -> Result<String, Memory> {

@@ -86,26 +86,63 @@ fn printed(bytes: &[u8]) -> &str {
     str::from_utf8(bytes).unwrap_or("not UTF-8")
 }
 
-/// The status, what is written and the file `r` after a run with these words, this fault, this file and this input with a line end.
-pub fn told<R>(rt: &R, alloc: Global, given: &str) -> Result<String, Memory> {
-    let (words, given) = given.split_once('\t').unwrap_or((given, ""));
-    let (fault, given) = given.split_once('\t').unwrap_or((given, ""));
-    let (file, input) = given.split_once('\t').unwrap_or((given, ""));
-    let faults = faults_of(fault);
-    let mut bytes = Text::of(alloc, input.as_bytes())?;
-    bytes.push(b'\n')?;
-    let mut input = MemorySource::new(alloc, bytes.as_slice(), &[faults.source], 9)?;
-    let mut out = MemorySink::new(alloc, faults.room as usize, &[faults.sink], 99)?;
-    let mut store = store_of(alloc, file, faults)?;
+// The status, what is written and the file `r` after a run.
+fn ran<R>(
+    rt: &R,
+    alloc: Global,
+    words: &Seq<Text>,
+    input: &mut MemorySource,
+    out: &mut MemorySink,
+    store: &mut MemoryStore,
+) -> Result<String, Memory> {
     let mut clock = MemoryClock::new(alloc, &[])?;
-    let words = words_of(alloc, words)?;
-    let status = run(
-        rt, alloc, &words, &mut input, &mut out, &mut store, &mut clock,
-    );
+    let status = run(rt, alloc, words, input, out, store, &mut clock);
+    drop(clock);
     let written = printed(out.as_slice());
     let kept = match store.file(b"r") {
         Some(file) => printed(file),
         None => "",
     };
     Ok(format!(in alloc; "{status} {written:?} {kept:?}")?)
+}
+
+// The same with a sink and a store of their own.
+fn ran_from<R>(
+    rt: &R,
+    alloc: Global,
+    words: &Seq<Text>,
+    file: &str,
+    faults: Faults,
+    input: &mut MemorySource,
+) -> Result<String, Memory> {
+    let mut out = MemorySink::new(alloc, faults.room as usize, &[faults.sink], 99)?;
+    let told = match store_of(alloc, file, faults) {
+        Ok(mut store) => {
+            let told = ran(rt, alloc, words, input, &mut out, &mut store);
+            drop(store);
+            told
+        }
+        Err(Memory) => Err(Memory),
+    };
+    drop(out);
+    told
+}
+
+fn source_of(alloc: Global, input: &str, faults: Faults) -> Result<MemorySource, Memory> {
+    let mut bytes = Text::of(alloc, input.as_bytes())?;
+    bytes.push(b'\n')?;
+    MemorySource::new(alloc, bytes.as_slice(), &[faults.source], 9)
+}
+
+/// The status, what is written and the file `r` after a run with these words, this fault, this file and this input with a line end.
+pub fn told<R>(rt: &R, alloc: Global, given: &str) -> Result<String, Memory> {
+    let (words, given) = given.split_once('\t').unwrap_or((given, ""));
+    let (fault, given) = given.split_once('\t').unwrap_or((given, ""));
+    let (file, input) = given.split_once('\t').unwrap_or((given, ""));
+    let faults = faults_of(fault);
+    let words = words_of(alloc, words)?;
+    let mut input = source_of(alloc, input, faults)?;
+    let told = ran_from(rt, alloc, &words, file, faults, &mut input);
+    drop(input);
+    told
 }

@@ -35,6 +35,17 @@ fn media(word: &str) -> Media {
     }
 }
 
+fn held(alloc: Global, written: Result<(), WriteEnd>, bytes: &[u8]) -> Result<Text, Memory> {
+    let mut out = Text::new(alloc);
+    match written {
+        Ok(()) => {}
+        Err(WriteEnd::WriteFault) => out.append(b"WriteFault ")?,
+        Err(WriteEnd::Memory) => return Err(Memory),
+    }
+    show(alloc, &mut out, bytes)?;
+    Ok(out)
+}
+
 /// What a sink of that room holds of the response, behind why it isn't all.
 pub(crate) fn write(alloc: Global, given: &str) -> Result<Text, Memory> {
     let (room, rest) = cut(given);
@@ -46,12 +57,9 @@ pub(crate) fn write(alloc: Global, given: &str) -> Result<Text, Memory> {
         body: bytes(alloc, parts)?,
     };
     let mut sink = MemorySink::new(alloc, number(room) as usize, &[], 1000)?;
-    let mut out = Text::new(alloc);
-    match write_response(alloc, &mut sink, &response) {
-        Ok(()) => {}
-        Err(WriteEnd::WriteFault) => out.append(b"WriteFault ")?,
-        Err(WriteEnd::Memory) => return Err(Memory),
-    }
-    show(alloc, &mut out, sink.as_slice())?;
-    Ok(out)
+    let written = write_response(alloc, &mut sink, &response);
+    drop(response);
+    let told = held(alloc, written, sink.as_slice());
+    drop(sink);
+    told
 }

@@ -1,7 +1,7 @@
 // Requests that are read.
 
 use crate::pieces::Pieces;
-use crate::words::{add_number, bytes, cut, number, show};
+use crate::words::{bytes, counted, cut, number, show};
 use fed_base::{Memory, Text};
 use fed_ports::MemorySource;
 use http_plain::{Incoming, Method, ReadEnd, Request, read_request};
@@ -27,16 +27,28 @@ fn add_request(alloc: Global, out: &mut Text, request: &Request) -> Result<(), M
     Ok(())
 }
 
+fn add_answer(
+    alloc: Global,
+    out: &mut Text,
+    answer: Result<Incoming, ReadEnd>,
+) -> Result<(), Memory> {
+    match answer {
+        Ok(Incoming::Asked(request)) => {
+            let added = add_request(alloc, out, &request);
+            drop(request);
+            added
+        }
+        Ok(Incoming::NotARequest) => out.append(b"NotARequest"),
+        Err(ReadEnd::ReadFault) => out.append(b"ReadFault"),
+        Err(ReadEnd::Ended) => out.append(b"Ended"),
+        Err(ReadEnd::Memory) => Err(Memory),
+    }
+}
+
 /// What reading answers.
 pub(crate) fn told(alloc: Global, answer: Result<Incoming, ReadEnd>) -> Result<Text, Memory> {
     let mut out = Text::new(alloc);
-    match answer {
-        Ok(Incoming::Asked(request)) => add_request(alloc, &mut out, &request)?,
-        Ok(Incoming::NotARequest) => out.append(b"NotARequest")?,
-        Err(ReadEnd::ReadFault) => out.append(b"ReadFault")?,
-        Err(ReadEnd::Ended) => out.append(b"Ended")?,
-        Err(ReadEnd::Memory) => return Err(Memory),
-    }
+    add_answer(alloc, &mut out, answer)?;
     Ok(out)
 }
 
@@ -44,7 +56,18 @@ pub(crate) fn told(alloc: Global, answer: Result<Incoming, ReadEnd>) -> Result<T
 pub(crate) fn ask(alloc: Global, given: &str) -> Result<Text, Memory> {
     let (most, parts) = cut(given);
     let mut source = Pieces::new(bytes(alloc, parts)?, number(most) as usize);
-    told(alloc, read_request(alloc, &mut source))
+    let read = read_request(alloc, &mut source);
+    drop(source);
+    told(alloc, read)
+}
+
+fn is_ended(alloc: Global, bytes: &[u8]) -> Result<bool, Memory> {
+    let mut source = Pieces::new(Text::of(alloc, bytes)?, 7);
+    let read = read_request(alloc, &mut source);
+    drop(source);
+    let ended = matches!(read, Err(ReadEnd::Ended));
+    drop(read);
+    Ok(ended)
 }
 
 /// How often the bytes end early where they are cut before each of them in turn, and how many they are.
@@ -53,17 +76,11 @@ pub(crate) fn cut_short(alloc: Global, given: &str) -> Result<Text, Memory> {
     let whole = whole.as_slice();
     let mut ended: u64 = 0;
     for len in 0..whole.len() {
-        let mut source = Pieces::new(Text::of(alloc, &whole[..len])?, 7);
-        if let Err(ReadEnd::Ended) = read_request(alloc, &mut source) {
+        if is_ended(alloc, &whole[..len])? {
             ended = ended.saturating_add(1);
         }
     }
-    let mut out = Text::new(alloc);
-    out.append(b"Ended ")?;
-    add_number(alloc, &mut out, ended)?;
-    out.append(b" of ")?;
-    add_number(alloc, &mut out, whole.len() as u64)?;
-    Ok(out)
+    counted(alloc, b"Ended ", ended, whole.len() as u64)
 }
 
 /// The request in these bytes, where the call of that number fails.
@@ -71,5 +88,7 @@ pub(crate) fn failing(alloc: Global, given: &str) -> Result<Text, Memory> {
     let (call, parts) = cut(given);
     let whole = bytes(alloc, parts)?;
     let mut source = MemorySource::new(alloc, whole.as_slice(), &[number(call)], 1000)?;
-    told(alloc, read_request(alloc, &mut source))
+    let read = read_request(alloc, &mut source);
+    drop(source);
+    told(alloc, read)
 }

@@ -1,11 +1,28 @@
 // Pages that a client gets.
 
-use crate::words::{add_number, bytes, cut, number, show};
+use crate::words::{add_number, bytes, counted, cut, number, show};
 use fed_base::{Memory, Seq, Text};
 use fed_net::MemoryNetwork;
 use fed_ports::{Address, Link, LinkFault, Page};
 use http_plain::{HttpLink, Route};
 use std::alloc::Global;
+
+fn route_to(alloc: Global, host: &str) -> Result<Seq<Route>, Memory> {
+    let mut routes = Seq::new(alloc);
+    let to = Address {
+        ip: [127, 0, 0, 1],
+        port: 8080,
+    };
+    let host = Text::of(alloc, host.as_bytes())?;
+    routes.push(Route { host, to })?;
+    Ok(routes)
+}
+
+fn network(alloc: Global, answer: Text, failing: &[u64]) -> Result<MemoryNetwork, Memory> {
+    let mut answers = Seq::new(alloc);
+    answers.push(answer)?;
+    MemoryNetwork::new(alloc, answers, Seq::new(alloc), 5000, failing, 2000)
+}
 
 // A link with one route, over a network that gives that answer, and whose call of that number fails.
 fn link(
@@ -14,16 +31,8 @@ fn link(
     answer: Text,
     failing: &[u64],
 ) -> Result<HttpLink<MemoryNetwork>, Memory> {
-    let mut routes = Seq::new(alloc);
-    let to = Address {
-        ip: [127, 0, 0, 1],
-        port: 8080,
-    };
-    let host = Text::of(alloc, host.as_bytes())?;
-    routes.push(Route { host, to })?;
-    let mut answers = Seq::new(alloc);
-    answers.push(answer)?;
-    let net = MemoryNetwork::new(alloc, answers, Seq::new(alloc), 5000, failing, 2000)?;
+    let routes = route_to(alloc, host)?;
+    let net = network(alloc, answer, failing)?;
     Ok(HttpLink::new(net, routes))
 }
 
@@ -44,17 +53,29 @@ fn add_page(alloc: Global, out: &mut Text, page: &Page) -> Result<(), Memory> {
     }
 }
 
-/// Adds what a call answers.
-pub(crate) fn add_answer(
+// Adds what a call answers.
+fn add_answer(
     alloc: Global,
     out: &mut Text,
     answer: Result<Page, LinkFault>,
 ) -> Result<(), Memory> {
     match answer {
-        Ok(page) => add_page(alloc, out, &page),
+        Ok(page) => {
+            let added = add_page(alloc, out, &page);
+            drop(page);
+            added
+        }
         Err(LinkFault::Failed) => out.append(b"Failed"),
         Err(LinkFault::Memory) => Err(Memory),
     }
+}
+
+/// The page that the link gets under the URL.
+pub(crate) fn got<L: Link>(alloc: Global, link: &mut L, url: &str) -> Result<Text, Memory> {
+    let answer = link.get(alloc, &Text::of(alloc, url.as_bytes())?);
+    let mut out = Text::new(alloc);
+    add_answer(alloc, &mut out, answer)?;
+    Ok(out)
 }
 
 /// The page of a URL with a route to that host, where these bytes come.
@@ -62,38 +83,56 @@ pub(crate) fn page(alloc: Global, given: &str) -> Result<Text, Memory> {
     let (host, rest) = cut(given);
     let (url, parts) = cut(rest);
     let mut link = link(alloc, host, bytes(alloc, parts)?, &[])?;
-    let mut out = Text::new(alloc);
-    let answer = link.get(alloc, &Text::of(alloc, url.as_bytes())?);
-    add_answer(alloc, &mut out, answer)?;
-    Ok(out)
+    let told = got(alloc, &mut link, url);
+    drop(link);
+    told
+}
+
+fn add_sent(alloc: Global, out: &mut Text, net: &MemoryNetwork) -> Result<(), Memory> {
+    match net.sent(0) {
+        Some(message) => {
+            out.push(b' ')?;
+            show(alloc, out, message)
+        }
+        None => out.append(b", nothing is opened"),
+    }
+}
+
+fn with_sent(alloc: Global, mut told: Text, net: &MemoryNetwork) -> Result<Text, Memory> {
+    add_sent(alloc, &mut told, net)?;
+    Ok(told)
 }
 
 /// What is sent for a URL with a route to that host.
 pub(crate) fn sent(alloc: Global, given: &str) -> Result<Text, Memory> {
     let (host, url) = cut(given);
     let mut link = link(alloc, host, Text::new(alloc), &[])?;
-    let mut out = Text::new(alloc);
-    let answer = link.get(alloc, &Text::of(alloc, url.as_bytes())?);
-    add_answer(alloc, &mut out, answer)?;
+    let told = got(alloc, &mut link, url);
     let net = link.into_net();
-    match net.sent(0) {
-        Some(message) => {
-            out.push(b' ')?;
-            show(alloc, &mut out, message)?;
-        }
-        None => out.append(b", nothing is opened")?,
-    }
-    Ok(out)
+    let told = match told {
+        Ok(told) => with_sent(alloc, told, &net),
+        Err(Memory) => Err(Memory),
+    };
+    drop(net);
+    told
 }
 
 /// The page where these bytes come and the network's call of that number fails.
 pub(crate) fn lost(alloc: Global, given: &str) -> Result<Text, Memory> {
     let (call, parts) = cut(given);
     let mut link = link(alloc, "a.example", bytes(alloc, parts)?, &[number(call)])?;
-    let mut out = Text::new(alloc);
-    let answer = link.get(alloc, &Text::of(alloc, b"https://a.example/")?);
-    add_answer(alloc, &mut out, answer)?;
-    Ok(out)
+    let told = got(alloc, &mut link, "https://a.example/");
+    drop(link);
+    told
+}
+
+fn is_garbled(alloc: Global, url: &Text, answer: &[u8]) -> Result<bool, Memory> {
+    let mut link = link(alloc, "a.example", Text::of(alloc, answer)?, &[])?;
+    let page = link.get(alloc, url);
+    drop(link);
+    let garbled = matches!(page, Ok(Page::Garbled));
+    drop(page);
+    Ok(garbled)
 }
 
 /// How often the page is garbled where the bytes are cut before each of them in turn, and how many they are.
@@ -103,15 +142,9 @@ pub(crate) fn cut_short(alloc: Global, given: &str) -> Result<Text, Memory> {
     let url = Text::of(alloc, b"https://a.example/")?;
     let mut garbled: u64 = 0;
     for len in 0..whole.len() {
-        let mut link = link(alloc, "a.example", Text::of(alloc, &whole[..len])?, &[])?;
-        if let Ok(Page::Garbled) = link.get(alloc, &url) {
+        if is_garbled(alloc, &url, &whole[..len])? {
             garbled = garbled.saturating_add(1);
         }
     }
-    let mut out = Text::new(alloc);
-    out.append(b"Garbled ")?;
-    add_number(alloc, &mut out, garbled)?;
-    out.append(b" of ")?;
-    add_number(alloc, &mut out, whole.len() as u64)?;
-    Ok(out)
+    counted(alloc, b"Garbled ", garbled, whole.len() as u64)
 }

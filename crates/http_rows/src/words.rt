@@ -71,3 +71,12 @@ pub(crate) fn add_number(alloc: Global, out: &mut Text, n: u64) -> Result<(), Me
         Err(_) => Err(Memory),
     }
 }
+
+/// How often something was found, of so many times.
+pub(crate) fn counted(alloc: Global, name: &[u8], n: u64, all: u64) -> Result<Text, Memory> {
+    let mut out = Text::of(alloc, name)?;
+    add_number(alloc, &mut out, n)?;
+    out.append(b" of ")?;
+    add_number(alloc, &mut out, all)?;
+    Ok(out)
+}

@@ -41,20 +41,28 @@ fn with_kept(alloc: Global, claims: &str, kept: &Text) -> Result<Text, Memory> {
     Ok(text)
 }
 
+// The tree sealed, and no text where it can't be.
+fn sealed_tree(alloc: Global, first: u8, word: &str, tree: &Json) -> Result<Text, Memory> {
+    if !is_whole(tree) || !matches!(tree, Json::Object(_)) {
+        return Ok(Text::new(alloc));
+    }
+    let typ = typ_of(alloc, word)?;
+    sealed::seal(alloc, &KeyPair::from_seeds(&seeds(first)), &typ, tree)
+}
+
 /// `seal SEED TYPE CLAIMS`: the claims as a mark or a delegation, sealed by the key of the 48 seeds from this one on.
 pub(crate) fn seal(alloc: Global, given: &str, kept: &Text) -> Result<Text, Memory> {
     let (first, given) = cut(given);
     let (word, claims) = cut(given);
     let claims = with_kept(alloc, claims, kept)?;
-    let Ok(tree) = read_tree(alloc, claims.as_slice()) else {
-        return Ok(Text::new(alloc));
-    };
-    if !is_whole(&tree) || !matches!(tree, Json::Object(_)) {
-        return Ok(Text::new(alloc));
+    match read_tree(alloc, claims.as_slice()) {
+        Ok(tree) => {
+            let sealed = sealed_tree(alloc, first.parse::<u8>().unwrap_or(0), word, &tree);
+            drop(tree);
+            sealed
+        },
+        Err(_) => Ok(Text::new(alloc)),
     }
-    let keys = KeyPair::from_seeds(&seeds(first.parse::<u8>().unwrap_or(0)));
-    let typ = typ_of(alloc, word)?;
-    sealed::seal(alloc, &keys, &typ, &tree)
 }
 
 /// `grow NUMBER`: the kept text with the letter A at its end, until it has so many bytes.

@@ -2,36 +2,34 @@
 
 use crate::words::{add_number, cut};
 use entity_id::EntityId;
-use entity_statement::{MarkEntry, Statement};
+use entity_statement::{MarkEntry, Statement, StatementFault};
 use fed_base::{Duplicate, Memory, Plain, Steps, Text};
 use fed_json::read_tree;
 use jwk_set::JwkSet;
 use std::alloc::Global;
 use trust_mark::{MarkReason, MarkVerdict, verify_mark};
 
-// The configuration of https://ta.example that says this of trust marks.
-fn anchor(alloc: Global, marks: &str) -> Result<Option<Statement>, Memory> {
+// The claims of a configuration of https://ta.example that says this of trust marks.
+fn anchor_claims(alloc: Global, marks: &str) -> Result<Text, Memory> {
     let mut claims = Text::of(
         alloc,
         b"{\"iss\":\"https://ta.example\",\"sub\":\"https://ta.example\",\"iat\":0,\"exp\":1,\"jwks\":{\"keys\":[]},",
     )?;
     claims.append(marks.as_bytes())?;
     claims.push(b'}')?;
-    let Ok(tree) = read_tree(alloc, claims.as_slice()) else {
-        return Ok(None);
-    };
-    match Statement::of_claims(alloc, tree) {
-        Ok(anchor) => Ok(Some(anchor)),
-        Err(_) => Ok(None),
-    }
+    Ok(claims)
 }
 
 fn keys(alloc: Global, set: &str) -> Option<JwkSet> {
-    let Ok(tree) = read_tree(alloc, set.as_bytes()) else {
-        return None;
-    };
-    match JwkSet::read(alloc, &tree) {
-        Ok(keys) => Some(keys),
+    match read_tree(alloc, set.as_bytes()) {
+        Ok(tree) => {
+            let read = JwkSet::read(alloc, &tree);
+            drop(tree);
+            match read {
+                Ok(keys) => Some(keys),
+                Err(_) => None,
+            }
+        },
         Err(_) => None,
     }
 }
@@ -80,7 +78,45 @@ fn told(
     Ok(out)
 }
 
-// The same by a configuration and a key set that are yet to be read.
+// The same by a key set that is yet to be read.
+fn by_keys(
+    alloc: Global,
+    moment: &str,
+    entry: &MarkEntry,
+    leaf: &EntityId,
+    anchor: &Statement,
+    set: &str,
+) -> Result<Text, Memory> {
+    match keys(alloc, set) {
+        Some(keys) => {
+            let told = told(alloc, moment, entry, leaf, anchor, &keys);
+            drop(keys);
+            told
+        },
+        None => Text::of(alloc, b"no keys"),
+    }
+}
+
+// The same by a configuration too, where it is one.
+fn by_statement(
+    alloc: Global,
+    moment: &str,
+    entry: &MarkEntry,
+    leaf: &EntityId,
+    anchor: Result<Statement, StatementFault>,
+    set: &str,
+) -> Result<Text, Memory> {
+    match anchor {
+        Ok(anchor) => {
+            let told = by_keys(alloc, moment, entry, leaf, &anchor, set);
+            drop(anchor);
+            told
+        },
+        Err(_) => Text::of(alloc, b"no anchor"),
+    }
+}
+
+// The same by a configuration that is yet to be read.
 fn by_anchor(
     alloc: Global,
     moment: &str,
@@ -89,12 +125,13 @@ fn by_anchor(
     given: &str,
 ) -> Result<Text, Memory> {
     let (marks, set) = cut(given);
-    match anchor(alloc, marks)? {
-        Some(anchor) => match keys(alloc, set) {
-            Some(keys) => told(alloc, moment, entry, leaf, &anchor, &keys),
-            None => Text::of(alloc, b"no keys"),
+    let claims = anchor_claims(alloc, marks)?;
+    match read_tree(alloc, claims.as_slice()) {
+        Ok(tree) => {
+            let anchor = Statement::of_claims(alloc, tree);
+            by_statement(alloc, moment, entry, leaf, anchor, set)
         },
-        None => Text::of(alloc, b"no anchor"),
+        Err(_) => Text::of(alloc, b"no anchor"),
     }
 }
 

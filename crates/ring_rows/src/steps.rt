@@ -43,15 +43,40 @@ pub fn ring(alloc: Global, given: &str) -> Result<Text, Memory> {
     let (file, steps) = cut(given);
     let mut out = Text::new(alloc);
     let mut store = store_of(alloc, plan, file)?;
+    let taken = open_and_take(alloc, &mut store, file, steps, &mut out);
+    drop(store);
+    taken?;
+    Ok(out)
+}
+
+fn open_and_take(
+    alloc: Global,
+    store: &mut MemoryStore,
+    file: &str,
+    steps: &str,
+    out: &mut Text,
+) -> Result<(), Memory> {
     match KeyRing::open(alloc, file.as_bytes()) {
         Ok(mut ring) => {
-            for step in steps.split('\t') {
-                take_step(alloc, &mut ring, &mut store, step, &mut out)?;
-            }
+            let taken = take_steps(alloc, &mut ring, store, steps, out);
+            drop(ring);
+            taken
         },
-        Err(fault) => add_fault(alloc, &mut out, &fault)?,
+        Err(fault) => add_fault(alloc, out, &fault),
     }
-    Ok(out)
+}
+
+fn take_steps(
+    alloc: Global,
+    ring: &mut KeyRing,
+    store: &mut MemoryStore,
+    steps: &str,
+    out: &mut Text,
+) -> Result<(), Memory> {
+    for step in steps.split('\t') {
+        take_step(alloc, ring, store, step, out)?;
+    }
+    Ok(())
 }
 
 fn take_step(
@@ -67,9 +92,9 @@ fn take_step(
         "retire" => retire(alloc, ring, store, given, out),
         "revoke" => revoke(alloc, ring, store, given, out),
         "signer" => add(out, &encode_32(&ring.signer().public())),
-        "live" => add_set(alloc, &ring.live_set(alloc)?, out),
-        "kept" => add_set(alloc, &ring.kept_set(alloc)?, out),
-        "historical" => add_tree(alloc, &ring.historical(alloc)?, out),
+        "live" => add_set(alloc, ring.live_set(alloc)?, out),
+        "kept" => add_set(alloc, ring.kept_set(alloc)?, out),
+        "historical" => add_tree(alloc, ring.historical(alloc)?, out),
         "file" => add(out, store.file(b"r").unwrap_or(b"none")),
         "open" => reopen(alloc, store, out),
         _ => add(out, b"no such step"),
@@ -129,18 +154,24 @@ fn add_done(alloc: Global, done: Result<(), RingFault>, out: &mut Text) -> Resul
 // Whether the ring opens again from the store, and its file there.
 fn reopen(alloc: Global, store: &MemoryStore, out: &mut Text) -> Result<(), Memory> {
     match KeyRing::open(alloc, store.file(b"r").unwrap_or(b"")) {
-        Ok(_) => add(out, b"opens"),
+        Ok(ring) => {
+            drop(ring);
+            add(out, b"opens")
+        },
         Err(fault) => add_fault(alloc, out, &fault),
     }
 }
 
-fn add_set(alloc: Global, set: &JwkSet, out: &mut Text) -> Result<(), Memory> {
-    add_tree(alloc, &set.write(alloc)?, out)
+fn add_set(alloc: Global, set: JwkSet, out: &mut Text) -> Result<(), Memory> {
+    let tree = set.write(alloc);
+    drop(set);
+    add_tree(alloc, tree?, out)
 }
 
-fn add_tree(alloc: Global, tree: &Json, out: &mut Text) -> Result<(), Memory>
-    requires { IsWhole tree.now }
+fn add_tree(alloc: Global, tree: Json, out: &mut Text) -> Result<(), Memory>
+    requires { IsWhole tree }
 {
-    let text = write_tree(alloc, tree)?;
-    add(out, text.as_slice())
+    let text = write_tree(alloc, &tree);
+    drop(tree);
+    add(out, text?.as_slice())
 }

@@ -1,14 +1,18 @@
 // Rows about constraints, and about the limits and types of chains.
 
-use crate::words::{add_number, add_word, cut};
+use crate::words::{add_number, add_word, cut, tree_told};
 use chain_limits::{Constraints, LimitShape, LimitVerdict, Place, allowed_types, limits_met};
 use fed_base::{Duplicate, Memory, Seq, Text};
-use fed_json::{Json, TreeFault, is_whole, read_tree, write_tree};
+use fed_json::{Json, TreeFault, read_tree};
 use std::alloc::Global;
 
 fn read(alloc: Global, text: &str) -> Result<Constraints, LimitShape> {
     match read_tree(alloc, text.as_bytes()) {
-        Ok(tree) => Constraints::read(alloc, &tree),
+        Ok(tree) => {
+            let limits = Constraints::read(alloc, &tree);
+            drop(tree);
+            limits
+        }
         Err(TreeFault::Syntax) => Err(LimitShape::Shape),
         Err(TreeFault::Memory) => Err(LimitShape::Memory),
     }
@@ -51,13 +55,22 @@ fn add_constraints(alloc: Global, out: &mut Text, limits: &Constraints) -> Resul
     add_if_there(out, b"types", &limits.types)
 }
 
+fn copy_told(alloc: Global, limits: &Constraints) -> Result<Text, Memory> {
+    let copy = limits.copy(alloc)?;
+    let mut out = Text::new(alloc);
+    let added = add_constraints(alloc, &mut out, &copy);
+    drop(copy);
+    added?;
+    Ok(out)
+}
+
 /// `constraints TREE`: the parts that are there, or `Shape`.
 pub(crate) fn constraints(alloc: Global, given: &str) -> Result<Text, Memory> {
     match read(alloc, given) {
         Ok(limits) => {
-            let mut out = Text::new(alloc);
-            add_constraints(alloc, &mut out, &limits.copy(alloc)?)?;
-            Ok(out)
+            let told = copy_told(alloc, &limits);
+            drop(limits);
+            told
         }
         Err(fault) => fault_told(alloc, fault),
     }
@@ -66,8 +79,8 @@ pub(crate) fn constraints(alloc: Global, given: &str) -> Result<Text, Memory> {
 // The place of a statement with this host and, after a space, these constraints.
 fn place(alloc: Global, given: &str) -> Result<Place, LimitShape> {
     let (host, limits) = given.split_once(' ').unwrap_or((given, ""));
-    let limits = read(alloc, limits)?;
     let host = Text::of(alloc, host.as_bytes())?;
+    let limits = read(alloc, limits)?;
     Ok(Place { host, limits })
 }
 
@@ -91,33 +104,46 @@ fn verdict_told(alloc: Global, verdict: LimitVerdict) -> Result<Text, Memory> {
     Ok(out)
 }
 
+fn met(alloc: Global, places: &Seq<Place>) -> Result<Text, Memory> {
+    let copy = places.copy(alloc)?;
+    let verdict = limits_met(&copy);
+    drop(copy);
+    verdict_told(alloc, verdict)
+}
+
 /// `limits PLACE ..`, each place a host, a space and constraints, the leaf's first: the first limit that isn't met.
 pub(crate) fn limits(alloc: Global, given: &str) -> Result<Text, Memory> {
     let mut places = Seq::new(alloc);
     match add_places(alloc, &mut places, given) {
-        Ok(()) => verdict_told(alloc, limits_met(&places.copy(alloc)?)),
+        Ok(()) => met(alloc, &places),
         Err(fault) => fault_told(alloc, fault),
     }
 }
 
 fn kept(alloc: Global, places: &Seq<Place>, metadata: &Json) -> Result<Text, Memory> {
     let tree = allowed_types(alloc, places, metadata)?;
-    if is_whole(&tree) {
-        write_tree(alloc, &tree)
-    } else {
-        Text::of(alloc, b"not whole")
+    let told = tree_told(alloc, &tree);
+    drop(tree);
+    told
+}
+
+fn kept_at(alloc: Global, metadata: &Json, given: &str) -> Result<Text, Memory> {
+    let mut places = Seq::new(alloc);
+    match add_places(alloc, &mut places, given) {
+        Ok(()) => kept(alloc, &places, metadata),
+        Err(fault) => fault_told(alloc, fault),
     }
 }
 
 /// `types METADATA PLACE ..`: the metadata with the types alone that the places allow.
 pub(crate) fn types(alloc: Global, given: &str) -> Result<Text, Memory> {
     let (metadata, given) = cut(given);
-    let Ok(metadata) = read_tree(alloc, metadata.as_bytes()) else {
-        return Text::of(alloc, b"no tree");
-    };
-    let mut places = Seq::new(alloc);
-    match add_places(alloc, &mut places, given) {
-        Ok(()) => kept(alloc, &places, &metadata),
-        Err(fault) => fault_told(alloc, fault),
+    match read_tree(alloc, metadata.as_bytes()) {
+        Ok(metadata) => {
+            let told = kept_at(alloc, &metadata, given);
+            drop(metadata);
+            told
+        }
+        Err(_) => Text::of(alloc, b"no tree"),
     }
 }

@@ -4,7 +4,7 @@ ghost use Rattle.std.specs.Prelude.{◌≡◌, IfOk, None};
 ghost use Rattle.policy_merge.specs.Combining.{conflict_in};
 ghost use Rattle.fed_json.specs.Metadata.{IsMetadata};
 
-use crate::words::{add_word, cut};
+use crate::words::{add_word, cut, tree_told};
 use fed_base::{Duplicate, Memory, Seq, Text};
 use fed_json::{Json, Named, TreeFault, is_metadata, is_whole, read_tree, write_tree};
 use policy_apply::{ApplyFault, apply};
@@ -17,7 +17,11 @@ fn read(alloc: Global, text: &str) -> Result<Policy, PolicyShape> {
         return Ok(Policy::empty(alloc));
     }
     match read_tree(alloc, text.as_bytes()) {
-        Ok(tree) => Policy::read(alloc, &tree),
+        Ok(tree) => {
+            let policy = Policy::read(alloc, &tree);
+            drop(tree);
+            policy
+        }
         Err(TreeFault::Syntax) => Err(PolicyShape::Shape),
         Err(TreeFault::Memory) => Err(PolicyShape::Memory),
     }
@@ -51,7 +55,12 @@ fn add_list(
     list: &Option<Seq<Json>>,
 ) -> Result<(), Memory> {
     match list {
-        Some(list) => add_tree(alloc, out, operator, &Json::List(list.copy(alloc)?)),
+        Some(list) => {
+            let tree = Json::List(list.copy(alloc)?);
+            let added = add_tree(alloc, out, operator, &tree);
+            drop(tree);
+            added
+        }
         None => Ok(()),
     }
 }
@@ -63,10 +72,10 @@ fn add_operators(alloc: Global, out: &mut Text, operators: &Operators) -> Result
     add_list(alloc, out, Operator::OneOf, &operators.one_of)?;
     add_list(alloc, out, Operator::SubsetOf, &operators.subset_of)?;
     add_list(alloc, out, Operator::SupersetOf, &operators.superset_of)?;
-    if let Some(essential) = operators.essential {
-        add_tree(alloc, out, Operator::Essential, &Json::Bool(essential))?;
+    match operators.essential {
+        Some(essential) => add_tree(alloc, out, Operator::Essential, &Json::Bool(essential)),
+        None => Ok(()),
     }
-    Ok(())
 }
 
 fn add_parameters(
@@ -116,13 +125,55 @@ fn fault_told(alloc: Global, fault: &PolicyFault) -> Result<Text, Memory> {
     }
 }
 
-fn merged_told(alloc: Global, upper: &Policy, lower: &Policy) -> Result<Text, Memory> {
-    if let Err(fault) = upper.combined(alloc) {
-        return fault_told(alloc, &fault.copy(alloc)?);
+fn policy_copy_told(alloc: Global, policy: &Policy) -> Result<Text, Memory> {
+    let copy = policy.copy(alloc)?;
+    let told = policy_told(alloc, &copy);
+    drop(copy);
+    told
+}
+
+fn fault_copy_told(alloc: Global, fault: PolicyFault) -> Result<Text, Memory> {
+    let copy = fault.copy(alloc);
+    drop(fault);
+    let copy = copy?;
+    let told = fault_told(alloc, &copy);
+    drop(copy);
+    told
+}
+
+fn merge_told(alloc: Global, merged: Result<Policy, PolicyFault>) -> Result<Text, Memory> {
+    match merged {
+        Ok(policy) => {
+            let told = policy_copy_told(alloc, &policy);
+            drop(policy);
+            told
+        }
+        Err(fault) => fault_copy_told(alloc, fault),
     }
-    match upper.merge(alloc, lower) {
-        Ok(policy) => policy_told(alloc, &policy.copy(alloc)?),
-        Err(fault) => fault_told(alloc, &fault.copy(alloc)?),
+}
+
+fn merged_told(alloc: Global, upper: &Policy, lower: &Policy) -> Result<Text, Memory> {
+    match upper.combined(alloc) {
+        Ok(()) => merge_told(alloc, upper.merge(alloc, lower)),
+        Err(fault) => fault_copy_told(alloc, fault),
+    }
+}
+
+fn shape_told(alloc: Global, shape: PolicyShape) -> Result<Text, Memory> {
+    match shape {
+        PolicyShape::Shape => Text::of(alloc, b"Shape"),
+        PolicyShape::Memory => Err(Memory),
+    }
+}
+
+fn merge_with(alloc: Global, upper: &Policy, lower: &str) -> Result<Text, Memory> {
+    match read(alloc, lower) {
+        Ok(lower) => {
+            let told = merged_told(alloc, upper, &lower);
+            drop(lower);
+            told
+        }
+        Err(shape) => shape_told(alloc, shape),
     }
 }
 
@@ -130,10 +181,13 @@ fn merged_told(alloc: Global, upper: &Policy, lower: &Policy) -> Result<Text, Me
 /// `Shape`. The lower one is empty where it isn't given.
 pub(crate) fn merge(alloc: Global, given: &str) -> Result<Text, Memory> {
     let (upper, lower) = cut(given);
-    match (read(alloc, upper), read(alloc, lower)) {
-        (Ok(upper), Ok(lower)) => merged_told(alloc, &upper, &lower),
-        (Err(PolicyShape::Memory), _) | (_, Err(PolicyShape::Memory)) => Err(Memory),
-        _ => Text::of(alloc, b"Shape"),
+    match read(alloc, upper) {
+        Ok(upper) => {
+            let told = merge_with(alloc, &upper, lower);
+            drop(upper);
+            told
+        }
+        Err(shape) => shape_told(alloc, shape),
     }
 }
 
@@ -141,10 +195,15 @@ pub(crate) fn merge(alloc: Global, given: &str) -> Result<Text, Memory> {
 fn merged(alloc: Global, upper: &str, lower: &str) -> Result<Policy, PolicyFault>
     ensures { IfOk result (λ policy. conflict_in policy ≡ None) }
 {
-    match (read(alloc, upper), read(alloc, lower)) {
-        (Ok(upper), Ok(lower)) => upper.merge(alloc, &lower),
+    let upper = read(alloc, upper);
+    let lower = read(alloc, lower);
+    let merged = match (&upper, &lower) {
+        (Ok(upper), Ok(lower)) => upper.merge(alloc, lower),
         _ => Err(PolicyFault::Memory),
-    }
+    };
+    drop(upper);
+    drop(lower);
+    merged
 }
 
 fn refusal_told(alloc: Global, fault: &ApplyFault) -> Result<Text, Memory> {
@@ -164,14 +223,51 @@ fn refusal_told(alloc: Global, fault: &ApplyFault) -> Result<Text, Memory> {
     }
 }
 
+fn refusal_copy_told(alloc: Global, fault: &ApplyFault) -> Result<Text, Memory> {
+    let copy = fault.copy(alloc)?;
+    let told = refusal_told(alloc, &copy);
+    drop(copy);
+    told
+}
+
 fn applied_told(alloc: Global, policy: &Policy, metadata: &Json) -> Result<Text, Memory>
     requires metadata { IsMetadata metadata.now }
     requires combines { conflict_in policy.now ≡ None }
 {
     match apply(alloc, policy, metadata) {
-        Ok(tree) if is_whole(&tree) => write_tree(alloc, &tree),
-        Ok(_) => Text::of(alloc, b"not whole"),
-        Err(fault) => refusal_told(alloc, &fault.copy(alloc)?),
+        Ok(tree) => {
+            let told = tree_told(alloc, &tree);
+            drop(tree);
+            told
+        }
+        Err(fault) => {
+            let told = refusal_copy_told(alloc, &fault);
+            drop(fault);
+            told
+        }
+    }
+}
+
+fn apply_to_tree(alloc: Global, policy: &Policy, metadata: &Json) -> Result<Text, Memory>
+    requires { conflict_in policy.now ≡ None }
+{
+    if is_metadata(metadata) {
+        applied_told(alloc, policy, metadata)
+    } else {
+        Text::of(alloc, b"no metadata")
+    }
+}
+
+fn apply_to(alloc: Global, policy: &Policy, metadata: &str) -> Result<Text, Memory>
+    requires { conflict_in policy.now ≡ None }
+{
+    match read_tree(alloc, metadata.as_bytes()) {
+        Ok(metadata) => {
+            let told = apply_to_tree(alloc, policy, &metadata);
+            drop(metadata);
+            told
+        }
+        Err(_) => Text::of(alloc, b"no tree"),
     }
 }
 
@@ -179,15 +275,12 @@ fn applied_told(alloc: Global, policy: &Policy, metadata: &Json) -> Result<Text,
 pub(crate) fn apply_both(alloc: Global, given: &str) -> Result<Text, Memory> {
     let (metadata, policies) = cut(given);
     let (upper, lower) = cut(policies);
-    let Ok(policy) = merged(alloc, upper, lower) else {
-        return Text::of(alloc, b"no policy");
-    };
-    let Ok(metadata) = read_tree(alloc, metadata.as_bytes()) else {
-        return Text::of(alloc, b"no tree");
-    };
-    if is_metadata(&metadata) {
-        applied_told(alloc, &policy, &metadata)
-    } else {
-        Text::of(alloc, b"no metadata")
+    match merged(alloc, upper, lower) {
+        Ok(policy) => {
+            let told = apply_to(alloc, &policy, metadata);
+            drop(policy);
+            told
+        }
+        Err(_) => Text::of(alloc, b"no policy"),
     }
 }

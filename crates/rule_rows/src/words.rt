@@ -1,6 +1,7 @@
 // Rows taken apart, and answers put together.
 
 use fed_base::{Memory, Text};
+use fed_json::{Json, is_whole, write_tree};
 use std::alloc::Global;
 
 /// The part before the first tab and what stands behind it; the whole and nothing where there is no tab.
@@ -20,4 +21,13 @@ pub(crate) fn add_word(out: &mut Text, word: &[u8]) -> Result<(), Memory> {
 pub(crate) fn add_number(alloc: Global, out: &mut Text, n: u64) -> Result<(), Memory> {
     let digits = format!(in alloc; "{n}")?;
     add_word(out, digits.as_bytes())
+}
+
+/// The compact text of a tree that has one.
+pub(crate) fn tree_told(alloc: Global, tree: &Json) -> Result<Text, Memory> {
+    if is_whole(tree) {
+        write_tree(alloc, tree)
+    } else {
+        Text::of(alloc, b"not whole")
+    }
 }

@@ -33,7 +33,7 @@ fn ask<R>(rt: &R, alloc: Global, node: &Node, kind: &str, given: &str) -> Result
 fn answer<R>(rt: &R, alloc: Global, row: &str, node: &mut Option<Node>) -> Result<Text, Memory> {
     let (kind, given) = cut(row);
     if kind == "node" {
-        *node = None;
+        drop(std::mem::replace(node, None));
         return nodes::keep(alloc, given, node);
     }
     match node {
@@ -78,5 +78,6 @@ fn main(rt: HostRuntime) -> io::Result<()> {
             break;
         }
     }
+    drop(node);
     done
 }

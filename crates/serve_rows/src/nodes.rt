@@ -9,12 +9,17 @@ use fed_json::{Json, TreeFault, read_tree};
 use fed_serve::Node;
 use key_ring::KeyRing;
 use std::alloc::Global;
+use std::mem::replace;
 
 /// `node RING CONFIG`: what the node is called that is kept, or why there is none.
 pub(crate) fn keep(alloc: Global, given: &str, node: &mut Option<Node>) -> Result<Text, Memory> {
     let (ring, config) = cut(given);
     match read_tree(alloc, config.as_bytes()) {
-        Ok(tree) => keep_tree(alloc, ring, &tree, node),
+        Ok(tree) => {
+            let told = keep_tree(alloc, ring, &tree, node);
+            drop(tree);
+            told
+        }
         Err(TreeFault::Syntax) => Text::of(alloc, b"no JSON"),
         Err(TreeFault::Memory) => Err(Memory),
     }
@@ -39,7 +44,14 @@ fn keep_tree(
 }
 
 fn keep_node(alloc: Global, registry: Registry, node: &mut Option<Node>) -> Result<Text, Memory> {
-    let told = Text::of(alloc, registry.id().text())?;
-    *node = Some(Node { registry });
-    Ok(told)
+    match Text::of(alloc, registry.id().text()) {
+        Ok(told) => {
+            drop(replace(node, Some(Node { registry })));
+            Ok(told)
+        }
+        Err(Memory) => {
+            drop(registry);
+            Err(Memory)
+        }
+    }
 }

@@ -92,35 +92,57 @@ pub fn set_named(alloc: Global, name: &str) -> Result<JwkSet, Memory> {
     keys(alloc, name).map_err(|_| Memory)
 }
 
+fn add_anchor(alloc: Global, name: &str, anchors: &mut Seq<AnchorKeys>) -> Result<(), Memory> {
+    let anchor = anchor_named(alloc, name)?;
+    let keys = set_named(alloc, name)?;
+    anchors.push(AnchorKeys { anchor, keys })
+}
+
 /// The anchors `ta` and `tb`, each with a key that is named for it.
 pub fn opened_anchors(alloc: Global) -> Result<Seq<AnchorKeys>, Memory> {
     let mut anchors = Seq::new(alloc);
-    anchors.push(AnchorKeys {
-        anchor: anchor_named(alloc, "ta")?,
-        keys: set_named(alloc, "ta")?,
-    })?;
-    anchors.push(AnchorKeys {
-        anchor: anchor_named(alloc, "tb")?,
-        keys: set_named(alloc, "tb")?,
-    })?;
+    add_anchor(alloc, "ta", &mut anchors)?;
+    add_anchor(alloc, "tb", &mut anchors)?;
     anchors.copy(alloc)
+}
+
+// Adds what the book replies to a call.
+fn add_reply(
+    alloc: Global,
+    book: &mut AnchorBook,
+    call: &str,
+    out: &mut Text,
+) -> Result<(), Memory> {
+    match read(alloc, call)? {
+        Some(call) => {
+            let reply = book.act(alloc, call.copy(alloc)?);
+            push_reply(alloc, out, &reply.copy(alloc)?)
+        },
+        None => out.append(b"no call"),
+    }
+}
+
+fn add_replies(
+    alloc: Global,
+    book: &mut AnchorBook,
+    calls: &str,
+    out: &mut Text,
+) -> Result<(), Memory> {
+    for call in calls.split(' ') {
+        if !out.is_empty() {
+            out.append(b", ")?;
+        }
+        add_reply(alloc, book, call, out)?;
+    }
+    Ok(())
 }
 
 /// The replies to these calls, made on a book that was just opened.
 pub fn replies(alloc: Global, calls: &str) -> Result<Text, Memory> {
     let mut out = Text::new(alloc);
     let mut book = AnchorBook::open(opened_anchors(alloc)?);
-    for call in calls.split(' ') {
-        if !out.is_empty() {
-            out.append(b", ")?;
-        }
-        match read(alloc, call)? {
-            Some(call) => {
-                let reply = book.act(alloc, call.copy(alloc)?);
-                push_reply(alloc, &mut out, &reply.copy(alloc)?)?;
-            },
-            None => out.append(b"no call")?,
-        }
-    }
+    let added = add_replies(alloc, &mut book, calls, &mut out);
+    drop(book);
+    added?;
     Ok(out)
 }

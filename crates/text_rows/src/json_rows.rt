@@ -8,10 +8,16 @@ use std::alloc::Global;
 /// The compact text of a copy of the tree: `odd` is a number whose value isn't kept, and a tree with one has no text.
 pub fn written(alloc: Global, tree: &Json) -> Result<Text, Memory> {
     let copy = tree.copy(alloc)?;
-    if !json_equal(tree, &copy) {
+    let text = copy_written(alloc, tree, &copy);
+    drop(copy);
+    text
+}
+
+fn copy_written(alloc: Global, tree: &Json, copy: &Json) -> Result<Text, Memory> {
+    if !json_equal(tree, copy) {
         word(alloc, "another tree")
-    } else if is_whole(&copy) {
-        write_tree(alloc, &copy)
+    } else if is_whole(copy) {
+        write_tree(alloc, copy)
     } else if matches!(copy, Json::Odd) {
         word(alloc, "odd")
     } else {
@@ -27,7 +33,11 @@ pub fn json(alloc: Global, given: &str) -> Result<Text, Memory> {
 
 fn compact(alloc: Global, text: &[u8]) -> Result<Text, Memory> {
     match read_tree(alloc, text) {
-        Ok(tree) => written(alloc, &tree),
+        Ok(tree) => {
+            let text = written(alloc, &tree);
+            drop(tree);
+            text
+        },
         Err(fault) => told(alloc, &fault),
     }
 }
@@ -50,21 +60,26 @@ pub fn built(alloc: Global, given: &str) -> Result<Text, Memory> {
         "object" => {
             let (first, second) = cut(given);
             let tree = pair(alloc, bytes_of(alloc, first)?, bytes_of(alloc, second)?)?;
-            written(alloc, &tree)
+            let text = written(alloc, &tree);
+            drop(tree);
+            text
         },
         "text" => written(alloc, &Json::Text(bytes_of(alloc, given)?)),
         _ => written(alloc, &Json::Int(given.parse::<i128>().unwrap_or(0))),
     }
 }
 
+fn null(name: Text) -> Member {
+    Member {
+        name,
+        value: Json::Null,
+    }
+}
+
 fn pair(alloc: Global, first: Text, second: Text) -> Result<Json, Memory> {
     let mut members = Seq::new(alloc);
-    for name in [first, second] {
-        members.push(Member {
-            name,
-            value: Json::Null,
-        })?;
-    }
+    members.push(null(first))?;
+    members.push(null(second))?;
     Ok(Json::Object(members))
 }
 
@@ -72,7 +87,11 @@ fn pair(alloc: Global, first: Text, second: Text) -> Result<Json, Memory> {
 pub fn find(alloc: Global, given: &str) -> Result<Text, Memory> {
     let (name, text) = cut(given);
     match read_tree(alloc, text.as_bytes()) {
-        Ok(tree) => found(alloc, object_members(&tree), name.as_bytes()),
+        Ok(tree) => {
+            let told = found(alloc, object_members(&tree), name.as_bytes());
+            drop(tree);
+            told
+        },
         Err(fault) => told(alloc, &fault),
     }
 }

@@ -1,8 +1,7 @@
 // Base64url, and texts that are taken apart and put together.
 
-use crate::port_rows::joined;
 use crate::spelling::{bytes_of, cut, number, told, word};
-use fed_base::{Duplicate, Memory, Seq, Text};
+use fed_base::{Duplicate, Memory, Text};
 use fed_json::{Json, is_whole, read_tree};
 use jws_form::{Compact, FormFault};
 use std::alloc::Global;
@@ -41,27 +40,50 @@ pub fn decode_32(alloc: Global, given: &str) -> Result<Text, Memory> {
 pub fn split(alloc: Global, given: &str) -> Result<Text, Memory> {
     let text = bytes_of(alloc, given)?;
     match jws_form::split(alloc, text.as_slice()) {
-        Ok(compact) => parts(alloc, compact.copy(alloc)?),
+        Ok(compact) => {
+            let parts = copied_parts(alloc, &compact);
+            drop(compact);
+            parts
+        },
         Err(fault) => told(alloc, &fault),
     }
 }
 
-fn parts(alloc: Global, compact: Compact) -> Result<Text, Memory> {
-    let mut parts = Seq::new(alloc);
-    parts.push(or_dash(alloc, compact.typ)?)?;
-    parts.push(or_dash(alloc, compact.kid)?)?;
-    parts.push(compact.payload)?;
-    parts.push(compact.signature)?;
-    parts.push(compact.signed)?;
-    parts.push(compact.whole)?;
-    joined(alloc, parts.as_slice(), b" ")
+fn copied_parts(alloc: Global, compact: &Compact) -> Result<Text, Memory> {
+    let copy = compact.copy(alloc)?;
+    let parts = parts(alloc, &copy);
+    drop(copy);
+    parts
 }
 
-fn or_dash(alloc: Global, text: Option<Text>) -> Result<Text, Memory> {
+fn parts(alloc: Global, compact: &Compact) -> Result<Text, Memory> {
+    let mut out = Text::of(alloc, or_dash(&compact.typ))?;
+    add_part(&mut out, or_dash(&compact.kid))?;
+    add_part(&mut out, compact.payload.as_slice())?;
+    add_part(&mut out, compact.signature.as_slice())?;
+    add_part(&mut out, compact.signed.as_slice())?;
+    add_part(&mut out, compact.whole.as_slice())?;
+    Ok(out)
+}
+
+fn add_part(out: &mut Text, part: &[u8]) -> Result<(), Memory> {
+    out.push(b' ')?;
+    out.append(part)
+}
+
+fn or_dash(text: &Option<Text>) -> &[u8] {
     match text {
-        Some(text) => Ok(text),
-        None => word(alloc, "-"),
+        Some(text) => text.as_slice(),
+        None => b"-",
     }
+}
+
+fn add_long(text: &mut Text, count: u64, rest: &str) -> Result<(), Memory> {
+    text.push(b'.')?;
+    for _ in 0..count {
+        text.push(b'A')?;
+    }
+    text.append(rest.as_bytes())
 }
 
 /// Whether a text is taken apart whose payload has that many characters: a header, how many, and what stands behind them.
@@ -69,13 +91,12 @@ pub fn long(alloc: Global, given: &str) -> Result<Text, Memory> {
     let (header, given) = cut(given);
     let (count, rest) = cut(given);
     let mut text = Text::of(alloc, header.as_bytes())?;
-    text.push(b'.')?;
-    for _ in 0..number(count) {
-        text.push(b'A')?;
-    }
-    text.append(rest.as_bytes())?;
+    add_long(&mut text, number(count), rest)?;
     match jws_form::split(alloc, text.as_slice()) {
-        Ok(_) => word(alloc, "three parts"),
+        Ok(compact) => {
+            drop(compact);
+            word(alloc, "three parts")
+        },
         Err(fault) => told(alloc, &fault),
     }
 }
@@ -86,7 +107,11 @@ pub fn join(alloc: Global, given: &str) -> Result<Text, Memory> {
     let (payload, signature) = cut(given);
     let signature = bytes_of(alloc, signature)?;
     match read_tree(alloc, header.as_bytes()) {
-        Ok(header) => joined_parts(alloc, &header, payload.as_bytes(), signature.as_slice()),
+        Ok(header) => {
+            let joined = joined_parts(alloc, &header, payload.as_bytes(), signature.as_slice());
+            drop(header);
+            joined
+        },
         Err(fault) => told(alloc, &fault),
     }
 }

@@ -9,7 +9,11 @@ use std::alloc::Global;
 /// The set of a JSON text. A text that isn't JSON has the fault `NotSet` here.
 pub fn set_of(alloc: Global, text: &[u8]) -> Result<JwkSet, SetFault> {
     match read_tree(alloc, text) {
-        Ok(tree) => JwkSet::read(alloc, &tree),
+        Ok(tree) => {
+            let set = JwkSet::read(alloc, &tree);
+            drop(tree);
+            set
+        },
         Err(_) => Err(SetFault::NotSet),
     }
 }
@@ -17,7 +21,11 @@ pub fn set_of(alloc: Global, text: &[u8]) -> Result<JwkSet, SetFault> {
 /// What a copy of the set is written as, or the first fault of the text.
 pub fn keys(alloc: Global, given: &str) -> Result<Text, Memory> {
     match set_of(alloc, given.as_bytes()) {
-        Ok(set) => rewritten(alloc, &set),
+        Ok(set) => {
+            let told = rewritten(alloc, &set);
+            drop(set);
+            told
+        },
         Err(fault) => told(alloc, &fault),
     }
 }
@@ -35,7 +43,11 @@ pub fn as_many(alloc: Global, given: &str) -> Result<Text, Memory> {
     }
     text.append(b"]}")?;
     match set_of(alloc, text.as_slice()) {
-        Ok(set) => told(alloc, &set.keys.len()),
+        Ok(set) => {
+            let count = set.keys.len();
+            drop(set);
+            told(alloc, &count)
+        },
         Err(fault) => told(alloc, &fault),
     }
 }
@@ -44,7 +56,11 @@ pub fn as_many(alloc: Global, given: &str) -> Result<Text, Memory> {
 pub fn key_of(alloc: Global, given: &str) -> Result<Text, Memory> {
     let (kid, set) = cut(given);
     match set_of(alloc, set.as_bytes()) {
-        Ok(set) => public_of(alloc, &set, kid),
+        Ok(set) => {
+            let told = public_of(alloc, &set, kid);
+            drop(set);
+            told
+        },
         Err(fault) => told(alloc, &fault),
     }
 }

@@ -86,16 +86,28 @@ pub fn adapters(alloc: Global, given: &str) -> Result<Text, Memory> {
     Ok(counts)
 }
 
+fn add_reading(alloc: Global, clock: &mut MemoryClock, readings: &mut Text) -> Result<(), Memory> {
+    readings.append(told(alloc, &clock.now())?.as_slice())
+}
+
+fn add_readings(alloc: Global, clock: &mut MemoryClock, readings: &mut Text) -> Result<(), Memory> {
+    for _ in 0..4 {
+        add_reading(alloc, clock, readings)?;
+        readings.push(b' ')?;
+    }
+    let mut another = clock.another(alloc)?;
+    let added = add_reading(alloc, &mut another, readings);
+    drop(another);
+    added
+}
+
 /// Four readings of a clock of these moments, and the first of another.
 pub fn clock(alloc: Global, given: &str) -> Result<Text, Memory> {
     let moments = numbers(alloc, given)?;
     let mut clock = MemoryClock::new(alloc, moments.as_slice())?;
     let mut readings = Text::new(alloc);
-    for _ in 0..4 {
-        readings.append(told(alloc, &clock.now())?.as_slice())?;
-        readings.push(b' ')?;
-    }
-    let mut another = clock.another(alloc)?;
-    readings.append(told(alloc, &another.now())?.as_slice())?;
+    let added = add_readings(alloc, &mut clock, &mut readings);
+    drop(clock);
+    added?;
     Ok(readings)
 }

@@ -66,20 +66,35 @@ fn tested(alloc: Global, compact: &Compact, public: &[u8; 32]) -> Result<Text, M
         ledger: Plain::new(),
     };
     let tested = test_key(alloc, compact, public, &mut steps)?;
-    let mut answer = pair(alloc, tested.copy(alloc)?, compact.whole.as_slice(), public)?;
+    let copy = tested.copy(alloc);
+    drop(tested);
+    let mut answer = pair(alloc, copy?, compact.whole.as_slice(), public)?;
     answer.append(told(alloc, &steps.ledger.steps())?.as_slice())?;
     Ok(answer)
+}
+
+fn known_again(
+    alloc: Global,
+    seal: &Sealed,
+    text: &[u8],
+    public: &[u8; 32],
+) -> Result<Text, Memory> {
+    let known = Sealed::known(alloc, seal.text(), seal.public())?;
+    let same = known.text().as_slice() == text && known.public() == *public;
+    drop(known);
+    word(alloc, if same { "yes " } else { "another pair " })
 }
 
 fn pair(alloc: Global, tested: Tested, text: &[u8], public: &[u8; 32]) -> Result<Text, Memory> {
     match tested {
         Tested::Yes(seal) => {
-            let known = Sealed::known(alloc, seal.text(), seal.public())?;
-            let same = known.text().as_slice() == text && known.public() == *public;
-            word(alloc, if same { "yes " } else { "another pair " })
+            let told = known_again(alloc, &seal, text, public);
+            drop(seal);
+            told
         },
         Tested::No(miss) => {
             let same = miss.text().as_slice() == text && miss.public() == *public;
+            drop(miss);
             word(alloc, if same { "no " } else { "another pair " })
         },
     }
@@ -103,16 +118,24 @@ fn check_bytes(alloc: Global, text: &[u8], set: &str) -> Result<Text, Memory> {
     }
 }
 
+fn key_told(alloc: Global, checked: Result<Sealed, SealFault>) -> Result<Text, Memory> {
+    match checked {
+        Ok(seal) => {
+            let public = seal.public();
+            drop(seal);
+            Text::of(alloc, base64url::encode_32(&public).as_slice())
+        },
+        Err(fault) => told(alloc, &fault),
+    }
+}
+
 fn checked(alloc: Global, compact: &Compact, set: &JwkSet) -> Result<Text, Memory>
     requires { IsCompact compact.now.whole compact.now }
 {
     let mut steps = Steps {
         ledger: Plain::new(),
     };
-    let mut answer = match check_sealed(alloc, compact, set, &mut steps) {
-        Ok(seal) => Text::of(alloc, base64url::encode_32(&seal.public()).as_slice())?,
-        Err(fault) => told(alloc, &fault)?,
-    };
+    let mut answer = key_told(alloc, check_sealed(alloc, compact, set, &mut steps))?;
     answer.push(b' ')?;
     answer.append(told(alloc, &steps.ledger.steps())?.as_slice())?;
     Ok(answer)

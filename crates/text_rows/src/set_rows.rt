@@ -27,11 +27,18 @@ fn of_lists(alloc: Global, first: &Seq<Json>, second: &Seq<Json>) -> Result<Text
     joined(alloc, parts.as_slice(), b" | ")
 }
 
+fn add_items(alloc: Global, texts: &mut Seq<Text>, list: &[Json]) -> Result<(), Memory> {
+    for item in list {
+        texts.push(written(alloc, item)?)?;
+    }
+    Ok(())
+}
+
 // The items of a list, which may hold a number whose value isn't kept.
 fn items(alloc: Global, list: Seq<Json>) -> Result<Text, Memory> {
     let mut texts = Seq::new(alloc);
-    for item in list.as_slice() {
-        texts.push(written(alloc, item)?)?;
-    }
+    let added = add_items(alloc, &mut texts, list.as_slice());
+    drop(list);
+    added?;
     joined(alloc, texts.as_slice(), b" ")
 }

@@ -32,22 +32,29 @@ fn store(alloc: Global, given: &str) -> Result<MemoryStore, Memory> {
     MemoryStore::new(alloc, files, room, leaves == "new", failing.as_slice(), 9)
 }
 
-/// The first letter of what is found before `new` is kept under that name, how the keeping ends, and the letter of what is found then.
-pub fn memory(alloc: Global, given: &str) -> Result<Text, Memory> {
-    let mut store = store(alloc, given)?;
-    let name = Text::of(alloc, b"ring")?;
-    let before = letter(store.load(alloc, &name));
-    let kept = if store.keep(&name, b"new").is_ok() {
+// The first letter of what is found, and how the keeping of `new` ends.
+fn load_and_keep<D: Store>(alloc: Global, store: &mut D, name: &Text) -> (u8, u8) {
+    let before = letter(store.load(alloc, name));
+    let kept = if store.keep(name, b"new").is_ok() {
         b'+'
     } else {
         b'F'
     };
+    (before, kept)
+}
+
+/// The first letter of what is found before `new` is kept under that name, how the keeping ends, and the letter of what is found then.
+pub fn memory(alloc: Global, given: &str) -> Result<Text, Memory> {
+    let name = Text::of(alloc, b"ring")?;
+    let mut store = store(alloc, given)?;
+    let (before, kept) = load_and_keep(alloc, &mut store, &name);
     let after = letter(store.load(alloc, &name));
     let other = if store.file(b"rin").is_none() {
         b'-'
     } else {
         b'+'
     };
+    drop(store);
     Text::of(alloc, &[before, kept, after, other])
 }
 
@@ -59,12 +66,8 @@ pub fn real<R: Files + AllocGlobal + Eprint>(
 ) -> Result<Text, Memory> {
     let name = Text::of(alloc, given.as_bytes())?;
     let mut store = RealStore::new(rt);
-    let before = letter(store.load(alloc, &name));
-    let kept = if store.keep(&name, b"new").is_ok() {
-        b'+'
-    } else {
-        b'F'
-    };
+    let (before, kept) = load_and_keep(alloc, &mut store, &name);
+    drop(store);
     Text::of(alloc, &[before, kept])
 }
 

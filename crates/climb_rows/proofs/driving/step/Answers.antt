@@ -2,11 +2,11 @@ use Rattle.chain_climb.specs.Wants.{next_want}
 use Rattle.climb_rows.proofs.FollowingLaws.{fits-verdict, wants-config, wants-superior}
 use Rattle.climb_rows.proofs.driving.step.Goals as goal
 
-pub take-requires-clause-wants : goal.take-requires-clause-wants
-take-requires-clause-wants c = wants-config c.in_ok-entity.field-0 (next_want c.args.session.now) c.in-Config.entity c.in-Config.url c.in_ok-entity.ensures.want c.in-Config.is
+pub take_configuration-requires-clause-wants : goal.take_configuration-requires-clause-wants
+take_configuration-requires-clause-wants c = wants-config c.in_ok-entity.field-0 (next_want c.args.session.now) c.in-Config.entity c.in-Config.url c.in_ok-entity.ensures.want c.in-Config.is
 
-pub take-requires-in-Superior-clause-wants : goal.take-requires-in-Superior-clause-wants
-take-requires-in-Superior-clause-wants c =
+pub take_statement-requires-clause-wants : goal.take_statement-requires-clause-wants
+take_statement-requires-clause-wants c =
     wants-superior c.in_ok-entity.field-0 (next_want c.args.session.now) c.in-Superior.superior c.in-Superior.subject c.in-Superior.url c.in_ok-entity.ensures.want c.in-Superior.is
 
 pub give-requires : goal.give-requires

@@ -10,9 +10,9 @@ give-requires c =
 
 pub returns : goal.returns
 returns c =
-    on-ok c.give.result
-    (followed c.args.session.now c.give.new.self c.args.urls.now _ c.args.case.now.calls c.requires.follows c.args.url _ c.requires.wants
+    on-ok c.push.result
+    (followed c.args.session.now c.give.new.self c.args.urls.now c.push.new.self c.args.case.now.calls c.requires.follows c.args.url _ c.requires.wants
     (fits-url c.args.session.now c.args.urls.now c.args.case.now.calls c.requires.follows (next_want c.args.session.now) c.args.url _ _ _ c.requires.wants
     c.is_among-known.ensures c.calls.ensures c.answer_of-answer.ensures)
-    c.in_ok-push.ensures.ok)
-    c.give.ensures.ok
+    c.in_ok-give.ensures.ok)
+    c.push.ensures.ok
