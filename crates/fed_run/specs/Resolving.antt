@@ -1,10 +1,10 @@
 -- What `resolve` does: the outside before and after, and the status.
 use Rattle.std.specs.Prelude.{◌≡◌, ◌≢◌, ◌⊎◌, ℕ, List, [], ◌∷◌, ◌++◌, codes, Option, Some, None, Result, Ok, Err}
-use Rattle.fed_serve.specs.Responses.{refusal}
 use Rattle.resolve_reply.specs.declared.reply.Reply.{Reply}
 use Rattle.fed_resolver.specs.declared.outcome.Outcome.{Outcome}
 use Rattle.fed_resolver.specs.declared.outcome.Refusal.{Refusal}
 use Rattle.fed_resolver.specs.declared.outcome.Refusal.TheVariants.{NoAnchor, NotFound, PolicyOnly, NoChain, Unavailable, Budget, Worn, Memory}
+use Rattle.resolver_answers.specs.Responses.{refusal}
 use Rattle.node_service.specs.declared.node_files.NodeFault.{NodeFault}
 use Rattle.node_service.specs.declared.node_files.NodeFault.TheVariants as fault
 use Rattle.turn_log.specs.Runs.{call_limit}

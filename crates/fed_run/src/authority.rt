@@ -11,6 +11,7 @@ use fed_ports::{Clock, Memory, Network, Sink, Store, Text};
 use node_service::{ServiceEnd, serve_authority};
 use plain_notes::{Notes, explain_memory, explain_sink};
 use std::alloc::Global;
+use std::sync::Wait;
 
 // The line that is written once all connections are served.
 fn served_line(alloc: Global, connections: u64) -> Result<Text, Memory>
@@ -43,7 +44,7 @@ pub(crate) fn conclude<K: Sink>(
 }
 
 /// Serves as the authority of the configuration file, and gives the exit status.
-pub(crate) fn serve<R, K: Sink, D: Store, N: Network, C: Clock>(
+pub(crate) fn serve<R: Wait, K: Sink, D: Store, N: Network + Drop, C: Clock>(
     rt: &R,
     alloc: Global,
     config: &Text,

@@ -1,3 +1,6 @@
+pub mod Asking
+pub mod Causes
 pub mod Outcomes
+pub mod Rows
 pub mod Sameness
-pub mod Statuses
+pub mod Walks

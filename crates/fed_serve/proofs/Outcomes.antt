@@ -10,17 +10,22 @@ use Rattle.http_plain.specs.declared.response.Response.{Response}
 use Rattle.http_plain.specs.declared.write.WriteEnd.TheVariants as write
 use Rattle.http_plain.specs.Readings.{CausedBy, Taken}
 use Rattle.http_plain.specs.Writings.{Writes}
-use Rattle.authority_core.specs.Nodes.{Node}
+use Rattle.trust_mark.specs.Counts.{CountsAtMost, counted}
+use Rattle.authority_core.specs.Nodes.{Node as Authority}
+use Rattle.turn_log.specs.declared.worn.Worn.{Worn as WornAt}
+use Rattle.resolver_answers.specs.Resolutions.{Walking}
 use Rattle.fed_serve.specs.declared.answer.Answer.{Answer}
+use Rattle.fed_serve.specs.declared.node.Node.{Node}
 use Rattle.fed_serve.specs.declared.served.Served.{Served}
 use Rattle.fed_serve.specs.declared.serving.ServeFault.{ServeFault}
 use Rattle.fed_serve.specs.declared.serving.ServeFault.TheVariants.{ReadFault, WriteFault, Ended, Worn}
-use Rattle.fed_serve.specs.Handlings.{Handling}
+use Rattle.fed_serve.specs.Handlings.{Handling, dealt, issued, not_asked, resolved, unread}
 use Rattle.fed_serve.specs.Moments.{Around, IsOneReading, PeerAt}
-use Rattle.fed_serve.specs.Responses.{response_of, tests_of}
-use Rattle.fed_serve.specs.Serving.{ComesWhere, HasCome, IsHandled, IsMessage, IsServed, Serves, Tells}
-use Rattle.fed_serve.proofs.Statuses.{cause}
-use Rattle.fed_serve.specs.Steps.{IsAnswer, IsMade, IsReading, IsSaid, Sends, came_of}
+use Rattle.fed_serve.specs.Responses.{response_of, tests_asked}
+use Rattle.fed_serve.specs.Serving.{ComesWhere, HandsOut, HasCome, IsCut, IsHandled, IsMessage, IsServed, Serves, Tells}
+use Rattle.fed_serve.specs.Steps.{IsAnswer, IsMade, IsReading, IsSaid, IsSent, IsTelling, Sends, came_of}
+use Rattle.fed_serve.specs.Uses.{IsWornBy, Tests, TestsSome}
+use Rattle.fed_serve.proofs.Causes.{cause}
 
 -- ---- counts
 
@@ -50,9 +55,9 @@ risen result fault before now is later rose = record {
 clash : {X : Type 0} (came : Result Incoming ReadEnd) → came ≡ Err read.Ended → came ≡ Err read.ReadFault → X
 clash came first second = cc (first, second)
 
-ended : (node : Node) (before now : Around) (reading : IsReading before.peer now.peer (Err Ended)) → now.clock ≡ before.clock → now.tests ≡ before.tests
-    → Serves node before now (Err Ended)
-ended node before now reading clock tests =
+ended : (node : Node) (walks : Walking) (before now : Around) (reading : IsReading before.peer now.peer (Err Ended)) → now.clock ≡ before.clock → now.call ≡ before.call
+    → Serves node walks before now (Err Ended)
+ended node walks before now reading clock call =
     let steady_reads : now.peer.read_faults ≡ before.peer.read_faults =
     subst (λ c. CausedBy before.peer.read_faults now.peer.read_faults c) reading.hands_on reading.cause in
     record {
@@ -62,15 +67,15 @@ ended node before now reading clock tests =
       ended = (λ is. reading.hands_on, λ is. refl);
       unread = (λ is. cc is, λ is. clash reading.came reading.hands_on is);
       read_fault = steady _ _ _ _ (λ is. cc is) steady_reads;
-      silent = λ is. record { clock = clock; held = reading.held; tests = tests };
+      silent = λ is. record { clock = clock; held = reading.held; call = call };
       cut = λ is. cc is;
       write_fault = steady _ _ _ _ (λ is. cc is) reading.write_faults;
-      unworn = λ count is. cc is;
+      worn = λ count is. cc is;
     }
 
-unread : (node : Node) (before now : Around) (reading : IsReading before.peer now.peer (Err ReadFault)) → now.clock ≡ before.clock → now.tests ≡ before.tests
-    → Serves node before now (Err ReadFault)
-unread node before now reading clock tests =
+unread_so : (node : Node) (walks : Walking) (before now : Around) (reading : IsReading before.peer now.peer (Err ReadFault)) → now.clock ≡ before.clock → now.call ≡ before.call
+    → Serves node walks before now (Err ReadFault)
+unread_so node walks before now reading clock call =
     let rose = subst (λ c. CausedBy before.peer.read_faults now.peer.read_faults c) reading.hands_on reading.cause in
     record {
       came = reading.came;
@@ -79,46 +84,58 @@ unread node before now reading clock tests =
       ended = (λ is. cc is, λ is. clash reading.came is reading.hands_on);
       unread = (λ is. reading.hands_on, λ is. refl);
       read_fault = risen _ _ _ _ refl rose.0 rose.1;
-      silent = λ is. record { clock = clock; held = reading.held; tests = tests };
+      silent = λ is. record { clock = clock; held = reading.held; call = call };
       cut = λ is. cc is;
       write_fault = steady _ _ _ _ (λ is. cc is) reading.write_faults;
-      unworn = λ count is. cc is;
+      worn = λ count is. cc is;
     }
 
-pub silent : (node : Node) (before now : Around) (fault : ServeFault) → IsReading before.peer now.peer (Err fault) → now.clock ≡ before.clock → now.tests ≡ before.tests
-    → Serves node before now (Err fault)
-silent node before now Ended reading clock tests = ended node before now reading clock tests
-silent node before now ReadFault reading clock tests = unread node before now reading clock tests
-silent node before now WriteFault reading clock tests = absurd reading.hands_on
-silent node before now (Worn count) reading clock tests = absurd reading.hands_on
+pub silent : (node : Node) (walks : Walking) (before now : Around) (fault : ServeFault) → IsReading before.peer now.peer (Err fault) → now.clock ≡ before.clock
+    → now.call ≡ before.call → Serves node walks before now (Err fault)
+silent node walks before now Ended reading clock call = ended node walks before now reading clock call
+silent node walks before now ReadFault reading clock call = unread_so node walks before now reading clock call
+silent node walks before now WriteFault reading clock call = absurd reading.hands_on
+silent node walks before now (Worn count) reading clock call = absurd reading.hands_on
 
 -- ---- a message
 
-message : (node : Node) (t : ℕ) (h : Handling) (before now : Around) (made : Result Response Memory) (said : Response)
-    → IsMade node t h before.tests now.tests made → IsSaid made said → IsMessage node t h before now said
+-- what was tested is no more than all
+some_tests : (node : Authority) (h : Handling) (before now : ℕ) → Tests node h before now → TestsSome node h before now
+some_tests node unread before now is = is
+some_tests node not_asked before now is = is
+some_tests node (issued a) before now is = record { steps = tests_asked node a; within = le_refl (tests_asked node a); counts = is }
+some_tests node (resolved resolution outcome) before now is = tt
+some_tests node (dealt change dealing) before now is = tt
+
+message : (node : Authority) (t : ℕ) (h : Handling) (before now : ℕ) (made : Result Response Memory) (said : Response)
+    → IsMade node t h before now made → IsSaid made said → IsMessage node t h before now said
 message node t h before now (Ok response) said is (inl same) =
     let e : response ≡ said = cc same in
     inl (subst (λ r. response_of node t h ≡ Some r) e is.0, is.1)
-message node t h before now (Ok response) said is (inr wanting) =
-    inr (wanting, record { steps = tests_of node h; within = le_refl (tests_of node h); counts = is.1 })
+message node t h before now (Ok response) said is (inr wanting) = inr (wanting, some_tests node h before now is.1)
 message node t h before now (Err m) said is (inl same) = cc same
 message node t h before now (Err m) said is (inr wanting) = inr (wanting, is)
 
-handled : (node : Node) (before now : Around) (came : Option Incoming) (answer : Answer) (said : Response)
-    → IsOneReading before.clock now.clock → (is : IsAnswer node came now.clock.last before.tests now.tests answer) → IsSaid answer.response said
-    → IsHandled node before now (came_of came) is.handling said
-handled node before now came answer said clock is says = record {
-  handles = is.handles;
-  clock = clock;
-  message = message node now.clock.last is.handling before now answer.response said is.made says;
+-- what is answered, at the clock's one reading
+pub record IsMadeOf (node : Node) (walks : Walking) (before now : Around) (came : Option Incoming) (result : Result Answer WornAt) : Type 0 where
+  pub clock : IsOneReading before.clock now.clock
+  pub answer : IsAnswer node walks now.clock.last before.call now.call came result
+
+handled : (node : Node) (walks : Walking) (before now : Around) (came : Option Incoming) (answer : Answer) (said : Response)
+    → (is : IsMadeOf node walks before now came (Ok answer)) → IsSaid answer.response said → IsHandled node walks before now (came_of came) is.answer.handling said
+handled node walks before now came answer said is says = record {
+  handles = is.answer.handles;
+  clock = is.clock;
+  uses = is.answer.does.uses;
+  unworn = is.answer.does.told.0;
+  message = message node.registry now.clock.last is.answer.handling before.call.tests now.call.tests answer.response said is.answer.does.told.3 says;
 }
 
-of_message : (node : Node) (before now : Around) (came : Option Incoming) (answer : Answer) (said : Response)
-    → IsOneReading before.clock now.clock → IsAnswer node came now.clock.last before.tests now.tests answer → IsSaid answer.response said
-    → ComesWhere node (came_of came) said.status
-of_message node before now came answer said clock is says =
-    let h = handled node before now came answer said clock is says in
-    cause node now.clock.last before now (came_of came) is.handling said h.handles h.message
+of_message : (node : Node) (walks : Walking) (before now : Around) (came : Option Incoming) (answer : Answer) (said : Response)
+    → (is : IsMadeOf node walks before now came (Ok answer)) → IsSaid answer.response said → ComesWhere node (came_of came) is.answer.handling said
+of_message node walks before now came answer said is says =
+    let h = handled node walks before now came answer said is says in
+    cause node now.clock.last before.call.tests now.call.tests (came_of came) is.answer.handling said h.handles h.message
 
 -- a request that was read whole, or for which memory was wanting
 not_ended : {X : Type 0} (came : Option Incoming) → came_of came ≡ Err read.Ended → X
@@ -151,37 +168,43 @@ reads : (before mid now : PeerAt) (came : Option Incoming) → Passes before mid
 reads before mid now came is =
     is.read_faults ∙ unfailing came before.read_faults mid.read_faults (subst (CausedBy before.read_faults mid.read_faults) is.reading.hands_on is.reading.cause)
 
--- what was sent
-pub record Sent (mid now : PeerAt) (answer : Answer) (result : Result Served ServeFault) : Type 0 where
-  pub said : Response
-  pub says : IsSaid answer.response said
-  pub sends : Sends mid.held now.held answer.kind said result
-  pub cause : HasCause mid.write_faults now.write_faults result
+-- ---- what was sent
 
-pub answered : (node : Node) (before now : Around) (mid : PeerAt) (came : Option Incoming) (answer : Answer) (result : Result Served ServeFault)
-    → Passes before.peer mid now.peer came → IsOneReading before.clock now.clock
-    → IsAnswer node came now.clock.last before.tests now.tests answer → Sent mid now.peer answer result → Serves node before now result
-answered node before now mid came answer (Ok served) passes clock is sent = record {
+answered_whole : (node : Node) (walks : Walking) (before now : Around) (mid : PeerAt) (came : Option Incoming) (answer : Answer) (said : Response) (status : ℕ) (served : Served)
+    → Passes before.peer mid now.peer came → IsMadeOf node walks before now came (Ok answer) → IsSaid answer.response said
+    → Sends mid.held now.peer.held said (Ok status) → (served.kind ≡ answer.kind) × (served.status ≡ status) × (served.trace ≡ answer.trace)
+    → IsServed node walks before now (came_of came) served
+answered_whole node walks before now mid came answer said status served passes made says sends telling = record {
+  handling = made.answer.handling;
+  response = said;
+  handled = handled node walks before now came answer said made says;
+  written = subst (λ held. Writes held now.peer.held said (Ok tt)) passes.reading.held sends.0;
+  kind = telling.0 ∙ made.answer.does.told.1;
+  status = telling.1 ∙ sends.1;
+  trace = subst (HandsOut made.answer.handling) (sym telling.2) made.answer.does.told.2;
+  cause = of_message node walks before now came answer said made says;
+}
+
+served_so : (node : Node) (walks : Walking) (before now : Around) (mid : PeerAt) (came : Option Incoming) (served : Served)
+    → Passes before.peer mid now.peer came → IsServed node walks before now (came_of came) served → HasCause {T = Served} {E = ServeFault} mid.write_faults now.peer.write_faults (Ok served)
+    → Serves node walks before now (Ok served)
+served_so node walks before now mid came served passes is caused = record {
   came = came_of came;
   has_come = come before.peer mid now.peer came passes;
-  answered = λ other same. let e : served ≡ other = cc same in subst (IsServed node before now (came_of came)) e (record {
-    handling = is.handling;
-    response = sent.said;
-    handled = handled node before now came answer sent.said clock is sent.says;
-    written = subst (λ held. Writes held now.peer.held sent.said (Ok tt)) passes.reading.held sent.sends.0;
-    kind = sent.sends.1 ∙ is.kind;
-    status = sent.sends.2;
-    cause = subst (ComesWhere node (came_of came)) (sym sent.sends.2) (of_message node before now came answer sent.said clock is sent.says);
-  });
+  answered = λ other same. let e : served ≡ other = cc same in subst (IsServed node walks before now (came_of came)) e is;
   ended = (λ e. cc e, not_ended came);
   unread = (λ e. cc e, not_failed came);
   read_fault = steady _ _ _ _ (λ e. cc e) (reads before.peer mid now.peer came passes);
   silent = λ e. elim e [ inl e ↦ cc e | inr e ↦ cc e ];
   cut = λ e. cc e;
-  write_fault = steady _ _ _ _ (λ e. cc e) (sent.cause.same ∙ passes.reading.write_faults);
-  unworn = λ count e. cc e;
+  write_fault = steady _ _ _ _ (λ e. cc e) (caused.same ∙ passes.reading.write_faults);
+  worn = λ count e. cc e;
 }
-answered node before now mid came answer (Err WriteFault) passes clock is sent = record {
+
+cut_so : (node : Node) (walks : Walking) (before now : Around) (mid : PeerAt) (came : Option Incoming)
+    → Passes before.peer mid now.peer came → IsCut node walks before now (came_of came) → HasCause {T = Served} {E = ServeFault} mid.write_faults now.peer.write_faults (Err WriteFault)
+    → Serves node walks before now (Err WriteFault)
+cut_so node walks before now mid came passes is caused = record {
   came = came_of came;
   has_come = come before.peer mid now.peer came passes;
   answered = λ other e. cc e;
@@ -189,16 +212,57 @@ answered node before now mid came answer (Err WriteFault) passes clock is sent =
   unread = (λ e. cc e, not_failed came);
   read_fault = steady _ _ _ _ (λ e. cc e) (reads before.peer mid now.peer came passes);
   silent = λ e. elim e [ inl e ↦ cc e | inr e ↦ cc e ];
-  cut = λ e. record {
-    handling = is.handling;
-    response = sent.said;
-    handled = handled node before now came answer sent.said clock is sent.says;
-    written = subst (λ held. Writes held now.peer.held sent.said (Err write.WriteFault)) passes.reading.held sent.sends;
-  };
-  write_fault = risen _ _ _ _ refl (subst (λ n. n ≤ now.peer.write_faults) passes.reading.write_faults sent.cause.later)
-      (subst (λ n. Rose n now.peer.write_faults) passes.reading.write_faults sent.cause.failed);
-  unworn = λ count e. cc e;
+  cut = λ e. is;
+  write_fault = risen _ _ _ _ refl (subst (λ n. n ≤ now.peer.write_faults) passes.reading.write_faults caused.later)
+      (subst (λ n. Rose n now.peer.write_faults) passes.reading.write_faults caused.failed);
+  worn = λ count e. cc e;
 }
-answered node before now mid came answer (Err Ended) passes clock is sent = absurd sent.sends
-answered node before now mid came answer (Err ReadFault) passes clock is sent = absurd sent.sends
-answered node before now mid came answer (Err (Worn count)) passes clock is sent = absurd sent.sends
+
+pub worn_so : (node : Node) (walks : Walking) (before now : Around) (came : Option Incoming) (w : WornAt)
+    → Passes before.peer now.peer now.peer came → IsMadeOf node walks before now came (Err w) → Serves node walks before now (Err (Worn w.count))
+worn_so node walks before now came w passes made = record {
+  came = came_of came;
+  has_come = come before.peer now.peer now.peer came passes;
+  answered = λ other e. cc e;
+  ended = (λ e. cc e, not_ended came);
+  unread = (λ e. cc e, not_failed came);
+  read_fault = steady _ _ _ _ (λ e. cc e) (reads before.peer now.peer now.peer came passes);
+  silent = λ e. elim e [ inl e ↦ cc e | inr e ↦ cc e ];
+  cut = λ e. cc e;
+  write_fault = steady _ _ _ _ (λ e. cc e) passes.reading.write_faults;
+  worn = λ count e. let same : w.count ≡ count = cc e in record {
+    handling = made.answer.handling;
+    handles = made.answer.handles;
+    clock = made.clock;
+    uses = made.answer.does.uses;
+    worn = subst (IsWornBy made.answer.handling) same made.answer.does.told;
+    held = passes.reading.held;
+  };
+}
+
+answered_by : (node : Node) (walks : Walking) (before now : Around) (mid : PeerAt) (came : Option Incoming) (answer : Answer) (said : Response)
+    (sent : Result ℕ ServeFault) (result : Result Served ServeFault)
+    → Passes before.peer mid now.peer came → IsMadeOf node walks before now came (Ok answer) → IsSaid answer.response said
+    → Sends mid.held now.peer.held said sent → IsTelling answer said sent result → HasCause mid.write_faults now.peer.write_faults result
+    → Serves node walks before now result
+answered_by node walks before now mid came answer said (Ok status) (Ok served) passes made says sends telling caused =
+    served_so node walks before now mid came served passes (answered_whole node walks before now mid came answer said status served passes made says sends telling) caused
+answered_by node walks before now mid came answer said (Err WriteFault) (Err other) passes made says sends telling caused =
+    subst (λ f. HasCause {T = Served} {E = ServeFault} mid.write_faults now.peer.write_faults (Err f) → Serves node walks before now (Err f)) (sym telling)
+    (cut_so node walks before now mid came passes (record {
+      handling = made.answer.handling;
+      response = said;
+      handled = handled node walks before now came answer said made says;
+      written = subst (λ held. Writes held now.peer.held said (Err write.WriteFault)) passes.reading.held sends;
+    })) caused
+answered_by node walks before now mid came answer said (Err Ended) result passes made says sends telling caused = absurd sends
+answered_by node walks before now mid came answer said (Err ReadFault) result passes made says sends telling caused = absurd sends
+answered_by node walks before now mid came answer said (Err (Worn count)) result passes made says sends telling caused = absurd sends
+answered_by node walks before now mid came answer said (Ok status) (Err other) passes made says sends telling caused = absurd telling
+answered_by node walks before now mid came answer said (Err WriteFault) (Ok served) passes made says sends telling caused = absurd telling
+
+pub answered : (node : Node) (walks : Walking) (before now : Around) (mid : PeerAt) (came : Option Incoming) (answer : Answer) (result : Result Served ServeFault)
+    → Passes before.peer mid now.peer came → IsMadeOf node walks before now came (Ok answer) → (sent : IsSent mid.held now.peer.held answer result)
+    → HasCause mid.write_faults now.peer.write_faults result → Serves node walks before now result
+answered node walks before now mid came answer result passes made sent cause =
+    answered_by node walks before now mid came answer sent.said sent.sent result passes made sent.says sent.sends sent.telling cause

@@ -6,10 +6,14 @@ use Rattle.http_plain.specs.declared.request.Incoming.{Incoming}
 use Rattle.http_plain.specs.declared.request.Incoming.TheVariants.{Asked as Request, NotARequest}
 use Rattle.node_requests.specs.declared.asked.Asked.{Asked}
 use Rattle.node_requests.specs.declared.asked.Asked.TheVariants as asked
+use Rattle.node_requests.specs.declared.change.AnchorChange.{AnchorChange}
 use Rattle.node_requests.specs.declared.kind.Kind.{Kind}
 use Rattle.node_requests.specs.declared.kind.Kind.TheVariants as kind
 use Rattle.node_requests.specs.declared.place.Place.{Place}
+use Rattle.node_requests.specs.declared.resolution.Resolution.{Resolution}
 use Rattle.node_requests.specs.Requests.{AsksFor, AsksNothing, kind_of as kind_asked}
+use Rattle.fed_resolver.specs.declared.outcome.Outcome.{Outcome}
+use Rattle.resolver_answers.specs.Rotations.{Dealing}
 
 pub data Handling : Type 0 where
   -- memory was wanting before the request was known
@@ -18,12 +22,18 @@ pub data Handling : Type 0 where
   not_asked : Handling
   -- the node answers as an authority
   issued : (asked : Asked) → Handling
+  -- it resolves by one call, which had this outcome
+  resolved : (resolution : Resolution) (outcome : Outcome) → Handling
+  -- other keys for a trust anchor are dealt with so
+  dealt : (change : AnchorChange) (dealing : Dealing) → Handling
 
 -- the kind of a request
 abbrev pub kind_of : Handling → Kind
 kind_of unread = kind.Other
 kind_of not_asked = kind.Other
 kind_of (issued asked) = kind_asked asked
+kind_of (resolved resolution outcome) = kind.Resolve
+kind_of (dealt change dealing) = kind.AnchorKeys
 
 -- an authority answers it; the others are a resolver's
 abbrev pub IsIssued : Asked → Type 0
@@ -52,4 +62,6 @@ MayBeUnread came = ⊥
 abbrev pub Handles : Place → Result Incoming ReadEnd → Handling → Type 0
 Handles place came unread = MayBeUnread came
 Handles place came not_asked = WantsNothing place came
-Handles place came (issued asked) = Wants place came asked
+Handles place came (issued asked) = Wants place came asked × IsIssued asked
+Handles place came (resolved resolution outcome) = Wants place came (asked.Resolution resolution)
+Handles place came (dealt change dealing) = Wants place came (asked.Rotation change)

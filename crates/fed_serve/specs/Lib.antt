@@ -1,6 +1,9 @@
+pub mod Authorities
 pub mod Handlings
 pub mod Moments
 pub mod Places
 pub mod Responses
+pub mod Rows
 pub mod Serving
 pub mod Steps
+pub mod Uses

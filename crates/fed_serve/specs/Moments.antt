@@ -2,6 +2,7 @@
 use Rattle.std.specs.Prelude.{◌≡◌, ℕ, List, Option}
 use Rattle.fed_base.specs.Counts.{next_count}
 use Rattle.fed_ports.specs.Times.{Told}
+use Rattle.resolver_answers.specs.Resolutions.{CallAt}
 
 -- one end of a connection: what is left to read and what it was given, where it tells them, and how often each failed
 pub record PeerAt : Type 0 where
@@ -16,11 +17,12 @@ pub record ClockAt : Type 0 where
   pub last : ℕ
   pub told : Option (List ℕ)
 
--- all that a connection is served with; `tests` is how many signatures the ledger counted
+-- all that a connection is served with; `call` has what is known of the shared objects, the link's web, calls and faults, and how many
+-- signatures the ledger counted
 pub record Around : Type 0 where
   pub peer : PeerAt
   pub clock : ClockAt
-  pub tests : ℕ
+  pub call : CallAt
 
 abbrev pub peer_at : Option (List ℕ) → Option (List ℕ) → ℕ → ℕ → PeerAt
 peer_at left held read_faults write_faults = record { left = left; held = held; read_faults = read_faults; write_faults = write_faults }
@@ -28,8 +30,8 @@ peer_at left held read_faults write_faults = record { left = left; held = held; 
 abbrev pub clock_at : ℕ → ℕ → Option (List ℕ) → ClockAt
 clock_at count last told = record { count = count; last = last; told = told }
 
-abbrev pub around : PeerAt → ClockAt → ℕ → Around
-around peer clock tests = record { peer = peer; clock = clock; tests = tests }
+abbrev pub around : PeerAt → ClockAt → CallAt → Around
+around peer clock call = record { peer = peer; clock = clock; call = call }
 
 -- one reading was made
 pub record IsOneReading (before now : ClockAt) : Type 0 where

@@ -1,5 +1,5 @@
 -- What serving one connection does: one field for each way in which it ends.
-use Rattle.std.specs.Prelude.{◌≡◌, ◌≢◌, ◌≤◌, ◌<◌, ◌↔◌, ◌⊎◌, ℕ, List, Some, Result, Ok, Err}
+use Rattle.std.specs.Prelude.{◌≡◌, ◌≤◌, ◌<◌, ◌↔◌, ◌⊎◌, ℕ, List, codes, Option, Some, None, Result, Ok, Err}
 use Rattle.fed_base.specs.Counts.{Rose}
 use Rattle.http_plain.specs.declared.read.ReadEnd.{ReadEnd}
 use Rattle.http_plain.specs.declared.read.ReadEnd.TheVariants as read
@@ -8,16 +8,25 @@ use Rattle.http_plain.specs.declared.response.Response.{Response}
 use Rattle.http_plain.specs.declared.write.WriteEnd.TheVariants as write
 use Rattle.http_plain.specs.Readings.{Reads, Taken}
 use Rattle.http_plain.specs.Writings.{Writes}
-use Rattle.trust_mark.specs.Counts.{CountsAtMost, counted}
-use Rattle.authority_core.specs.Nodes.{Node}
+use Rattle.authority_core.specs.Nodes.{Node as Authority}
 use Rattle.node_requests.specs.declared.asked.Asked.{Asked}
+use Rattle.node_requests.specs.declared.asked.Asked.TheVariants as asked
+use Rattle.node_requests.specs.declared.change.AnchorChange.{AnchorChange}
+use Rattle.node_requests.specs.declared.resolution.Resolution.{Resolution}
+use Rattle.resolve_round.specs.declared.trace.Trace.{Trace}
+use Rattle.fed_resolver.specs.declared.outcome.Outcome.{Outcome}
+use Rattle.resolver_answers.specs.Resolutions.{Walking}
+use Rattle.resolver_answers.specs.Rotations.{Dealing}
+use Rattle.fed_serve.specs.declared.node.Node.{Node}
 use Rattle.fed_serve.specs.declared.served.Served.{Served}
 use Rattle.fed_serve.specs.declared.serving.ServeFault.{ServeFault}
 use Rattle.fed_serve.specs.declared.serving.ServeFault.TheVariants.{ReadFault, WriteFault, Ended, Worn}
-use Rattle.fed_serve.specs.Handlings.{Handles, Handling, Wants, WantsNothing, kind_of}
+use Rattle.fed_serve.specs.Handlings.{Handles, Handling, IsIssued, Wants, WantsNothing, dealt, kind_of, resolved}
 use Rattle.fed_serve.specs.Moments.{Around, IsOneReading, PeerAt}
 use Rattle.fed_serve.specs.Places.{place_of}
-use Rattle.fed_serve.specs.Responses.{out_of_memory, response_of, status_of, tests_of}
+use Rattle.fed_serve.specs.Responses.{not_a_request, out_of_memory, response_of, status_of}
+use Rattle.fed_serve.specs.Rows.{KeyRows, Refuses, ResolveRows}
+use Rattle.fed_serve.specs.Uses.{IsUnworn, IsWornBy, Tests, TestsSome, Uses}
 
 -- ---- what came
 
@@ -33,55 +42,77 @@ pub record HasCome (before now : PeerAt) (came : Came) : Type 0 where
 -- ---- the message
 
 -- the message to a handling is its response, for which all its signatures were tested; or memory was wanting, and no more were
-abbrev pub IsMessage : Node → ℕ → Handling → Around → Around → Response → Type 0
+abbrev pub IsMessage : Authority → ℕ → Handling → ℕ → ℕ → Response → Type 0
 IsMessage node t handling before now response =
-    ((response_of node t handling ≡ Some response) × (now.tests ≡ counted (tests_of node handling) before.tests))
-    ⊎ ((response ≡ out_of_memory) × CountsAtMost (tests_of node handling) before.tests now.tests)
+    ((response_of node t handling ≡ Some response) × Tests node handling before now)
+    ⊎ ((response ≡ out_of_memory) × TestsSome node handling before now)
 
--- it is handled so and answered with this message, at the clock's one reading
-pub record IsHandled (node : Node) (before now : Around) (came : Came) (handling : Handling) (response : Response) : Type 0 where
+-- what came is handled so at the clock's one reading, with all that this uses, and no shared object was worn; this is the message to it
+pub record IsHandled (node : Node) (walks : Walking) (before now : Around) (came : Came) (handling : Handling) (response : Response) : Type 0 where
   pub handles : Handles (place_of node) came handling
   pub clock : IsOneReading before.clock now.clock
-  pub message : IsMessage node now.clock.last handling before now response
+  pub uses : Uses node walks now.clock.last before.call now.call handling
+  pub unworn : IsUnworn handling
+  pub message : IsMessage node.registry now.clock.last handling before.call.tests now.call.tests response
 
--- the status is this one, or 507
-abbrev pub IsOrWanting : ℕ → ℕ → Type 0
-IsOrWanting expected status = (status ≡ expected) ⊎ (status ≡ 507)
+-- the response is this one, or has this status, or memory was wanting
+abbrev pub IsOrWanting : Response → Response → Type 0
+IsOrWanting expected response = (response ≡ expected) ⊎ (response ≡ out_of_memory)
 
--- when each status comes
-pub record ComesWhere (node : Node) (came : Came) (status : ℕ) : Type 0 where
-  -- 400 exactly where what came is no request of the node
-  pub bad_request : status ≡ 400 → WantsNothing (place_of node) came
-  pub refused : WantsNothing (place_of node) came → IsOrWanting 400 status
-  -- 404 exactly where it asks for a statement about no subordinate, 200 exactly where it is any other request
-  pub issued : (status ≡ 200) ⊎ (status ≡ 404)
-      → (asked : Asked) × Wants (place_of node) came asked × (status ≡ status_of node asked)
-  pub wanted : (asked : Asked) → Wants (place_of node) came asked → IsOrWanting (status_of node asked) status
-  -- and no other but 507
-  pub known : IsOrWanting 200 status ⊎ ((status ≡ 400) ⊎ (status ≡ 404))
+abbrev pub HasOrWanting : ℕ → Response → Type 0
+HasOrWanting status response = (response.status ≡ status) ⊎ (response ≡ out_of_memory)
+
+-- when each answer comes
+pub record ComesWhere (node : Node) (came : Came) (handling : Handling) (response : Response) : Type 0 where
+  -- 400 invalid_request exactly where what came is no request of the node
+  pub bad_request : Refuses 400 (codes "invalid_request") response → WantsNothing (place_of node) came
+  pub refused : WantsNothing (place_of node) came → IsOrWanting not_a_request response
+  -- where an authority is asked, 404 exactly where a statement about no subordinate is asked for, and else 200
+  pub issued : (asked : Asked) → Wants (place_of node) came asked → IsIssued asked → HasOrWanting (status_of node.registry asked) response
+  -- where an entity is to be resolved, by the outcome of the one call
+  pub resolved : (resolution : Resolution) → Wants (place_of node) came (asked.Resolution resolution)
+      → (response ≡ out_of_memory) ⊎ ((outcome : Outcome) × (handling ≡ resolved resolution outcome) × ResolveRows outcome.result response)
+  -- where a trust anchor is to have other keys, by how that was dealt with
+  pub dealt : (change : AnchorChange) → Wants (place_of node) came (asked.Rotation change)
+      → (response ≡ out_of_memory) ⊎ ((dealing : Dealing) × (handling ≡ dealt change dealing) × KeyRows dealing response)
+
+-- the trace of a resolve call is handed out, and none where there was no such call
+abbrev pub HandsOut : Handling → Option Trace → Type 0
+HandsOut (resolved resolution outcome) trace = trace ≡ Some outcome.trace
+HandsOut handling trace = trace ≡ None
 
 -- the text of the message was written, whole, and the answer tells of it
-pub record IsServed (node : Node) (before now : Around) (came : Came) (served : Served) : Type 0 where
+pub record IsServed (node : Node) (walks : Walking) (before now : Around) (came : Came) (served : Served) : Type 0 where
   pub handling : Handling
   pub response : Response
-  pub handled : IsHandled node before now came handling response
+  pub handled : IsHandled node walks before now came handling response
   pub written : Writes before.peer.held now.peer.held response (Ok tt)
   pub kind : served.kind ≡ kind_of handling
   pub status : served.status ≡ response.status
-  pub cause : ComesWhere node came served.status
+  pub trace : HandsOut handling served.trace
+  pub cause : ComesWhere node came handling response
 
 -- a prefix of it was written
-pub record IsCut (node : Node) (before now : Around) (came : Came) : Type 0 where
+pub record IsCut (node : Node) (walks : Walking) (before now : Around) (came : Came) : Type 0 where
   pub handling : Handling
   pub response : Response
-  pub handled : IsHandled node before now came handling response
+  pub handled : IsHandled node walks before now came handling response
   pub written : Writes before.peer.held now.peer.held response (Err write.WriteFault)
+
+-- what came is handled so at the clock's one reading, and a shared object that was called had counted so many calls; nothing was written
+pub record IsWorn (node : Node) (walks : Walking) (before now : Around) (came : Came) (count : ℕ) : Type 0 where
+  pub handling : Handling
+  pub handles : Handles (place_of node) came handling
+  pub clock : IsOneReading before.clock now.clock
+  pub uses : Uses node walks now.clock.last before.call now.call handling
+  pub worn : IsWornBy handling count
+  pub held : now.peer.held ≡ before.peer.held
 
 -- nothing was done but to read from the peer
 pub record OnlyReads (before now : Around) : Type 0 where
   pub clock : now.clock ≡ before.clock
   pub held : now.peer.held ≡ before.peer.held
-  pub tests : now.tests ≡ before.tests
+  pub call : now.call ≡ before.call
 
 -- ---- the whole call
 
@@ -91,13 +122,13 @@ pub record Tells (result fault : Result Served ServeFault) (before now : ℕ) : 
   pub always : before < now → result ≡ fault
   pub later : before ≤ now
 
--- the node serves the connection
-pub record Serves (node : Node) (before now : Around) (result : Result Served ServeFault) : Type 0 where
+-- the node serves the connection; `walks` is what the link says of all the calls that were made on it
+pub record Serves (node : Node) (walks : Walking) (before now : Around) (result : Result Served ServeFault) : Type 0 where
   -- what the bytes of the peer are
   pub came : Came
   pub has_come : HasCome before.peer now.peer came
   -- the message to it was written whole
-  pub answered : (served : Served) → result ≡ Ok served → IsServed node before now came served
+  pub answered : (served : Served) → result ≡ Ok served → IsServed node walks before now came served
   -- exactly where the bytes end before the request does
   pub ended : (result ≡ Err Ended) ↔ (came ≡ Err read.Ended)
   -- exactly where the peer failed to give bytes, only where its count rose, and always where it grew
@@ -106,7 +137,7 @@ pub record Serves (node : Node) (before now : Around) (result : Result Served Se
   -- after both nothing was done
   pub silent : (result ≡ Err Ended) ⊎ (result ≡ Err ReadFault) → OnlyReads before now
   -- the peer failed to take bytes, only where its count rose, and always where it grew; a prefix of the message was written
-  pub cut : result ≡ Err WriteFault → IsCut node before now came
+  pub cut : result ≡ Err WriteFault → IsCut node walks before now came
   pub write_fault : Tells result (Err WriteFault) before.peer.write_faults now.peer.write_faults
-  -- nothing that is shared is used
-  pub unworn : (count : ℕ) → result ≢ Err (Worn count)
+  -- a shared object that was called is worn
+  pub worn : (count : ℕ) → result ≡ Err (Worn count) → IsWorn node walks before now came count

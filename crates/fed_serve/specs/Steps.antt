@@ -1,5 +1,5 @@
 -- What the parts of serving know of one another.
-use Rattle.std.specs.Prelude.{◌≡◌, ◌⊎◌, ℕ, List, Option, Some, None, Result, Ok, Err}
+use Rattle.std.specs.Prelude.{◌≡◌, ◌⊎◌, ℕ, List, true, is_some, Option, Some, None, Result, Ok, Err}
 use Rattle.fed_base.specs.declared.faults.Memory.{Memory}
 use Rattle.http_plain.specs.declared.read.ReadEnd.{ReadEnd}
 use Rattle.http_plain.specs.declared.read.ReadEnd.TheVariants as read
@@ -9,18 +9,28 @@ use Rattle.http_plain.specs.declared.write.WriteEnd.TheVariants as write
 use Rattle.http_plain.specs.Readings.{CausedBy}
 use Rattle.http_plain.specs.Responses.{HasReason}
 use Rattle.http_plain.specs.Writings.{Writes}
-use Rattle.trust_mark.specs.Counts.{CountsAtMost, counted}
-use Rattle.authority_core.specs.Nodes.{Node}
-use Rattle.node_requests.specs.declared.kind.Kind.{Kind}
+use Rattle.authority_core.specs.Nodes.{Node as Authority}
+use Rattle.node_requests.specs.declared.asked.Asked.{Asked}
+use Rattle.node_requests.specs.declared.asked.Asked.TheVariants as asks
+use Rattle.node_requests.specs.declared.change.AnchorChange.{AnchorChange}
+use Rattle.node_requests.specs.declared.kind.Kind.TheVariants as kind
+use Rattle.node_requests.specs.declared.resolution.Resolution.{Resolution}
+use Rattle.turn_log.specs.declared.worn.Worn.{Worn}
+use Rattle.resolver_answers.specs.declared.part.ResolverPart.{ResolverPart}
+use Rattle.resolver_answers.specs.declared.resolution.ResolveAnswer.{ResolveAnswer}
+use Rattle.resolver_answers.specs.Resolutions.{CallAt, IsResolveAnswer, Walking}
+use Rattle.resolver_answers.specs.Rotations.{IsRotateAnswer, RotationAt}
 use Rattle.fed_serve.specs.declared.answer.Answer.{Answer}
+use Rattle.fed_serve.specs.declared.node.Node.{Node}
 use Rattle.fed_serve.specs.declared.served.Served.{Served}
 use Rattle.fed_serve.specs.declared.serving.ServeFault.{ServeFault}
-use Rattle.fed_serve.specs.declared.serving.ServeFault.TheVariants.{ReadFault, WriteFault, Ended}
-use Rattle.fed_serve.specs.Handlings.{Handles, Handling, kind_of}
+use Rattle.fed_serve.specs.declared.serving.ServeFault.TheVariants as fault
+use Rattle.fed_serve.specs.Handlings.{Handles, Handling, IsIssued, dealt, issued, kind_of, resolved}
 use Rattle.fed_serve.specs.Moments.{PeerAt}
 use Rattle.fed_serve.specs.Places.{place_of}
-use Rattle.fed_serve.specs.Responses.{out_of_memory, response_of, tests_of}
-use Rattle.fed_serve.specs.Serving.{HasCome}
+use Rattle.fed_serve.specs.Responses.{out_of_memory, response_of}
+use Rattle.fed_serve.specs.Serving.{HandsOut, HasCome}
+use Rattle.fed_serve.specs.Uses.{Has, IsUnworn, IsWornBy, Tests, TestsSome, Uses, change_of, request_of}
 
 -- ---- what came
 
@@ -31,9 +41,9 @@ came_of None = Err read.Memory
 
 abbrev pub HandsOn : Result Incoming ReadEnd → Result (Option Incoming) ServeFault → Type 0
 HandsOn came (Ok incoming) = came ≡ came_of incoming
-HandsOn came (Err Ended) = came ≡ Err read.Ended
-HandsOn came (Err ReadFault) = came ≡ Err read.ReadFault
-HandsOn came (Err fault) = ⊥
+HandsOn came (Err fault.Ended) = came ≡ Err read.Ended
+HandsOn came (Err fault.ReadFault) = came ≡ Err read.ReadFault
+HandsOn came (Err other) = ⊥
 
 -- what reading it leaves of the peer
 pub record IsReading (before now : PeerAt) (result : Result (Option Incoming) ServeFault) : Type 0 where
@@ -47,24 +57,94 @@ pub record IsReading (before now : PeerAt) (result : Result (Option Incoming) Se
 -- ---- the answer
 
 -- the response to a handling was made, or memory was wanting; how many signatures were tested
-abbrev pub IsMade : Node → ℕ → Handling → ℕ → ℕ → Result Response Memory → Type 0
-IsMade node t handling before now (Ok response) =
-    (response_of node t handling ≡ Some response) × (now ≡ counted (tests_of node handling) before) × HasReason response.status
-IsMade node t handling before now (Err m) = CountsAtMost (tests_of node handling) before now
+abbrev pub IsMade : Authority → ℕ → Handling → ℕ → ℕ → Result Response Memory → Type 0
+IsMade node t handling before now (Ok response) = (response_of node t handling ≡ Some response) × Tests node handling before now × HasReason response.status
+IsMade node t handling before now (Err m) = TestsSome node handling before now
 
--- what came was handled at the moment, and so an answer was made; `before` and `now` count the signatures that were tested
-pub record IsAnswer (node : Node) (came : Option Incoming) (t before now : ℕ) (answer : Answer) : Type 0 where
+-- the answer tells of the handling, or a shared object was worn
+abbrev pub IsTold : Authority → ℕ → Handling → ℕ → ℕ → Result Answer Worn → Type 0
+IsTold node t handling before now (Ok answer) =
+    IsUnworn handling × (answer.kind ≡ kind_of handling) × HandsOut handling answer.trace × IsMade node t handling before now answer.response
+IsTold node t handling before now (Err w) = IsWornBy handling w.count
+
+-- what a handling used, and what is told of it
+pub record Does (node : Node) (walks : Walking) (t : ℕ) (before now : CallAt) (handling : Handling) (result : Result Answer Worn) : Type 0 where
+  pub uses : Uses node walks t before now handling
+  pub told : IsTold node.registry t handling before.tests now.tests result
+
+-- the handling is one of what is asked
+abbrev pub IsOf : Asked → Handling → Type 0
+IsOf asked (issued a) = (a ≡ asked) × IsIssued asked
+IsOf asked (resolved resolution outcome) = asked ≡ asks.Resolution resolution
+IsOf asked (dealt change dealing) = asked ≡ asks.Rotation change
+IsOf asked handling = ⊥
+
+-- the node can answer it: a resolver's requests where it is one
+abbrev pub IsAble : Node → Asked → Type 0
+IsAble node (asks.Resolution resolution) = is_some node.resolver ≡ true
+IsAble node (asks.Rotation change) = is_some node.resolver ≡ true
+IsAble node asked = Unit {0}
+
+-- what was asked is answered
+pub record IsAnswerTo (node : Node) (walks : Walking) (t : ℕ) (before now : CallAt) (asked : Asked) (result : Result Answer Worn) : Type 0 where
+  pub handling : Handling
+  pub is : IsOf asked handling
+  pub does : Does node walks t before now handling result
+
+-- what came was handled at the moment, and so an answer was made
+pub record IsAnswer (node : Node) (walks : Walking) (t : ℕ) (before now : CallAt) (came : Option Incoming) (result : Result Answer Worn) : Type 0 where
   pub handling : Handling
   pub handles : Handles (place_of node) (came_of came) handling
-  pub kind : answer.kind ≡ kind_of handling
-  pub made : IsMade node t handling before now answer.response
+  pub does : Does node walks t before now handling result
 
 -- what is sent: the response, or that memory was wanting
 abbrev pub IsSaid : Result Response Memory → Response → Type 0
 IsSaid made said = (made ≡ Ok said) ⊎ (said ≡ out_of_memory)
 
--- it was sent whole, or a prefix of it
-abbrev pub Sends : Option (List ℕ) → Option (List ℕ) → Kind → Response → Result Served ServeFault → Type 0
-Sends old new kind said (Ok served) = Writes old new said (Ok tt) × (served.kind ≡ kind) × (served.status ≡ said.status)
-Sends old new kind said (Err WriteFault) = Writes old new said (Err write.WriteFault)
-Sends old new kind said (Err fault) = ⊥
+-- it was sent whole, and its status is told; or a prefix of it was
+abbrev pub Sends : Option (List ℕ) → Option (List ℕ) → Response → Result ℕ ServeFault → Type 0
+Sends old new said (Ok status) = Writes old new said (Ok tt) × (status ≡ said.status)
+Sends old new said (Err fault.WriteFault) = Writes old new said (Err write.WriteFault)
+Sends old new said (Err other) = ⊥
+
+-- an answer was sent, and told as served
+abbrev pub IsTelling : Answer → Response → Result ℕ ServeFault → Result Served ServeFault → Type 0
+IsTelling answer said (Ok status) (Ok served) = (served.kind ≡ answer.kind) × (served.status ≡ status) × (served.trace ≡ answer.trace)
+IsTelling answer said (Err fault) (Err other) = other ≡ fault
+IsTelling answer said sent result = ⊥
+
+pub record IsSent (old new : Option (List ℕ)) (answer : Answer) (result : Result Served ServeFault) : Type 0 where
+  pub said : Response
+  pub says : IsSaid answer.response said
+  pub sent : Result ℕ ServeFault
+  pub sends : Sends old new said sent
+  pub telling : IsTelling answer said sent result
+
+-- ---- a resolver's answers
+
+-- the answer of one call is handed on with its trace
+abbrev pub IsResolvedAnswer : Result ResolveAnswer Worn → Result Answer Worn → Type 0
+IsResolvedAnswer (Ok made) (Ok answer) = answer ≡ record { kind = kind.Resolve; response = made.response; trace = Some made.trace }
+IsResolvedAnswer (Err w) (Err other) = other ≡ w
+IsResolvedAnswer made answer = ⊥
+
+-- an entity was resolved by the node's part for that
+pub record ResolvesEntity (node : Node) (walks : Walking) (t : ℕ) (before now : CallAt) (resolution : Resolution) (result : Result Answer Worn) : Type 0 where
+  pub part : ResolverPart
+  pub has : Has node part
+  pub made : Result ResolveAnswer Worn
+  pub is : IsResolveAnswer part.signer (request_of resolution) t walks before now made
+  pub told : IsResolvedAnswer made result
+
+-- a trust anchor has other keys, or not
+abbrev pub IsKeyAnswer : Result (Result Response Memory) Worn → Result Answer Worn → Type 0
+IsKeyAnswer (Ok made) (Ok answer) = answer ≡ record { kind = kind.AnchorKeys; response = made; trace = None }
+IsKeyAnswer (Err w) (Err other) = other ≡ w
+IsKeyAnswer made answer = ⊥
+
+pub record ChangesKeys (node : Node) (before now : RotationAt) (change : AnchorChange) (result : Result Answer Worn) : Type 0 where
+  pub part : ResolverPart
+  pub has : Has node part
+  pub made : Result (Result Response Memory) Worn
+  pub is : IsRotateAnswer part.control.keys change.body.whole (change_of change) before now made
+  pub told : IsKeyAnswer made result

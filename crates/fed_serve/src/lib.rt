@@ -7,12 +7,14 @@ mod answer;
 mod laws;
 mod node;
 mod refusals;
+mod resolving;
 mod send;
 mod served;
 mod serving;
 
-pub use laws::answers;
+pub use laws::{answers, authorities};
 pub use node::Node;
 pub use node_requests::Kind;
+pub use resolver_answers::ResolverPart;
 pub use served::Served;
 pub use serving::{ServeFault, serve_one};

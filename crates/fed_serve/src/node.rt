@@ -1,9 +1,12 @@
 // A node.
 
 use authority_core::Registry;
+use resolver_answers::ResolverPart;
 
-/// A node: an entity that answers for itself and for its subordinates (OpenID Federation 1.0 section 1.2).
+/// A node: an entity that answers for itself and for its subordinates, and that resolves other entities where it has a part for that
+/// (OpenID Federation 1.0 section 1.2).
 #[derive(Drop)]
 pub struct Node {
     pub registry: Registry,
+    pub resolver: Option<ResolverPart>,
 }

@@ -1,18 +1,26 @@
 // One connection.
 
-ghost use Rattle.std.specs.Prelude.{◌≡◌};
+ghost use Rattle.std.specs.Prelude.{◌≡◌, IfSome};
+ghost use Rattle.turn_log.specs.Groups.{known};
+ghost use Rattle.statement_shelf.specs.Passes.{IsPassOfAll};
+ghost use Rattle.resolve_pages.specs.Acts.{IsKept};
+ghost use Rattle.fed_resolver.specs.Calls.{GaveAll};
+ghost use Rattle.resolver_answers.specs.Resolutions.{call_at};
 ghost use Rattle.fed_serve.specs.Moments.{around, clock_at, peer_at};
 ghost use Rattle.fed_serve.specs.Serving.{Serves};
 ghost use Rattle.fed_serve.specs.Steps.{IsReading};
 
 use crate::answer::answer_to;
 use crate::node::Node;
-use crate::send::send;
+use crate::send::send_answer;
 use crate::served::Served;
-use fed_ports::{Clock, Ledger, Peer, Steps};
+use fed_ports::{Clock, Ledger, Link, Peer, Steps};
 use http_plain::{Incoming, ReadEnd, read_request};
+use statement_shelf::FedPass;
 use std::alloc::Global;
+use std::sync::Wait;
 use thiserror::Error;
+use turn_log::Worn;
 
 /// Why no response was written whole.
 #[derive(Clone, Copy, Debug, PartialEq, Eq, Drop, Error)]
@@ -28,8 +36,7 @@ pub enum ServeFault {
     /// The peer's bytes ended before the request did. Nothing was written.
     #[error("the request ends early")]
     Ended,
-    /// A shared object has counted this many calls, which are all that it can. Nothing was written. No call answers it yet, since none
-    /// uses a shared object.
+    /// A shared object that was called had counted this many calls, which are all that it can. Nothing was written.
     #[error("a shared object is worn")]
     Worn(u64),
 }
@@ -51,24 +58,35 @@ fn read<P: Peer>(alloc: Global, peer: &mut P) -> Result<Option<Incoming>, ServeF
 
 /// Serves one connection: reads a request, reads the clock once, and writes one response. What can't be read whole is answered with
 /// nothing, and the clock isn't read then. What is no request of the node is answered 400 `invalid_request`, and want of memory 507,
-/// which takes no memory. The runtime is for what waits, which nothing does yet.
-pub fn serve_one<R, P: Peer, C: Clock, G: Ledger>(
+/// which takes no memory. A node that resolves makes one resolve call for a request of that kind, with the link and the pass, which is one
+/// of the node's shared objects; a node that doesn't resolve touches neither.
+pub fn serve_one<R: Wait, P: Peer, L: Link, C: Clock, G: Ledger>(
     node: &Node,
-    _rt: &R,
+    rt: &R,
     alloc: Global,
+    pass: &mut FedPass,
     peer: &mut P,
+    link: &mut L,
     clock: &mut C,
     steps: &mut Steps<G>,
 ) -> Result<Served, ServeFault>
-    ensures { Serves node.now.registry
+    requires of { IfSome node.now.resolver (λ part. IsPassOfAll part.commons pass.old) }
+    ensures kept { IfSome node.now.resolver (λ part. IsKept part.commons pass.old pass.new) }
+    ensures serves { Serves node.now (GaveAll L.gave link.old link.new)
         (around (peer_at (P.left peer.old) (P.held peer.old) (P.read_faults peer.old) (P.write_faults peer.old))
-        (clock_at (C.readings clock.old) (C.last clock.old) (C.told clock.old)) (G.count steps.old.ledger))
+        (clock_at (C.readings clock.old) (C.last clock.old) (C.told clock.old))
+        (call_at (known pass.old) (L.web link.old) (L.calls link.old) (L.link_faults link.old) (G.count steps.old.ledger)))
         (around (peer_at (P.left peer.new) (P.held peer.new) (P.read_faults peer.new) (P.write_faults peer.new))
-        (clock_at (C.readings clock.new) (C.last clock.new) (C.told clock.new)) (G.count steps.new.ledger))
+        (clock_at (C.readings clock.new) (C.last clock.new) (C.told clock.new))
+        (call_at (known pass.new) (L.web link.new) (L.calls link.new) (L.link_faults link.new) (G.count steps.new.ledger)))
         result }
 {
     let came = read(alloc, peer)?;
     let t = clock.now();
-    let answer = answer_to(&node.registry, alloc, t, &came, steps);
-    send(alloc, peer, &answer)
+    let answer = answer_to(node, rt, alloc, pass, &came, link, t, steps);
+    drop(came);
+    match answer {
+        Ok(answer) => send_answer(alloc, peer, answer),
+        Err(Worn { count }) => Err(ServeFault::Worn(count)),
+    }
 }

@@ -4,12 +4,19 @@ use Rattle.std.proofs.lemmas.List.{map-append}
 use Rattle.std.specs.List.{AllByRecursion}
 use Rattle.fed_ports.specs.Lists.{Added, Gave}
 use Rattle.authority_core.specs.Nodes.{Node}
-use Rattle.fed_serve.specs.Moments.{ClockAt, PeerAt}
-use Rattle.std.specs.Prelude.{Err}
+use Rattle.resolver_answers.specs.Resolutions.{Walking}
+use Rattle.fed_serve.specs.declared.node.Node.{Node as AnyNode}
+use Rattle.fed_serve.specs.declared.served.Served.{Served}
+use Rattle.fed_serve.specs.declared.serving.ServeFault.{ServeFault}
+use Rattle.fed_serve.specs.Moments.{Around, ClockAt, PeerAt}
+use Rattle.fed_serve.specs.Serving.{Serves as ServesOne}
+use Rattle.fed_serve.proofs.Walks.{serves}
+use Rattle.resolver_answers.specs.declared.part.ResolverPart.{ResolverPart}
+use Rattle.std.specs.Prelude.{Err, Result}
 use Rattle.node_service.specs.declared.connections.Stop.{Stop}
 use Rattle.node_service.specs.declared.connections.Stop.TheVariants.{Network, Memory}
 use Rattle.node_service.specs.Ends.{NextOf, StopsAfter}
-use Rattle.node_service.specs.Connections.{AreServed, Connection, ReadInTurn, ServiceAt, Serves, came_of, gone_of}
+use Rattle.node_service.specs.Connections.{AreServed, Connection, ReadInTurn, ServiceAt, Serves, alone, came_of, gone_of, uncalled}
 
 gave_after : {A : Type 0} (xs ys : List A) (a b c : Option (List A)) → Gave a xs b → Gave b ys c → Gave a (xs ++ ys) c
 gave_after xs ys a b None one next = one ∙ ap (option_map (λ rest. xs ++ rest)) next
@@ -62,3 +69,10 @@ pub stops_after : {P : Type 0} (at : P → PeerAt) (node : Node) (m n : ℕ) (a 
     → StopsAfter at node n a c (Err stop)
 stops_after at node m n a b c Network fewer served same = record { count = m; fewer = fewer; served = subst (λ now. Serves at node m a now) (sym same) served }
 stops_after at node m n a b c Memory fewer served dropped = record { then = b; served = record { count = m; fewer = fewer; served = served }; dropped = dropped }
+
+-- a node that doesn't resolve answered as an authority
+pub answered_alone : (node : AnyNode) (walks : Walking) (before now : Around) (result : Result Served ServeFault) → node.resolver ≡ None
+    → ServesOne node walks before now result → ServesOne (alone node.registry) uncalled before now result
+answered_alone node walks before now result none is =
+    subst (λ n. ServesOne n uncalled before now result) (ap (λ (o : Option ResolverPart). record { registry = node.registry; resolver = o }) none)
+    (serves walks uncalled (λ trace answered walked. tt) node before now result is)

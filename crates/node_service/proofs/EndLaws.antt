@@ -1,5 +1,5 @@
 -- How it ends without a node, and with one.
-use Rattle.std.proofs.Common.{rules, ◌≡◌, ℕ, Option, Err, refl, inl, inr}
+use Rattle.std.proofs.Common.{rules, ◌≡◌, ℕ, Option, Err, refl, ap, inl, inr}
 use Rattle.fed_ports.specs.Stores.{Files}
 use Rattle.authority_core.specs.Nodes.{Node}
 use Rattle.fed_serve.specs.Moments.{PeerAt}
@@ -8,7 +8,7 @@ use Rattle.node_service.specs.declared.node_files.NodeFault.TheVariants.{Input, 
 use Rattle.node_service.specs.Connections.{ServiceAt}
 use Rattle.node_service.specs.declared.service.ServiceEnd.{ServiceEnd}
 use Rattle.node_service.specs.declared.service.ServiceEnd.TheVariants as ends
-use Rattle.node_service.specs.Ends.{Ends, EndsOf, IsOrdered, Order, end_without_node}
+use Rattle.node_service.specs.Ends.{Ends, EndsOf, IsOrdered, NetworkAt, Order, end_without_node}
 use Rattle.node_service.specs.NodeFiles.{Answers, Counts, IsAuthorityAlone, IsNodeOf}
 
 pub ends_without : {P : Type 0} (at : P → PeerAt) (order : Order) (files files' : Option Files) (service : ServiceAt P) (a b n : ℕ) (fault : NodeFault) → files' ≡ files
@@ -76,7 +76,18 @@ ends_with at order files files' service service' a b m n node ends.NetworkFailed
   memory = λ e. search (rules, e);
   files = same;
 }
-ends_with at order files files' service service' a b m n node ends.Memory same steady is of = record {
+ends_with {P} at order files files' service service' a b m n node ends.Memory same steady is (inl unserved) = record {
+  served = λ e. search (rules, e);
+  input = λ e. search (rules, e);
+  unserved = λ e. search (rules, e);
+  store = record { only = λ e. search (rules, e); always = λ grew. search (rules, grew, steady) };
+  unread = λ e. search (rules, e);
+  network = record { only = λ e. search (rules, e); always = λ grew. let s = ap (λ (w : NetworkAt P). w.faults) unserved in search (rules, grew, s) };
+  failed = λ e. search (rules, e);
+  memory = λ _. inl (ap (λ (w : NetworkAt P). w.service) unserved);
+  files = same;
+}
+ends_with at order files files' service service' a b m n node ends.Memory same steady is (inr of) = record {
   served = λ e. search (rules, e);
   input = λ e. search (rules, e);
   unserved = λ e. search (rules, e);

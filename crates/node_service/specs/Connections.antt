@@ -1,22 +1,27 @@
 -- Connections that are accepted, served and settled, one after the other.
-use Rattle.std.specs.Prelude.{◌≡◌, ◌<◌, ℕ, List, [], ◌∷◌, length, map, Option, Some, Result}
+use Rattle.std.specs.Prelude.{◌≡◌, ◌<◌, ℕ, List, [], ◌∷◌, length, map, Option, Some, None, Result}
 use Rattle.std.specs.List.{AllByRecursion}
 use Rattle.fed_ports.specs.Lists.{Added, Gave}
-use Rattle.authority_core.specs.Nodes.{Node}
-use Rattle.fed_serve.specs.Moments.{ClockAt, PeerAt}
+use Rattle.authority_core.specs.Nodes.{Node as Authority}
+use Rattle.resolve_reply.specs.declared.reply.Reply.{Reply}
+use Rattle.resolve_round.specs.declared.trace.Trace.{Trace}
+use Rattle.fed_resolver.specs.declared.outcome.Refusal.{Refusal}
+use Rattle.resolver_answers.specs.Resolutions.{CallAt}
+use Rattle.fed_serve.specs.declared.node.Node.{Node}
+use Rattle.fed_serve.specs.Moments.{ClockAt, PeerAt, around}
 use Rattle.fed_serve.specs.Serving.{Serves as ServesOne}
 use Rattle.fed_serve.specs.declared.served.Served.{Served}
 use Rattle.fed_serve.specs.declared.serving.ServeFault.{ServeFault}
 
--- one connection: the peer as it was accepted and as it was settled, the clock and the count of tested signatures before and after, and
--- what was answered
+-- one connection: the peer as it was accepted and as it was settled, the clock and what else a connection is served with before and after,
+-- and what was answered
 pub record Connection (P : Type 0) : Type 0 where
   pub came : P
   pub gone : P
   pub clock : ClockAt
   pub clock' : ClockAt
-  pub tests : ℕ
-  pub tests' : ℕ
+  pub call : CallAt
+  pub call' : CallAt
   pub result : Result Served ServeFault
 
 abbrev pub came_of : {P : Type 0} → Connection P → P
@@ -40,10 +45,17 @@ service_at port callers settled clock = record { port = port; callers = callers;
 abbrev pub on_port : {P : Type 0} → ℕ → ServiceAt P → ServiceAt P
 on_port port service = record service { port = Some port }
 
--- the node answered the connection, whose peers are seen so
-abbrev pub IsAnswered : {P : Type 0} → (P → PeerAt) → Node → Connection P → Type 0
-IsAnswered at node c =
-    ServesOne node (record { peer = at c.came; clock = c.clock; tests = c.tests }) (record { peer = at c.gone; clock = c.clock'; tests = c.tests' }) c.result
+-- the authority, which doesn't resolve
+abbrev pub alone : Authority → Node
+alone registry = record { registry = registry; resolver = None }
+
+-- nothing is said of a link that isn't called
+abbrev pub uncalled : Trace → Result Reply Refusal → Type 0
+uncalled trace result = Unit {0}
+
+-- the authority answered the connection, whose peers are seen so
+abbrev pub IsAnswered : {P : Type 0} → (P → PeerAt) → Authority → Connection P → Type 0
+IsAnswered at node c = ServesOne (alone node) uncalled (around (at c.came) c.clock c.call) (around (at c.gone) c.clock' c.call') c.result
 
 -- one clock is read by each connection in turn, and by nothing else
 abbrev pub ReadInTurn : {P : Type 0} → ClockAt → List (Connection P) → ClockAt → Type 0
@@ -51,7 +63,7 @@ ReadInTurn before [] now = now ≡ before
 ReadInTurn before (c ∷ cs) now = (c.clock ≡ before) × ReadInTurn c.clock' cs now
 
 -- these connections, the first of the callers to come, were accepted, answered and settled in order
-pub record AreServed {P : Type 0} (at : P → PeerAt) (node : Node) (connections : List (Connection P)) (before now : ServiceAt P) : Type 0 where
+pub record AreServed {P : Type 0} (at : P → PeerAt) (node : Authority) (connections : List (Connection P)) (before now : ServiceAt P) : Type 0 where
   pub port : now.port ≡ before.port
   pub accepted : Gave before.callers (map came_of connections) now.callers
   pub answered : AllByRecursion (IsAnswered at node) connections
@@ -59,17 +71,17 @@ pub record AreServed {P : Type 0} (at : P → PeerAt) (node : Node) (connections
   pub clocks : ReadInTurn before.clock connections now.clock
 
 -- so many were
-abbrev pub Serves : {P : Type 0} → (P → PeerAt) → Node → ℕ → ServiceAt P → ServiceAt P → Type 0
+abbrev pub Serves : {P : Type 0} → (P → PeerAt) → Authority → ℕ → ServiceAt P → ServiceAt P → Type 0
 Serves {P} at node n before now = (connections : List (Connection P)) × (length connections ≡ n) × AreServed at node connections before now
 
 -- fewer than so many were
-pub record ServesFewer {P : Type 0} (at : P → PeerAt) (node : Node) (n : ℕ) (before now : ServiceAt P) : Type 0 where
+pub record ServesFewer {P : Type 0} (at : P → PeerAt) (node : Authority) (n : ℕ) (before now : ServiceAt P) : Type 0 where
   pub count : ℕ
   pub fewer : count < n
   pub served : Serves at node count before now
 
 -- the next connection was accepted and answered, and then dropped in place of being settled
-pub record DropsNext {P : Type 0} (at : P → PeerAt) (node : Node) (before now : ServiceAt P) : Type 0 where
+pub record DropsNext {P : Type 0} (at : P → PeerAt) (node : Authority) (before now : ServiceAt P) : Type 0 where
   pub connection : Connection P
   pub port : now.port ≡ before.port
   pub accepted : Gave before.callers (connection.came ∷ []) now.callers
@@ -78,7 +90,7 @@ pub record DropsNext {P : Type 0} (at : P → PeerAt) (node : Node) (before now 
   pub clocks : ReadInTurn before.clock (connection ∷ []) now.clock
 
 -- fewer than so many were, and the next one was dropped
-pub record ServesAndDrops {P : Type 0} (at : P → PeerAt) (node : Node) (n : ℕ) (before now : ServiceAt P) : Type 0 where
+pub record ServesAndDrops {P : Type 0} (at : P → PeerAt) (node : Authority) (n : ℕ) (before now : ServiceAt P) : Type 0 where
   pub then : ServiceAt P
   pub served : ServesFewer at node n before then
   pub dropped : DropsNext at node then now

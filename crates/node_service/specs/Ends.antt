@@ -50,11 +50,16 @@ pub record NetworkAt (P : Type 0) : Type 0 where
 abbrev pub FailsAfter : {P : Type 0} → (P → PeerAt) → Node → Post → ServiceAt P → ServiceAt P → Type 0
 FailsAfter at node post before now = (now ≡ before) ⊎ ServesFewer at node post.connections (on_port post.port before) now
 
--- how the serving of connections on a port ended: all were served, or the network failed, or memory was wanting to settle one
+-- memory was wanting before the port was taken, or to settle a connection
+abbrev pub WantsAfter : {P : Type 0} → (P → PeerAt) → Node → Post → NetworkAt P → NetworkAt P → Type 0
+WantsAfter at node post before now =
+    (now ≡ before) ⊎ (ServesAndDrops at node post.connections (on_port post.port before.service) now.service × (now.faults ≡ before.faults))
+
+-- how the serving of connections on a port ended: all were served, or the network failed, or memory was wanting
 abbrev pub EndsOf : {P : Type 0} → (P → PeerAt) → Node → Post → NetworkAt P → NetworkAt P → ServiceEnd → Type 0
 EndsOf at node post before now ends.Served = Serves at node post.connections (on_port post.port before.service) now.service × (now.faults ≡ before.faults)
 EndsOf at node post before now ends.NetworkFailed = FailsAfter at node post before.service now.service × Rose before.faults now.faults
-EndsOf at node post before now ends.Memory = ServesAndDrops at node post.connections (on_port post.port before.service) now.service × (now.faults ≡ before.faults)
+EndsOf at node post before now ends.Memory = WantsAfter at node post before now
 EndsOf at node post before now end = ⊥
 
 -- the files, where they are told, and the service, at one moment

@@ -1,13 +1,15 @@
 // Connections, one after the other.
 
-ghost use Rattle.std.specs.Prelude.{◌≡◌, true, is_some};
+ghost use Rattle.std.specs.Prelude.{◌≡◌, None, true, is_some};
 ghost use Rattle.fed_serve.specs.Moments.{clock_at, peer_at};
 ghost use Rattle.node_service.specs.Connections.{service_at};
 ghost use Rattle.node_service.specs.Ends.{NetworkCause, NextOf, StopsAfter};
 
-use fed_ports::{Clock, Failed, Ledger, Memory, Network, Plain, Steps};
+use fed_ports::{Clock, Failed, Ledger, Link, Memory, Network, Plain, Steps};
 use fed_serve::{Node, serve_one};
+use statement_shelf::FedPass;
 use std::alloc::Global;
+use std::sync::Wait;
 
 /// Why not all connections were served.
 #[derive(Clone, Copy, Debug, PartialEq, Eq)]
@@ -39,15 +41,18 @@ impl From<Failed> for Stop {
 }
 
 // Accepts the next connection, answers it, and settles it. What becomes of one connection is its own matter.
-fn serve_next<R, N: Network, C: Clock, G: Ledger>(
+fn serve_next<R: Wait, N: Network, L: Link, C: Clock, G: Ledger>(
     node: &Node,
     rt: &R,
     alloc: Global,
     net: &mut N,
+    pass: &mut FedPass,
+    link: &mut L,
     clock: &mut C,
     steps: &mut Steps<G>,
 ) -> Result<(), Stop>
-    requires { is_some (N.port net.old) ≡ true }
+    requires listens { is_some (N.port net.old) ≡ true }
+    requires alone { node.now.resolver ≡ None }
     ensures next { NextOf
         (λ peer. peer_at (N.Peer.left peer) (N.Peer.held peer) (N.Peer.read_faults peer) (N.Peer.write_faults peer))
         node.now.registry
@@ -58,21 +63,24 @@ fn serve_next<R, N: Network, C: Clock, G: Ledger>(
     ensures cause { NetworkCause (N.faults net.old) (N.faults net.new) result }
 {
     let mut peer = net.accept()?;
-    let _ = serve_one(node, rt, alloc, &mut peer, clock, steps);
+    let _ = serve_one(node, rt, alloc, pass, &mut peer, link, clock, steps);
     net.settle(alloc, peer)?;
     Ok(())
 }
 
-/// Serves so many connections, one after the other.
-pub(crate) fn serve_connections<R, N: Network, C: Clock>(
+/// Serves so many connections, one after the other, as an authority, which uses neither the pass nor the link.
+pub(crate) fn serve_connections<R: Wait, N: Network, L: Link, C: Clock>(
     node: &Node,
     rt: &R,
     alloc: Global,
     net: &mut N,
+    pass: &mut FedPass,
+    link: &mut L,
     clock: &mut C,
     connections: u64,
 ) -> Result<(), Stop>
-    requires { is_some (N.port net.old) ≡ true }
+    requires listens { is_some (N.port net.old) ≡ true }
+    requires alone { node.now.resolver ≡ None }
     ensures served { StopsAfter
         (λ peer. peer_at (N.Peer.left peer) (N.Peer.held peer) (N.Peer.read_faults peer) (N.Peer.write_faults peer))
         node.now.registry connections
@@ -86,7 +94,7 @@ pub(crate) fn serve_connections<R, N: Network, C: Clock>(
     };
     let mut served = 0;
     'connections: while served < connections {
-        serve_next(node, rt, alloc, net, clock, &mut steps)?;
+        serve_next(node, rt, alloc, net, pass, link, clock, &mut steps)?;
         served += 1;
     }
     Ok(())

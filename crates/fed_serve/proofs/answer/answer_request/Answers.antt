@@ -1,18 +1,19 @@
-use Rattle.std.proofs.Common.{◌≡◌, Some, rules, subst}
+use Rattle.std.proofs.Common.{◌≡◌, Ok, Some, rules, subst}
 use Rattle.std.specs.Prelude.{MatchOption}
+use Rattle.http_plain.specs.declared.request.Incoming.TheVariants.{Asked as Request}
 use Rattle.node_requests.specs.Requests.{AsksFor, AsksNothing}
-use Rattle.fed_serve.specs.Handlings.{issued}
 use Rattle.fed_serve.specs.Places.{place_of}
-use Rattle.fed_serve.proofs.Statuses.{issued_made}
+use Rattle.fed_serve.proofs.Asking.{handles}
 use Rattle.fed_serve.proofs.answer.answer_request.Goals as goal
 
-pub returns-in-Ok-Some : goal.returns-in-Ok-Some
-returns-in-Ok-Some g c =
-    let place = place_of c.args.registry.now in
+pub returns-in-Ok-Some-clause-answer : goal.returns-in-Ok-Some-clause-answer
+returns-in-Ok-Some-clause-answer g c =
+    let place = place_of c.args.node.now in
     let is : c.in-Ok-Some.field-0 ≡ Some c.in-Ok-Some.asked = search rules in
+    let wants = subst (λ o. MatchOption o (AsksNothing place c.args.request.now) (AsksFor place c.args.request.now)) is c.in-Ok-Some.ensures.asked in
+    let answer = c.answer_asked.ensures.answer in
     record {
-      handling = issued c.in-Ok-Some.asked;
-      handles = subst (λ o. MatchOption o (AsksNothing place c.args.request.now) (AsksFor place c.args.request.now)) is c.in-Ok-Some.ensures.asked;
-      kind = c.kind.ensures;
-      made = issued_made c.args.registry.now c.args.t c.in-Ok-Some.asked _ _ c.issue.result c.issue.ensures.response c.issue.ensures.counted;
+      handling = answer.handling;
+      handles = handles place (Ok (Request c.args.request.now)) c.in-Ok-Some.asked answer.handling wants answer.is;
+      does = answer.does;
     }

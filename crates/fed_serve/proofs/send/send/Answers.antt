@@ -15,4 +15,4 @@ returns-in-Err-Memory-clause-sent g c =
     let mid = sink.held c.write_response.new.to in
     let last = sink.held c.send_out_of_memory-in-Err-Memory.new.peer in
     let same : mid ≡ old = subst (λ e. Writes old mid c.in-Ok.response (Err e)) c.in-Err-Memory.field-0-is c.in-Err-Memory.ensures.written in
-    (out_of_memory, inr refl, subst (λ h. Sends h last c.args.answer.now.kind out_of_memory c.send_out_of_memory-in-Err-Memory.result) same c.send_out_of_memory-in-Err-Memory.ensures.sent)
+    (out_of_memory, inr refl, subst (λ h. Sends h last out_of_memory c.send_out_of_memory-in-Err-Memory.result) same c.send_out_of_memory-in-Err-Memory.ensures.sent)

@@ -1,24 +1,40 @@
-use Rattle.std.proofs.Common.{◌≡◌, rules, sym, subst}
+use Rattle.std.proofs.Common.{◌≡◌, Ok, rules, sym, subst}
 use Rattle.fed_ports.specs.Times.{Told}
+use Rattle.turn_log.specs.Groups.{known}
+use Rattle.fed_resolver.specs.Calls.{GaveAll}
+use Rattle.resolver_answers.specs.Resolutions.{call_at}
+use Rattle.fed_serve.specs.Moments.{peer_at}
 use Rattle.fed_serve.specs.Steps.{IsAnswer}
+use Rattle.fed_serve.proofs.Asking.{has_reason}
 use Rattle.fed_serve.proofs.Outcomes.{answered}
 use Rattle.fed_serve.proofs.serving.serve_one.Goals as goal
 
-pub returns : goal.returns
-returns g c =
+pub send_answer-requires : goal.send_answer-requires
+send_answer-requires g c =
+    let is = c.in-Ok.ensures.answer in
+    has_reason c.args.node.now.registry c.now-t.result is.handling _ _ c.in-Ok.answer.response is.does.told.3
+
+pub returns-in-Ok-clause-serves : goal.returns-in-Ok-clause-serves
+returns-in-Ok-clause-serves g c =
+    let node = c.args.node.now in
     let source = g.P.Source in
     let sink = g.P.Sink in
     let mid = c.read.new.peer in
-    let end = c.send.new.peer in
+    let end = c.send_answer.new.peer in
     let left : source.left end ≡ source.left mid = search rules in
     let read_faults : source.read_faults end ≡ source.read_faults mid = search rules in
-    answered c.args.node.now.registry _ _ (record { left = source.left mid; held = sink.held mid; read_faults = source.read_faults mid; write_faults = sink.write_faults mid })
-    c.in_ok-came.came c.answer_to-answer.result c.send.result
+    let walks = GaveAll g.L.Link.gave c.args.link.now c.answer_to-answer.new.link in
+    let before = call_at (known c.args.pass.now) (g.L.Link.web c.args.link.now) (g.L.Link.calls c.args.link.now) (g.L.Link.link_faults c.args.link.now)
+    (g.G.Ledger.count c.args.steps.now.ledger) in
+    let now = call_at (known c.answer_to-answer.new.pass) (g.L.Link.web c.answer_to-answer.new.link) (g.L.Link.calls c.answer_to-answer.new.link)
+    (g.L.Link.link_faults c.answer_to-answer.new.link) (g.G.Ledger.count c.answer_to-answer.new.steps.ledger) in
+    answered node walks _ _ (peer_at (source.left mid) (sink.held mid) (source.read_faults mid) (sink.write_faults mid)) c.in_ok-came.came c.in-Ok.answer c.send_answer.result
     (record { reading = c.in_ok-came.ensures; left = left; read_faults = read_faults })
     (record {
-      counted = c.now-t.ensures.counted;
-      added = subst (Told (g.C.Clock.readings c.args.clock.now) (g.C.Clock.told c.args.clock.now) (g.C.Clock.told c.now-t.new.self)) (sym c.now-t.ensures.last) c.now-t.ensures.told;
+      clock = record {
+        counted = c.now-t.ensures.counted;
+        added = subst (Told (g.C.Clock.readings c.args.clock.now) (g.C.Clock.told c.args.clock.now) (g.C.Clock.told c.now-t.new.self)) (sym c.now-t.ensures.last) c.now-t.ensures.told;
+      };
+      answer = subst (λ t. IsAnswer node walks t before now c.in_ok-came.came (Ok c.in-Ok.answer)) (sym c.now-t.ensures.last) c.in-Ok.ensures.answer;
     })
-    (subst (λ t. IsAnswer c.args.node.now.registry c.in_ok-came.came t (g.G.Ledger.count c.args.steps.now.ledger) (g.G.Ledger.count c.answer_to-answer.new.steps.ledger) c.answer_to-answer.result)
-    (sym c.now-t.ensures.last) c.answer_to-answer.ensures)
-    (record { said = c.send.ensures.sent.0; says = c.send.ensures.sent.1; sends = c.send.ensures.sent.2; cause = c.send.ensures.cause })
+    c.send_answer.ensures.sent c.send_answer.ensures.cause

@@ -5,7 +5,7 @@ use Rattle.node_service.proofs.ConnectionLaws.{serves_all, serves_more, serves_n
 use Rattle.node_service.proofs.connections.serve_connections.Goals as goal
 
 pub connections-init : goal.connections-init
-connections-init g c = (search rules, c.requires, refl, refl, serves_none _ _ _)
+connections-init g c = (search rules, c.requires.listens, refl, refl, serves_none _ _ _)
 
 pub connections-preserved : goal.connections-preserved
 connections-preserved g c = (
