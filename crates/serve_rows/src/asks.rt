@@ -1,13 +1,17 @@
 // Connections that are served.
 
+ghost use Rattle.std.specs.Prelude.{◌≡◌, false, is_some};
+
 use crate::peers::Pieces;
 use crate::words::{add_number, add_word, bytes, cut, number};
 use crate::written::add_written;
-use fed_base::{Memory, Plain, Steps, Text};
-use fed_net::MemoryPeer;
+use fed_base::{Memory, Plain, Seq, Steps, Text};
+use fed_net::{MemoryLink, MemoryPeer};
 use fed_ports::{Clock, MemoryClock, Peer};
 use fed_serve::{Kind, Node, ServeFault, Served, serve_one};
+use statement_shelf::Commons;
 use std::alloc::Global;
+use std::sync::Wait;
 
 // The moment of the rows that give none.
 const MOMENT: u64 = 7;
@@ -15,7 +19,8 @@ const MOMENT: u64 = 7;
 // How many bytes a peer takes at most.
 const ROOM: usize = 30_000;
 
-fn name(kind: Kind) -> &'static [u8] {
+/// The name of a kind.
+pub(crate) fn name(kind: Kind) -> &'static [u8] {
     match kind {
         Kind::Configuration => b"Configuration",
         Kind::Fetch => b"Fetch",
@@ -38,31 +43,55 @@ fn fault(fault: ServeFault) -> &'static [u8] {
 }
 
 // What was answered: the kind and the status, or the fault.
-fn answered(alloc: Global, answer: Result<Served, ServeFault>) -> Result<Text, Memory> {
+fn answered(alloc: Global, answer: &Result<Served, ServeFault>) -> Result<Text, Memory> {
     match answer {
         Ok(served) => {
             let mut out = Text::of(alloc, name(served.kind))?;
             add_number(alloc, &mut out, served.status as u64)?;
             Ok(out)
         },
-        Err(why) => Text::of(alloc, fault(why)),
+        Err(why) => Text::of(alloc, fault(*why)),
     }
 }
 
+// Serves a peer by a node that doesn't resolve, so that it uses neither the pass nor the link that it is handed.
+fn serve_alone<R: Wait, P: Peer>(
+    rt: &R,
+    alloc: Global,
+    node: &Node,
+    peer: &mut P,
+    clock: &mut MemoryClock,
+    steps: &mut Steps<Plain>,
+) -> Result<Result<Served, ServeFault>, Memory>
+    requires { is_some node.now.resolver ≡ false }
+{
+    let mut link = MemoryLink::new(alloc, Seq::new(alloc), &[], 0)?;
+    let Ok((_commons, mut pass)) = Commons::new(alloc, Seq::new(alloc)) else {
+        drop(link);
+        return Err(Memory);
+    };
+    Ok(serve_one(node, rt, alloc, &mut pass, peer, &mut link, clock, steps))
+}
+
 // Serves a peer at a moment: what was answered, how often the clock was read, and how many signatures were tested.
-fn served<R, P: Peer>(
+fn served<R: Wait, P: Peer>(
     rt: &R,
     alloc: Global,
     node: &Node,
     t: u64,
     peer: &mut P,
 ) -> Result<Text, Memory> {
+    if node.resolver.is_some() {
+        return Text::of(alloc, b"resolves");
+    }
     let mut clock = MemoryClock::new(alloc, &[t, 1, 2, 3])?;
     let mut steps = Steps {
         ledger: Plain::new(),
     };
-    let answer = serve_one(node, rt, alloc, peer, &mut clock, &mut steps);
-    let mut out = answered(alloc, answer)?;
+    let answer = serve_alone(rt, alloc, node, peer, &mut clock, &mut steps)?;
+    let told = answered(alloc, &answer);
+    drop(answer);
+    let mut out = told?;
     let next = clock.now();
     add_word(&mut out, b"clock")?;
     add_number(alloc, &mut out, if next == t { 0 } else { next })?;
@@ -72,7 +101,7 @@ fn served<R, P: Peer>(
 }
 
 // The same, and what the peer was given.
-fn served_in_memory<R>(
+fn served_in_memory<R: Wait>(
     rt: &R,
     alloc: Global,
     node: &Node,
@@ -85,7 +114,12 @@ fn served_in_memory<R>(
 }
 
 /// `ask MOMENT BYTES`: what is answered at a moment to these bytes, and written.
-pub(crate) fn ask<R>(rt: &R, alloc: Global, node: &Node, given: &str) -> Result<Text, Memory> {
+pub(crate) fn ask<R: Wait>(
+    rt: &R,
+    alloc: Global,
+    node: &Node,
+    given: &str,
+) -> Result<Text, Memory> {
     let (t, parts) = cut(given);
     let sent = bytes(alloc, parts)?;
     let mut peer = MemoryPeer::new(alloc, sent.as_slice(), ROOM, &[], &[], 1000)?;
@@ -93,7 +127,12 @@ pub(crate) fn ask<R>(rt: &R, alloc: Global, node: &Node, given: &str) -> Result<
 }
 
 /// `pieces MOST BYTES`: the same where each reading gives at most so many bytes.
-pub(crate) fn pieces<R>(rt: &R, alloc: Global, node: &Node, given: &str) -> Result<Text, Memory> {
+pub(crate) fn pieces<R: Wait>(
+    rt: &R,
+    alloc: Global,
+    node: &Node,
+    given: &str,
+) -> Result<Text, Memory> {
     let (most, parts) = cut(given);
     let sent = bytes(alloc, parts)?;
     let mut peer = Pieces::new(alloc, sent, number(most) as usize, ROOM)?;
@@ -103,7 +142,12 @@ pub(crate) fn pieces<R>(rt: &R, alloc: Global, node: &Node, given: &str) -> Resu
 }
 
 /// `reads NUMBER BYTES`: the same where the reading of that number fails.
-pub(crate) fn reads<R>(rt: &R, alloc: Global, node: &Node, given: &str) -> Result<Text, Memory> {
+pub(crate) fn reads<R: Wait>(
+    rt: &R,
+    alloc: Global,
+    node: &Node,
+    given: &str,
+) -> Result<Text, Memory> {
     let (call, parts) = cut(given);
     let sent = bytes(alloc, parts)?;
     let mut peer = MemoryPeer::new(alloc, sent.as_slice(), ROOM, &[number(call)], &[], 1000)?;
@@ -111,7 +155,12 @@ pub(crate) fn reads<R>(rt: &R, alloc: Global, node: &Node, given: &str) -> Resul
 }
 
 /// `writes ROOM BYTES`: the same where the peer takes so many bytes and then fails.
-pub(crate) fn writes<R>(rt: &R, alloc: Global, node: &Node, given: &str) -> Result<Text, Memory> {
+pub(crate) fn writes<R: Wait>(
+    rt: &R,
+    alloc: Global,
+    node: &Node,
+    given: &str,
+) -> Result<Text, Memory> {
     let (room, parts) = cut(given);
     let sent = bytes(alloc, parts)?;
     let room = number(room) as usize;
@@ -120,7 +169,7 @@ pub(crate) fn writes<R>(rt: &R, alloc: Global, node: &Node, given: &str) -> Resu
 }
 
 // Whether these bytes are told as ended, with nothing written and no reading of the clock.
-fn is_ended<R>(rt: &R, alloc: Global, node: &Node, sent: &[u8]) -> Result<bool, Memory> {
+fn is_ended<R: Wait>(rt: &R, alloc: Global, node: &Node, sent: &[u8]) -> Result<bool, Memory> {
     let mut peer = MemoryPeer::new(alloc, sent, ROOM, &[], &[], 1000)?;
     let told = served(rt, alloc, node, MOMENT, &mut peer)?;
     Ok(told.as_slice() == b"Ended clock 0 tests 0".as_slice() && peer.as_slice().is_empty())
@@ -128,7 +177,7 @@ fn is_ended<R>(rt: &R, alloc: Global, node: &Node, sent: &[u8]) -> Result<bool, 
 
 /// `cut BYTES`: how often the bytes are told as ended, with nothing written and no reading of the clock, where they are cut before each of
 /// them in turn, and how many they are.
-pub(crate) fn cut_short<R>(
+pub(crate) fn cut_short<R: Wait>(
     rt: &R,
     alloc: Global,
     node: &Node,

@@ -1,4 +1,4 @@
-//! Layer 8, rows: what a node answers to the bytes of a connection.
+//! Layer 8, rows: what requests ask a node for, and what a node answers to the bytes of a connection.
 //!
 //! Each line of the input is a row: its kind, then what it is given, with a tab before each part. For each row the program writes a line
 //! with what was answered. A line that begins with `#` tells what the rows behind it are about, and is written as it stands. The rows are
@@ -8,6 +8,7 @@
 mod asks;
 mod nodes;
 mod peers;
+mod requests;
 mod words;
 mod written;
 
@@ -15,10 +16,17 @@ use fed_base::{Memory, Text};
 use fed_serve::Node;
 use std::alloc::Global;
 use std::io::{self, Print};
+use std::sync::Wait;
 use words::cut;
 
 // What the node answers to a row.
-fn ask<R>(rt: &R, alloc: Global, node: &Node, kind: &str, given: &str) -> Result<Text, Memory> {
+fn ask<R: Wait>(
+    rt: &R,
+    alloc: Global,
+    node: &Node,
+    kind: &str,
+    given: &str,
+) -> Result<Text, Memory> {
     match kind {
         "ask" => asks::ask(rt, alloc, node, given),
         "pieces" => asks::pieces(rt, alloc, node, given),
@@ -30,8 +38,16 @@ fn ask<R>(rt: &R, alloc: Global, node: &Node, kind: &str, given: &str) -> Result
 }
 
 // What is answered to a row, which may keep a node for those behind it.
-fn answer<R>(rt: &R, alloc: Global, row: &str, node: &mut Option<Node>) -> Result<Text, Memory> {
+fn answer<R: Wait>(
+    rt: &R,
+    alloc: Global,
+    row: &str,
+    node: &mut Option<Node>,
+) -> Result<Text, Memory> {
     let (kind, given) = cut(row);
+    if kind == "asked" {
+        return requests::asked(alloc, given);
+    }
     if kind == "node" {
         drop(std::mem::replace(node, None));
         return nodes::keep(alloc, given, node);
@@ -54,7 +70,7 @@ fn write<R: Print>(rt: &R, told: Result<Text, Memory>) -> io::Result<()> {
 }
 
 // Answers the row that a line is.
-fn step<R: Print>(
+fn step<R: Print + Wait>(
     rt: &R,
     alloc: Global,
     line: io::Result<String>,

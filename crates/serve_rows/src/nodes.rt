@@ -46,7 +46,11 @@ fn keep_tree(
 fn keep_node(alloc: Global, registry: Registry, node: &mut Option<Node>) -> Result<Text, Memory> {
     match Text::of(alloc, registry.id().text()) {
         Ok(told) => {
-            drop(replace(node, Some(Node { registry })));
+            let kept = Node {
+                registry,
+                resolver: None,
+            };
+            drop(replace(node, Some(kept)));
             Ok(told)
         }
         Err(Memory) => {
