@@ -8,4 +8,5 @@ mod notes;
 mod service;
 
 pub use node_files::{NodeFault, open_resolver};
+pub use notes::{explain_accept, explain_port};
 pub use service::{ServiceEnd, serve_authority};

@@ -1,4 +1,4 @@
-use Rattle.std.proofs.Common.{◌≡◌, ℕ, List, [], ◌∷◌, get_or, refl, sym, ap, ◌∙◌, subst, inr}
+use Rattle.std.proofs.Common.{◌≡◌, ℕ, List, [], ◌∷◌, get_or, refl, sym, ap, ◌∙◌, subst, inr, rules}
 use Rattle.std.proofs.lemmas.Result.{err_from_is_err_and}
 use Rattle.statement_shelf.specs.declared.calls.BookCall.{BookCall}
 use Rattle.statement_shelf.specs.declared.calls.BookCall.TheVariants.{Read}
@@ -14,3 +14,6 @@ replied : (events : List Event) (x : Event) (anchor : List ℕ) (answer reply : 
 replied events x anchor answer reply call is there same =
     let both : Book (Read anchor) answer ≡ Book call reply = sym (ap (λ l. get_or l 0 x) is) ∙ sym there ∙ same in
     cc both
+
+pub returns-in-NoAnchor : goal.returns-in-NoAnchor
+returns-in-NoAnchor c = search rules

@@ -12,3 +12,6 @@ returns-clause-page g c =
     let done : (is_over c.loop-ended.chunks ≡ true) ⊎ (c.loop-ended.ended ≡ true) =
     elim c.loop-ended-test.branch [ then-loop-ended-test+else-not-is_over w ↦ inl (search rules) | else-loop-ended-test w ↦ inr (search rules) ] in
     subst (ShowsRest flow c.args.text.now) (sym c.chunked_page.ensures) (rest_shown flow c.args.text.now so_far.0 c.loop-ended.ended c.loop-ended.chunks c.end.result so_far.1 so_far.2 c.end.ensures done)
+
+pub loop-ended-init : goal.loop-ended-init
+loop-ended-init g c = search rules

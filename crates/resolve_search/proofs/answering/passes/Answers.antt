@@ -1,4 +1,4 @@
-use Rattle.std.proofs.Common.{[], refl, sym, ◌∙◌}
+use Rattle.std.proofs.Common.{[], refl, sym, ◌∙◌, rules}
 use Rattle.std.proofs.lemmas.Result.{IfOk-weaker}
 use Rattle.turn_log.specs.Groups.{known}
 use Rattle.sealed.specs.Seals.{pair_of}
@@ -65,3 +65,6 @@ returns-clause-passes g c =
     (λ good is.
     passes-own c.args.own c.args.trace.now.moment c.args.signed.now.compact.whole (told c.args.signed.now.statement) good c.if-not-own.false (sym c.is_current.ensures ∙ c.if-not-is_current.false) is)
     c.seals_itself.ensures.sealed
+
+pub returns-clause-continues : goal.returns-clause-continues
+returns-clause-continues g c = search rules

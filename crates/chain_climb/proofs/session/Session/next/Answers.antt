@@ -1,3 +1,4 @@
+use Rattle.std.proofs.Common.{arith}
 use Rattle.std.proofs.lemmas.Result.{IfOk-weaker}
 use Rattle.chain_climb.proofs.SessionLaws.{says-bounded, says-complete, says-found, says-new, says-next, says-stays, says-want}
 use Rattle.chain_climb.proofs.session.Session.next.Goals as goal

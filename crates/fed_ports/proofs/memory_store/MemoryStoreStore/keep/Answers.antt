@@ -1,4 +1,4 @@
-use Rattle.std.proofs.Common.{refl, arith}
+use Rattle.std.proofs.Common.{refl, arith, rules}
 use Rattle.fed_ports.proofs.KeptLaws.{sized_more, keeps, put_there}
 use Rattle.fed_ports.proofs.memory_store.MemoryStoreStore.keep.Goals as goal
 
@@ -33,3 +33,9 @@ returns-then-fails-2-clause-left c = λ leaves calls room. put_there _ _ _ _ c.a
 
 pub returns-clause-left : goal.returns-clause-left
 returns-clause-left c = λ leaves calls room. put_there _ _ _ _ c.args.self.now.files c.as_slice-name.result.now c.args.name.now c.args.bytes.now c.args.self.now.sized c.put.ensures.kept c.put.ensures.bytes c.as_slice-name.ensures
+
+pub returns-clause-cause : goal.returns-clause-cause
+returns-clause-cause c = search rules
+
+pub returns-then-self-needed-clause-left : goal.returns-then-self-needed-clause-left
+returns-then-self-needed-clause-left c = search rules

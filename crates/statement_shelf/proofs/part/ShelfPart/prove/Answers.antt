@@ -10,3 +10,6 @@ returns-then-ne c = prove-other c.args.url c.args.seal c.args.self.now _ c.in-So
 
 pub invariant_of-self-2 : goal.invariant_of-self-2
 invariant_of-self-2 c = (search rules, prove-fits c.of.result c.self.inside.entries.entries c.prove.new.self (search rules))
+
+pub returns : goal.returns
+returns c = search rules
