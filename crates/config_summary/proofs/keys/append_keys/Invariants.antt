@@ -1,0 +1,6 @@
+use Rattle.std.proofs.Common.{◌≡◌, ◌++◌, take, flat_map}
+use Rattle.config_summary.specs.Summaries.{key_line}
+use Rattle.config_summary.proofs.keys.append_keys.Given as goal
+
+abbrev pub invariant-loop-key : goal.invariant-loop-key
+invariant-loop-key l = l.out ≡ l.initial.out ++ flat_map key_line (take l.key-index l.keys)

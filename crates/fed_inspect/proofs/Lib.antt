@@ -1,0 +1,4 @@
+mod ConfigLaws
+mod OnceLaws
+mod PublicLaws
+pub mod InspectLaws

@@ -1,0 +1,5 @@
+pub mod Configs
+pub mod Inspections
+pub mod Outputs
+pub mod Publics
+pub mod Shows

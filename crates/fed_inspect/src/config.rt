@@ -1,0 +1,271 @@
+// The node of a configuration file.
+
+ghost use Rattle.std.specs.Prelude.{◌≡◌, ◌≤◌, ◌<◌, ◌++◌, List, ℕ, Option, IfOk, IfSome, MatchResult, codes, map};
+ghost use Rattle.fed_base.specs.Moments.{moment_limit};
+ghost use Rattle.fed_commands.specs.Answers.{StopsAs};
+ghost use Rattle.fed_commands.specs.Operations.{IsFileOf};
+ghost use Rattle.fed_commands.specs.Replies.{refused};
+ghost use Rattle.fed_json.specs.Forms.{IsWellFormed};
+ghost use Rattle.node_config.specs.Configurations.{configuration_in};
+ghost use Rattle.node_config.specs.Told.{told};
+ghost use Rattle.authority_core.specs.Configurations.{node_in};
+ghost use Rattle.key_ring.specs.Rings.{Ring};
+ghost use Rattle.config_summary.specs.Marks.{first_fault};
+ghost use Rattle.config_summary.specs.Terms.{term_of};
+ghost use Rattle.fed_inspect.specs.Configs.{IsConfigReply, IsRingReply, IsSettingsReply, found_reply, marks_reply, node_reply, tree_of_file};
+
+use crate::replies::refused;
+use crate::rings::{RingFound, ring_found};
+use authority_core::Registry;
+use config_summary::{KeyTerm, ToldRing, first_fault, summary};
+use fed_commands::{File, Reply, Stop, explain_no_ring, load_file, plain};
+use fed_json::{Json, TreeFault, read_tree};
+use fed_notes::{explain_absent_file, explain_long_file};
+use fed_ports::{Memory, Store, Text};
+use node_config::{ConfigFault, NodeConfig};
+use plain_notes::{Notes, Sentence};
+use std::alloc::Global;
+
+const NO_JSON: &[u8] = b" isn't JSON; a node's configuration is an object";
+
+/// The reply that tells the node of the configuration file of that name, at a moment in seconds since 1970, or its first fault.
+pub(crate) fn check_config<D: Store>(
+    alloc: Global,
+    name: &Text,
+    moment: u64,
+    store: &mut D,
+    notes: &mut Notes,
+) -> Result<Reply, Stop>
+    requires { moment < moment_limit }
+    ensures files { D.files store.new ≡ D.files store.old }
+    ensures steady { (source : ℕ) → MatchResult result (λ reply. D.store_faults store.new ≡ D.store_faults store.old)
+        (λ stop. StopsAs stop source source (D.store_faults store.old) (D.store_faults store.new)) }
+    ensures reply { IfOk result (IsConfigReply (D.files store.old) name.now moment) }
+    ensures small { IfOk result (λ reply. reply.status ≤ 2) }
+{
+    let file = load_file(alloc, name, store, notes)?;
+    match config_tree(alloc, name, &file, notes)? {
+        Some(tree) => {
+            let reply = settings_reply(alloc, name, &tree, moment, store, notes);
+            drop(tree);
+            reply
+        }
+        None => Ok(plain(alloc, 2, b"input\n")?),
+    }
+}
+
+// The tree of the configuration's file, or `None` where it is none.
+fn config_tree(
+    alloc: Global,
+    name: &Text,
+    file: &File,
+    notes: &mut Notes,
+) -> Result<Option<Json>, Memory>
+    ensures tree { (bytes : Option (List ℕ)) → IsFileOf file.now bytes → IfOk result (λ tree. tree ≡ tree_of_file bytes) }
+    ensures well_formed { IfOk result (λ tree. IfSome tree IsWellFormed) }
+{
+    match file {
+        File::Absent => {
+            explain_absent_file(alloc, name, notes);
+            Ok(None)
+        }
+        File::TooLong => {
+            explain_long_file(alloc, name, notes);
+            Ok(None)
+        }
+        File::Whole(bytes) => match read_tree(alloc, bytes.as_slice()) {
+            Ok(tree) => Ok(Some(tree)),
+            Err(TreeFault::Syntax) => {
+                notes.say(Sentence::of(alloc, name.as_slice()).and(NO_JSON));
+                Ok(None)
+            }
+            Err(TreeFault::Memory) => Err(Memory),
+        },
+    }
+}
+
+// What is told of a configuration, by its members.
+fn settings_reply<D: Store>(
+    alloc: Global,
+    name: &Text,
+    tree: &Json,
+    moment: u64,
+    store: &mut D,
+    notes: &mut Notes,
+) -> Result<Reply, Stop>
+    requires formed { IsWellFormed tree.now }
+    requires small { moment < moment_limit }
+    ensures files { D.files store.new ≡ D.files store.old }
+    ensures steady { (source : ℕ) → MatchResult result (λ reply. D.store_faults store.new ≡ D.store_faults store.old)
+        (λ stop. StopsAs stop source source (D.store_faults store.old) (D.store_faults store.new)) }
+    ensures reply { IfOk result (IsSettingsReply (D.files store.old) moment tree.now (configuration_in tree.now)) }
+    ensures small { IfOk result (λ reply. reply.status ≤ 2) }
+{
+    match NodeConfig::read(alloc, tree) {
+        Ok(config) => {
+            let reply = ring_reply(alloc, name, tree, &config, moment, store, notes);
+            drop(config);
+            reply
+        }
+        Err(ConfigFault::Shape(member)) => {
+            Ok(refused_member(alloc, name, &member, b" Shape", notes)?)
+        }
+        Err(ConfigFault::Memory) => Err(Stop::Memory),
+    }
+}
+
+// The refusal of a member.
+fn refused_member(
+    alloc: Global,
+    name: &Text,
+    member: &Text,
+    fault: &[u8],
+    notes: &mut Notes,
+) -> Result<Reply, Memory>
+    ensures reply { IfOk result (λ reply. reply ≡ refused (member.now ++ fault.now)) }
+    ensures small { IfOk result (λ reply. reply.status ≤ 2) }
+{
+    explain_member(alloc, name, member, notes);
+    let mut words = Text::of(alloc, member.as_slice())?;
+    words.append(fault)?;
+    refused(alloc, words.as_slice())
+}
+
+// What is told of a configuration, by the file of the ring that it names.
+fn ring_reply<D: Store>(
+    alloc: Global,
+    name: &Text,
+    tree: &Json,
+    config: &NodeConfig,
+    moment: u64,
+    store: &mut D,
+    notes: &mut Notes,
+) -> Result<Reply, Stop>
+    requires formed { IsWellFormed tree.now }
+    requires small { moment < moment_limit }
+    ensures files { D.files store.new ≡ D.files store.old }
+    ensures steady { (source : ℕ) → MatchResult result (λ reply. D.store_faults store.new ≡ D.store_faults store.old)
+        (λ stop. StopsAs stop source source (D.store_faults store.old) (D.store_faults store.new)) }
+    ensures reply { IfOk result (IsRingReply (D.files store.old) moment tree.now (told config.now)) }
+    ensures small { IfOk result (λ reply. reply.status ≤ 2) }
+{
+    let file = load_file(alloc, &config.ring, store, notes)?;
+    let ring = ring_found(alloc, &file)?;
+    explain_ring(alloc, config, &file, &ring, notes);
+    Ok(found_reply(alloc, name, tree, config, ring, moment, notes)?)
+}
+
+// Says why there is no ring.
+fn explain_ring(
+    alloc: Global,
+    config: &NodeConfig,
+    file: &File,
+    ring: &RingFound,
+    notes: &mut Notes,
+) {
+    match ring {
+        RingFound::Opened(_) => {},
+        _ => explain_no_ring(alloc, &config.ring, file, notes),
+    }
+}
+
+fn found_reply(
+    alloc: Global,
+    name: &Text,
+    tree: &Json,
+    config: &NodeConfig,
+    ring: RingFound,
+    moment: u64,
+    notes: &mut Notes,
+) -> Result<Reply, Memory>
+    requires formed { IsWellFormed tree.now }
+    requires small { moment < moment_limit }
+    ensures reply { IfOk result (λ reply. reply ≡ found_reply moment tree.now (told config.now) ring) }
+    ensures small { IfOk result (λ reply. reply.status ≤ 2) }
+{
+    match ring {
+        RingFound::Absent => refused(alloc, b"ring Absent"),
+        RingFound::TooLong => refused(alloc, b"ring TooLong"),
+        RingFound::Shape => refused(alloc, b"ring Shape"),
+        RingFound::Known => refused(alloc, b"ring Known"),
+        RingFound::Opened(ring) => node_reply(alloc, name, tree, config, ring, moment, notes),
+    }
+}
+
+// What is told of a configuration and its ring.
+fn node_reply(
+    alloc: Global,
+    name: &Text,
+    tree: &Json,
+    config: &NodeConfig,
+    ring: ToldRing,
+    moment: u64,
+    notes: &mut Notes,
+) -> Result<Reply, Memory>
+    requires formed { IsWellFormed tree.now }
+    requires small { moment < moment_limit }
+    ensures reply { IfOk result (λ reply. reply ≡ node_reply moment (told config.now) ring (node_in tree.now ring)) }
+    ensures small { IfOk result (λ reply. reply.status ≤ 2) }
+{
+    let (ring, keys) = ring.into_parts();
+    match Registry::read(alloc, tree, ring) {
+        Ok(registry) => {
+            drop(registry);
+            marks_reply(alloc, name, config, keys.as_slice(), moment, notes)
+        }
+        Err(ConfigFault::Shape(member)) => refused_member(alloc, name, &member, b" TooLong", notes),
+        Err(ConfigFault::Memory) => Err(Memory),
+    }
+}
+
+// The node, unless one of its trust marks is none of its own.
+fn marks_reply(
+    alloc: Global,
+    name: &Text,
+    config: &NodeConfig,
+    keys: &[KeyTerm],
+    moment: u64,
+    notes: &mut Notes,
+) -> Result<Reply, Memory>
+    requires { moment < moment_limit }
+    ensures reply { (ring : Ring) → keys.now ≡ map term_of ring
+        → IfOk result (λ reply. reply ≡ marks_reply moment (told config.now) ring (first_fault config.now.id config.now.claims.marks)) }
+    ensures small { IfOk result (λ reply. reply.status ≤ 2) }
+{
+    match first_fault(alloc, &config.id, &config.claims.marks)? {
+        Some(fault) => {
+            explain_mark(alloc, name, &fault, notes);
+            refused(alloc, fault.as_slice())
+        }
+        None => Ok(Reply {
+            status: 0,
+            text: summary(alloc, moment, config, keys)?,
+            kept: None,
+        }),
+    }
+}
+
+// Says which member is at fault.
+fn explain_member(alloc: Global, name: &Text, member: &Text, notes: &mut Notes) {
+    notes.say(
+        Sentence::of(alloc, name.as_slice())
+            .and(b": ")
+            .and(member.as_slice())
+            .and(b" isn't as fed-config(5) says of this member"),
+    );
+}
+
+// Says which trust mark is none of the node's.
+fn explain_mark(alloc: Global, name: &Text, fault: &Text, notes: &mut Notes) {
+    let why: &[u8] = if fault.as_slice().ends_with(b"Form") {
+        b": the text at this place isn't a trust mark"
+    } else {
+        b": the trust mark at this place is of another type, or about another entity"
+    };
+    notes.say(
+        Sentence::of(alloc, name.as_slice())
+            .and(b": ")
+            .and(fault.as_slice())
+            .and(why),
+    );
+}

@@ -1,0 +1,42 @@
+// What is found of a ring's file.
+
+ghost use Rattle.std.specs.Prelude.{List, ℕ, IfOk, Option};
+ghost use Rattle.fed_commands.specs.Operations.{IsFileOf};
+ghost use Rattle.fed_inspect.specs.Configs.{IsFoundIn};
+
+use config_summary::ToldRing;
+use fed_commands::File;
+use fed_ports::Memory;
+use key_ring::RingFault;
+use std::alloc::Global;
+
+/// What is found of a ring's file.
+#[derive(Drop)]
+pub enum RingFound {
+    /// There is none.
+    Absent,
+    /// It has more than 4,194,304 bytes.
+    TooLong,
+    /// It isn't of its form.
+    Shape,
+    /// A key stands twice in it.
+    Known,
+    /// Its ring, with what is told of its keys.
+    Opened(ToldRing),
+}
+
+/// What is found of the file.
+pub(crate) fn ring_found(alloc: Global, file: &File) -> Result<RingFound, Memory>
+    ensures { (bytes : Option (List ℕ)) → IsFileOf file.now bytes → IfOk result (IsFoundIn bytes) }
+{
+    match file {
+        File::Absent => Ok(RingFound::Absent),
+        File::TooLong => Ok(RingFound::TooLong),
+        File::Whole(bytes) => match ToldRing::open(alloc, bytes.as_slice()) {
+            Ok(ring) => Ok(RingFound::Opened(ring)),
+            Err(RingFault::Shape) => Ok(RingFound::Shape),
+            Err(RingFault::Known(_)) => Ok(RingFound::Known),
+            Err(_) => Err(Memory),
+        },
+    }
+}

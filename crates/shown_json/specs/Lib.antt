@@ -1,0 +1,3 @@
+pub mod Indented
+pub mod KeyViews
+pub mod Strings

@@ -1,0 +1,67 @@
+// Texts between quotation marks.
+
+ghost use Rattle.std.specs.Prelude.{◌≡◌, ◌++◌, ◌<◌, flat_map, IfOk, OnOk};
+ghost use Rattle.shown_json.specs.Strings.{calm_after, hex_digit, is_calm, shown_byte, string, turns};
+
+use fed_base::{Memory, Text};
+use std::alloc::Global;
+
+/// The text between quotation marks, with escapes for what a terminal acts on: a byte that isn't printable is shown as `\x` and its two
+/// hexadecimal digits, and so is each byte that isn't ASCII where a control character or a mark of direction stands in the text.
+pub fn string(alloc: Global, text: &[u8]) -> Result<Text, Memory>
+    ensures { IfOk result (λ string'. string' ≡ string text.now) }
+{
+    let mut string = Text::of(alloc, b"\"")?;
+    append_shown(&mut string, is_calm(text), text)?;
+    string.push(b'"')?;
+    Ok(string)
+}
+
+fn append_shown(string: &mut Text, calm: bool, text: &[u8]) -> Result<(), Memory>
+    ensures { OnOk result (string.new ≡ string.old ++ flat_map (shown_byte calm) text.now) }
+{
+    for byte in text {
+        append_byte(string, calm, *byte)?;
+    }
+    Ok(())
+}
+
+fn append_byte(string: &mut Text, calm: bool, byte: u8) -> Result<(), Memory>
+    ensures { OnOk result (string.new ≡ string.old ++ shown_byte calm byte) }
+{
+    if byte == b'"' || byte == b'\\' {
+        string.append(&[b'\\', byte])
+    } else if (0x20 <= byte && byte <= 0x7e) || (calm && 0x80 <= byte) {
+        string.push(byte)
+    } else {
+        string.append(&[b'\\', b'x', hex_digit(byte / 16), hex_digit(byte % 16)])
+    }
+}
+
+fn hex_digit(n: u8) -> u8
+    requires { n < 16 }
+    ensures { result ≡ hex_digit n }
+{
+    if n < 10 { b'0' + n } else { b'a' - 10 + n }
+}
+
+// Whether no character stands in the text that moves a terminal's cursor or turns letters round.
+fn is_calm(text: &[u8]) -> bool
+    ensures { result ≡ is_calm text.now }
+{
+    let mut before = 0;
+    for byte in text {
+        if turns(before, *byte) {
+            return false;
+        }
+        before = *byte;
+    }
+    true
+}
+
+// Whether two bytes of UTF-8 begin such a character.
+fn turns(a: u8, b: u8) -> bool
+    ensures { result ≡ turns a b }
+{
+    (a == 0xc2 && 0x80 <= b && b <= 0x9f) || (a == 0xe2 && 0x80 <= b && b <= 0x81)
+}
