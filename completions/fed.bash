@@ -6,7 +6,8 @@ _fed() {
         *[\<\>]*) before=--files ;;
     esac
     case $COMP_CWORD:$before in
-        1:*) offered='verify keygen issue rotate check authority resolve --help --version' ;;
+        1:*) offered='verify keygen issue rotate public check show check-config authority resolver resolve rehearse help --help --version' ;;
+        2:help) offered='verify keygen issue rotate public check show check-config authority resolver resolve rehearse help' ;;
         *:--act) offered='add retire revoke' ;;
         *:--reason) offered='unspecified compromised superseded' ;;
         *:--typ) offered='entity-statement+jwt trust-mark+jwt trust-mark-delegation+jwt' ;;
@@ -15,7 +16,7 @@ _fed() {
             mapfile -t COMPREPLY < <(compgen -f -- "$word")
             return
             ;;
-        *:--anchor | *:--at | *:--connections | *:--exp | *:--kid | *:--port | *:--sub) return ;;
+        *:--anchor | *:--at | *:--connections | *:--exp | *:--kid | *:--params | *:--port | *:--sub) return ;;
         *)
             for ((at = 2; at < COMP_CWORD; at++)); do
                 [[ ${COMP_WORDS[at]} == --act ]] && act=${COMP_WORDS[at + 1]}
@@ -23,9 +24,13 @@ _fed() {
             case ${COMP_WORDS[1]}:$act in
                 authority:) offered='--config --port --connections' ;;
                 check:) offered='--anchor --keys --at' ;;
+                check-config:) offered='--config --at' ;;
                 issue:) offered='--ring --typ' ;;
                 keygen:) offered='--ring --at --exp' ;;
+                public:) offered='--ring --kid' ;;
+                rehearse:) offered='--params' ;;
                 resolve:) offered='--config --sub --anchor' ;;
+                resolver:) offered='--config --port --connections' ;;
                 rotate:) offered='--ring --act --at --exp --kid --reason' ;;
                 rotate:add) offered='--ring --act --at --exp' ;;
                 rotate:retire) offered='--ring --act --kid' ;;

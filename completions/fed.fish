@@ -5,7 +5,10 @@ function __fed_offered
     set -l offered
     switch (count $words):$words[-1]
         case '1:*'
-            printf '%s\n' verify\t'checks an entity configuration under a public key' keygen\t'makes a key and the file of its ring' issue\t'signs claims by a ring'\''s newest live key' rotate\t'changes a key ring' check\t'checks a trust chain for its trust anchor' authority\t'answers connections as an authority' resolve\t'resolves an entity up to a trust anchor' --help\t'shows every command' --version\t'shows the version'
+            printf '%s\n' verify\t'checks an entity configuration under a public key' keygen\t'makes a key and the file of its ring' issue\t'signs claims by a ring'\''s newest live key' rotate\t'changes a key ring' public\t'shows the public keys of a ring' check\t'checks a trust chain for its trust anchor' show\t'shows what a text, a chain or a key set says, unverified' check-config\t'says what is wrong with a node'\''s configuration, or what the node is' authority\t'answers connections as an authority' resolver\t'answers connections as a resolver' resolve\t'resolves an entity up to a trust anchor' rehearse\t'resolves the leaf of a federation in memory twice' help\t'shows how a command is called' --help\t'shows every command' --version\t'shows the version'
+            return
+        case '2:help'
+            printf '%s\n' verify keygen issue rotate public check show check-config authority resolver resolve rehearse help
             return
         case '*:--act'
             printf '%s\n' add retire revoke
@@ -16,7 +19,7 @@ function __fed_offered
         case '*:--typ'
             printf '%s\n' entity-statement+jwt trust-mark+jwt trust-mark-delegation+jwt
             return
-        case '*:--config' '*:--keys' '*:--ring' '*:--anchor' '*:--at' '*:--connections' '*:--exp' '*:--kid' '*:--port' '*:--sub'
+        case '*:--config' '*:--keys' '*:--ring' '*:--anchor' '*:--at' '*:--connections' '*:--exp' '*:--kid' '*:--params' '*:--port' '*:--sub'
             return
     end
     if set -l at (contains -i -- --act $words)
@@ -27,12 +30,20 @@ function __fed_offered
             set offered --config\t'the file of the node'\''s configuration' --port\t'the port that is listened on, 1 to 65535' --connections\t'how many connections are answered, 1 to 1000000'
         case check:
             set offered --anchor\t'the trust anchor'\''s identifier' --keys\t'the file of the trust anchor'\''s key set' --at\t'from when, or for which moment, in seconds since 1970'
+        case check-config:
+            set offered --config\t'the file of the node'\''s configuration' --at\t'from when, or for which moment, in seconds since 1970'
         case issue:
             set offered --ring\t'the file of the key ring' --typ\t'which type of text is signed'
         case keygen:
             set offered --ring\t'the file of the key ring' --at\t'from when, or for which moment, in seconds since 1970' --exp\t'until when, in seconds since 1970'
+        case public:
+            set offered --ring\t'the file of the key ring' --kid\t'the name of a key of the ring'
+        case rehearse:
+            set offered --params\t'how many parameters the leaf'\''s metadata has, 0 to 200'
         case resolve:
             set offered --config\t'the file of the node'\''s configuration' --sub\t'the entity that is resolved' --anchor\t'the trust anchor'\''s identifier'
+        case resolver:
+            set offered --config\t'the file of the node'\''s configuration' --port\t'the port that is listened on, 1 to 65535' --connections\t'how many connections are answered, 1 to 1000000'
         case rotate:
             set offered --ring\t'the file of the key ring' --act\t'what is changed' --at\t'from when, or for which moment, in seconds since 1970' --exp\t'until when, in seconds since 1970' --kid\t'the name of a key of the ring' --reason\t'why the key is revoked'
         case rotate:add

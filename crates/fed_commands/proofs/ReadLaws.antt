@@ -1,23 +1,32 @@
 -- A file or an input that is too long.
 use Rattle.std.proofs.Common.{◌≡◌, ◌<◌, ℕ, List, length, Some, None, cond, refl, ap, subst, arith}
-use Rattle.std.specs.Prelude.{Option, Err, IfSome}
+use Rattle.std.specs.Prelude.{Option, Result, Err, IfOk, IfSome}
 use Rattle.std.proofs.lemmas.Bool.{lt-ltb}
 use Rattle.fed_ports.specs.Stores.{Files, IsFile, Loads, Counted, file_limit}
 use Rattle.fed_ports.specs.declared.store.StoreFault.{StoreFault}
 use Rattle.fed_ports.specs.declared.store.StoreFault.TheVariants.{TooLong}
 use Rattle.fed_commands.specs.Answers.{named, IsNamed, IsTextRead}
+use Rattle.fed_commands.specs.Operations.{IsFileOf}
+use Rattle.fed_commands.specs.declared.answer.Stop.{Stop}
+use Rattle.fed_commands.specs.declared.operation.File.{File}
 use Rattle.fed_ports.specs.Inputs.{EndsAs}
 use Rattle.fed_commands.specs.Streams.{without_line_end}
 use Rattle.fed_words.specs.declared.command.Command.{Command}
 use Rattle.fed_ports.specs.declared.input.ReadEnd.TheVariants as end
 use Rattle.fed_commands.proofs.StreamLaws.{begins}
 
--- the file that a command names is too long
-pub long_file : (c : Command) (files : Option Files) (name : List ℕ) (fault : StoreFault) → fault ≡ TooLong → Some name ≡ named c → Loads files name (Err fault)
-    → (x : Option (List ℕ)) × IsNamed c files x × ((bytes : List ℕ) × (x ≡ Some bytes) × (file_limit < length bytes))
-long_file c files name fault is same loads =
+-- the file of that name is too long
+pub long_file : (files : Option Files) (name : List ℕ) (fault : StoreFault) → fault ≡ TooLong → Loads files name (Err fault)
+    → (x : Option (List ℕ)) × IsFile files name x × ((bytes : List ℕ) × (x ≡ Some bytes) × (file_limit < length bytes))
+long_file files name fault is loads =
     let found : Loads files name (Err TooLong) = subst (λ f. Loads files name (Err f)) is loads in
-    (Some found.0, subst (λ n. IfSome n (λ m. IsFile files m (Some found.0))) same found.1, (found.0, refl, found.2))
+    (Some found.0, found.1, (found.0, refl, found.2))
+
+-- the file of a name is that of the command that names it
+pub named_file : (c : Command) (files : Option Files) (name : List ℕ) (result : Result File Stop) → Some name ≡ named c
+    → IfOk result (λ file. (bytes : Option (List ℕ)) × IsFile files name bytes × IsFileOf file bytes) → IfOk result (λ file. (bytes : Option (List ℕ)) × IsNamed c files bytes × IsFileOf file bytes)
+named_file c files name result same found =
+    subst (λ n. IfOk result (λ file. (bytes : Option (List ℕ)) × IfSome n (λ m. IsFile files m bytes) × IsFileOf file bytes)) same found
 
 -- and no call failed for that
 pub steady_file : (before now : ℕ) (fault : StoreFault) → fault ≡ TooLong → Counted {T = Option (List ℕ)} before now (Err fault) → now ≡ before

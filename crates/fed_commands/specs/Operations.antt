@@ -9,7 +9,7 @@ use Rattle.fed_words.specs.declared.act.Act.{Act}
 use Rattle.fed_words.specs.declared.act.Act.TheVariants.{Add, Retire, Revoke}
 use Rattle.fed_words.specs.declared.command.Command.{Command}
 use Rattle.fed_words.specs.declared.command.Command.TheVariants.{Verify, Keygen, Issue, Rotate, Check, Help, Version, Faulty}
-use Rattle.fed_words.specs.declared.help.TheConstants.{HELP, VERSION}
+use Rattle.fed_help.specs.declared.overview.TheConstants.{HELP, VERSION}
 use Rattle.fed_commands.specs.declared.reply.Reply.{Reply}
 use Rattle.fed_commands.specs.declared.operation.File.{File}
 use Rattle.fed_commands.specs.declared.operation.File.TheVariants.{Absent, TooLong, Whole}

@@ -3,6 +3,7 @@
 ghost use Rattle.std.specs.Prelude.{◌≡◌, ◌≤◌, ℕ, List, None, Option, MatchResult, false, IfErr, IfOk, OnOk};
 ghost use Rattle.std.specs.Option.{option_copied};
 ghost use Rattle.fed_ports.specs.Causes.{HasCause};
+ghost use Rattle.fed_ports.specs.Stores.{IsFile};
 ghost use Rattle.fed_commands.specs.Answers.{named, text_of, wants_input, MayBe, IsNamed, IsRead, IsReached, IsKeptAs, StopsAs, IsTextRead};
 ghost use Rattle.fed_commands.specs.Sealings.{RepliesSealed};
 ghost use Rattle.fed_commands.specs.Streams.{without_line_end};
@@ -62,9 +63,24 @@ fn load<D: Store>(
     ensures stops { IfErr result (λ stop. (source : ℕ) → StopsAs stop source source (D.store_faults store.old) (D.store_faults store.new)) }
     ensures apart { named command.now ≡ None → store.new ≡ store.old }
 {
-    let Some(name) = named(command) else {
-        return Ok(File::Absent);
-    };
+    match named(command) {
+        Some(name) => load_file(alloc, name, store, notes),
+        None => Ok(File::Absent),
+    }
+}
+
+/// The file of that name. No file is changed.
+pub fn load_file<D: Store>(
+    alloc: Global,
+    name: &Text,
+    store: &mut D,
+    notes: &mut Notes,
+) -> Result<File, Stop>
+    ensures files { D.files store.new ≡ D.files store.old }
+    ensures steady { OnOk result (D.store_faults store.new ≡ D.store_faults store.old) }
+    ensures found { IfOk result (λ file. (bytes : Option (List ℕ)) × IsFile (D.files store.old) name.now bytes × IsFileOf file bytes) }
+    ensures stops { IfErr result (λ stop. (source : ℕ) → StopsAs stop source source (D.store_faults store.old) (D.store_faults store.new)) }
+{
     match store.load(alloc, name) {
         Ok(Some(bytes)) => Ok(File::Whole(bytes)),
         Ok(None) => Ok(File::Absent),
@@ -77,8 +93,8 @@ fn load<D: Store>(
     }
 }
 
-// The text of the input, or `None` where it is too long.
-fn read_text<S: Source>(
+/// The text of the input, without the one line end that may stand behind it, or `None` where it has more than 4,194,304 bytes.
+pub fn read_text<S: Source>(
     alloc: Global,
     input: &mut S,
     notes: &mut Notes,

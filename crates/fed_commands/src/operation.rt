@@ -1,25 +1,25 @@
 // What a command is once its file was looked at, and its reply on its input.
 
-ghost use Rattle.std.specs.Prelude.{◌≡◌, IfOk, List, ℕ, Option, Some, unwrap_or};
+ghost use Rattle.std.specs.Prelude.{◌≡◌, IfOk, List, ℕ, Option, Some};
 ghost use Rattle.key_ring.specs.Rings.{Ring};
 ghost use Rattle.fed_commands.specs.Sealings.{IsSealedBySigner};
 ghost use Rattle.fed_commands.specs.Operations.{IsCheckPrepared, IsFileOf, IsKeygenPrepared, IsPerformed, IsPrepared, IsRingFound, IsRingPrepared, issue_prepared, rotate_prepared};
 ghost use Rattle.fed_commands.specs.Replies.{bad_input, plain};
 
-use crate::check::check;
-use crate::check_inputs::read_keys;
+use crate::check::{check, read_keys};
 use crate::issue::issue;
 use crate::keygen::keygen;
 use crate::reply::{Reply, plain};
 use crate::rotate::{add, retire, revoke};
 use crate::verify::verify;
 use entity_id::EntityId;
+use fed_help::{HELP, VERSION};
 use fed_notes::{
     explain_absent_file, explain_existing_file, explain_keys_file, explain_long_file,
     explain_long_input, explain_ring_file, warn_of_ended_key,
 };
 use fed_ports::{Duplicate, Memory, Text};
-use fed_words::{Act, Command, HELP, Moment, TextType, VERSION};
+use fed_words::{Act, Command, Moment, TextType, moment_or};
 use jwk_set::JwkSet;
 use key_ring::{KeyRing, RingFault};
 use plain_notes::Notes;
@@ -109,16 +109,6 @@ pub fn prepare(
     }
 }
 
-// The command's own moment, or the clock's.
-fn moment_or(at: Option<Moment>, moment: u64) -> u64
-    ensures { result ≡ unwrap_or at moment }
-{
-    match at {
-        Some(at) => at.seconds(),
-        None => moment,
-    }
-}
-
 fn answered(alloc: Global, status: u8, text: &[u8]) -> Result<Prepared, Memory>
     ensures { IfOk result (λ prepared. prepared ≡ Prepared.Answered (plain status text.now)) }
 {
@@ -145,8 +135,8 @@ fn prepare_keygen(
     }
 }
 
-// The ring of a file, or `None` where there is none.
-fn open_ring(alloc: Global, file: &File) -> Result<Option<KeyRing>, Memory>
+/// The ring of a file, or `None` where it is that of none: it isn't there, is too long, isn't of its form, or has one key twice.
+pub fn open_ring(alloc: Global, file: &File) -> Result<Option<KeyRing>, Memory>
     ensures { (bytes : Option (List ℕ)) → IsFileOf file.now bytes → IfOk result (IsRingFound bytes) }
 {
     let File::Whole(bytes) = file else {
@@ -160,8 +150,8 @@ fn open_ring(alloc: Global, file: &File) -> Result<Option<KeyRing>, Memory>
     }
 }
 
-// Says why the file isn't that of a ring.
-fn explain_no_ring(alloc: Global, name: &Text, file: &File, notes: &mut Notes) {
+/// Says why the file isn't that of a ring.
+pub fn explain_no_ring(alloc: Global, name: &Text, file: &File, notes: &mut Notes) {
     match file {
         File::Absent => explain_absent_file(alloc, name, notes),
         File::TooLong => explain_long_file(alloc, name, notes),

@@ -166,8 +166,8 @@ fn answer<S: Source, K: Sink, D: Store, C: Clock>(
     }
 }
 
-// The status that says why there is no reply.
-fn stopped(alloc: Global, stop: Stop, notes: &mut Notes) -> u8
+/// The status that says why there is no reply.
+pub fn stopped(alloc: Global, stop: Stop, notes: &mut Notes) -> u8
     ensures { result ≡ stop_status stop }
 {
     match stop {

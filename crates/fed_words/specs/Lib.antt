@@ -1,5 +1,7 @@
 pub mod Acts
 pub mod Commands
+pub mod Inspections
 pub mod Options
+pub mod Rehearsals
 pub mod Services
 pub mod TextTypes

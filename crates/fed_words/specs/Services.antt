@@ -1,10 +1,11 @@
--- What the words ask for over a network: to answer others, or to resolve an entity.
-use Rattle.std.specs.Prelude.{ℕ, List, [], ◌∷◌, ◌==◌, length, codes, bytes_eq, Option, Some, None, if◌then◌else◌}
+-- What the words ask for over a network: to answer others, or to resolve an entity; or over one in memory.
+use Rattle.std.specs.Prelude.{ℕ, List, [], ◌∷◌, ◌==◌, length, codes, bytes_eq, Option, Some, None, option_map, if◌then◌else◌}
 use Rattle.std.specs.Option.{option_and_then}
 use Rattle.entity_id.specs.Identifiers.{identifier_of}
 use Rattle.fed_words.specs.Options.{count_in, option_in}
+use Rattle.fed_words.specs.Rehearsals.{rehearsal_of}
 use Rattle.fed_words.specs.declared.service.Service.{Service}
-use Rattle.fed_words.specs.declared.service.Service.TheVariants.{Authority, Resolve}
+use Rattle.fed_words.specs.declared.service.Service.TheVariants.{Authority, Rehearse, Resolve, Resolver}
 
 -- the service, where the file and both numbers are there
 abbrev pub authority_with : Option (List ℕ) → Option ℕ → Option ℕ → Option Service
@@ -18,6 +19,19 @@ unfoldable pub authority_of : List (List ℕ) → Option Service
 authority_of words =
     if length words == 6
     then authority_with (option_in (codes "--config") words) (count_in (codes "--port") 65535 words) (count_in (codes "--connections") 1000000 words)
+    else None
+
+-- the same for a node that resolves
+abbrev pub resolver_with : Option (List ℕ) → Option ℕ → Option ℕ → Option Service
+resolver_with (Some config) (Some port) (Some connections) = Some (Resolver config port connections)
+resolver_with (Some config) (Some port) None = None
+resolver_with (Some config) None connections = None
+resolver_with None port connections = None
+
+unfoldable pub resolver_of : List (List ℕ) → Option Service
+resolver_of words =
+    if length words == 6
+    then resolver_with (option_in (codes "--config") words) (count_in (codes "--port") 65535 words) (count_in (codes "--connections") 1000000 words)
     else None
 
 -- the entity identifier that the option's value is (OpenID Federation 1.0 section 1.2)
@@ -43,5 +57,7 @@ unfoldable pub service_of : List (List ℕ) → Option Service
 service_of [] = None
 service_of (verb ∷ words) =
     if bytes_eq verb (codes "authority") then authority_of words
+    else (if bytes_eq verb (codes "resolver") then resolver_of words
     else (if bytes_eq verb (codes "resolve") then resolve_of words
-    else None)
+    else (if bytes_eq verb (codes "rehearse") then option_map Rehearse (rehearsal_of words)
+    else None)))

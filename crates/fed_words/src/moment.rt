@@ -1,6 +1,6 @@
 // Moments among the words.
 
-ghost use Rattle.std.specs.Prelude.{◌≡◌, ◌<◌};
+ghost use Rattle.std.specs.Prelude.{◌≡◌, ◌<◌, unwrap_or};
 ghost use Rattle.fed_base.specs.Moments.{moment_limit};
 
 use std::marker::Model;
@@ -37,5 +37,16 @@ impl Moment {
         ensures small { result < moment_limit }
     {
         self.0
+    }
+}
+
+/// The moment that the words give, or else this one, in seconds since 1970.
+pub fn moment_or(given: Option<Moment>, moment: u64) -> u64
+    ensures moment { result ≡ unwrap_or given moment }
+    ensures small { moment < moment_limit → result < moment_limit }
+{
+    match given {
+        Some(given) => given.seconds(),
+        None => moment,
     }
 }

@@ -64,8 +64,8 @@ pub(crate) fn moment_of(word: &[u8]) -> Option<Moment>
     Some(Moment::of(number_of(word)?))
 }
 
-// The number of these decimal digits, without sign and without a leading zero, below 2^62.
-fn number_of(word: &[u8]) -> Option<u64>
+/// The number of these decimal digits, without sign and without a leading zero, below 2^62.
+pub(crate) fn number_of(word: &[u8]) -> Option<u64>
     ensures number { result ≡ number_of word.now }
     ensures small { IfSome result (λ n. n < moment_limit) }
 {

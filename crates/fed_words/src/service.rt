@@ -1,10 +1,12 @@
 // Commands that work over a network.
 
-ghost use Rattle.std.specs.Prelude.{◌≡◌, IfOk, Some, codes};
-ghost use Rattle.fed_words.specs.Services.{authority_of, identifier_in, resolve_of, resolve_with, service_of};
-ghost use Rattle.fed_words.specs.declared.service.Service.TheVariants.{Resolve};
+ghost use Rattle.std.specs.Prelude.{◌≡◌, IfOk, Some, codes, option_map};
+ghost use Rattle.fed_words.specs.Rehearsals.{rehearsal_of};
+ghost use Rattle.fed_words.specs.Services.{authority_of, identifier_in, resolve_of, resolve_with, resolver_of, service_of};
+ghost use Rattle.fed_words.specs.declared.service.Service.TheVariants.{Rehearse, Resolve};
 
 use crate::options::{count_in, option_in};
+use crate::rehearsal::params_in;
 use entity_id::EntityId;
 use fed_base::{Duplicate, Memory, Text};
 use std::alloc::Global;
@@ -15,11 +17,20 @@ pub(crate) const CONNECTIONS: u64 = 1_000_000;
 /// The greatest port.
 pub(crate) const PORTS: u64 = 65_535;
 
-/// What is to be done over a network.
+/// What is to be done over a network, or over one in memory.
 #[derive(Drop)]
 pub enum Service {
     /// `authority --config FILE --port P --connections N`: answer so many connections on a port, as the authority of a configuration file.
     Authority {
+        config_file: Text,
+        /// 1 to 65,535.
+        port: u16,
+        /// 1 to 1,000,000.
+        connections: u64,
+    },
+    /// `resolver --config FILE --port P --connections N`: answer so many connections on a port, some of them at once, as the resolver of a
+    /// configuration file.
+    Resolver {
         config_file: Text,
         /// 1 to 65,535.
         port: u16,
@@ -31,6 +42,11 @@ pub enum Service {
         config_file: Text,
         sub: EntityId,
         anchor: EntityId,
+    },
+    /// `rehearse --params N`: resolve the leaf of a federation in memory, whose metadata has so many parameters.
+    Rehearse {
+        /// 0 to 200.
+        params: u64,
     },
 }
 
@@ -44,11 +60,22 @@ pub fn read_service(alloc: Global, words: &[Text]) -> Result<Option<Service>, Me
     };
     if verb.as_slice() == b"authority".as_slice() {
         read_authority(alloc, rest)
+    } else if verb.as_slice() == b"resolver".as_slice() {
+        read_resolver(alloc, rest)
     } else if verb.as_slice() == b"resolve".as_slice() {
         read_resolve(alloc, rest)
+    } else if verb.as_slice() == b"rehearse".as_slice() {
+        Ok(read_rehearsal(rest))
     } else {
         Ok(None)
     }
+}
+
+fn read_rehearsal(rest: &[Text]) -> Option<Service>
+    ensures { result ≡ option_map Rehearse (rehearsal_of rest.now) }
+{
+    let params = params_in(rest)?;
+    Some(Service::Rehearse { params })
 }
 
 #[tactic(auto, unfolding(crate::specs::Services::authority_of))]
@@ -67,6 +94,25 @@ fn read_authority(alloc: Global, rest: &[Text]) -> Result<Option<Service>, Memor
                 connections,
             }))
         }
+        _ => Ok(None),
+    }
+}
+
+#[tactic(auto, unfolding(crate::specs::Services::resolver_of))]
+fn read_resolver(alloc: Global, rest: &[Text]) -> Result<Option<Service>, Memory>
+    ensures service { IfOk result (λ service. service ≡ resolver_of rest.now) }
+{
+    if rest.len() != 6 {
+        return Ok(None);
+    }
+    let port = count_in(rest, b"--port", PORTS);
+    let connections = count_in(rest, b"--connections", CONNECTIONS);
+    match (option_in(rest, b"--config"), port, connections) {
+        (Some(config_file), Some(port), Some(connections)) => Ok(Some(Service::Resolver {
+            config_file: config_file.copy(alloc)?,
+            port: port as u16,
+            connections,
+        })),
         _ => Ok(None),
     }
 }

@@ -1,10 +1,11 @@
 // Values of options that are out of form.
 
 use crate::options::{count_of, moment_of};
+use crate::rehearsal::params_of;
 use crate::service::{CONNECTIONS, PORTS};
 use crate::text_type::TextType;
-use crate::usages::{Form, OptionName};
 use entity_id::{EntityId, IdFault};
+use fed_help::{Form, OptionName};
 use key_ring::RevokeReason;
 use plain_notes::{Notes, Sentence};
 use std::alloc::Global;
@@ -22,6 +23,10 @@ pub(crate) fn explain_value(
         Form::Connections => unless(
             count_of(value, CONNECTIONS).is_some(),
             b"; it is a number from 1 to 1,000,000, in decimal digits alone",
+        ),
+        Form::Params => unless(
+            params_of(value).is_some(),
+            b"; it is a number from 0 to 200, in decimal digits alone",
         ),
         Form::Port => unless(
             count_of(value, PORTS).is_some(),

@@ -2,6 +2,7 @@
 
 use crate::act::Act;
 use crate::command::{Command, read_command};
+use crate::inspection::{Inspection, read_inspection};
 use fed_base::Text;
 use plain_notes::{Notes, Sentence};
 use std::alloc::Global;
@@ -20,6 +21,9 @@ pub fn explain_waiting(alloc: Global, words: &[Text], notes: &mut Notes) {
 
 // The input that the command of these words wants, or nothing.
 fn wanted_after(alloc: Global, words: &[Text]) -> &'static [u8] {
+    if shows_input(alloc, words) {
+        return b"a signed text, a chain or a key set";
+    }
     match read_command(alloc, words) {
         Ok(command) => {
             let wanted = wanted_by(&command);
@@ -27,6 +31,14 @@ fn wanted_after(alloc: Global, words: &[Text]) -> &'static [u8] {
             wanted
         }
         Err(_) => b"",
+    }
+}
+
+// Whether the words ask to be shown the input.
+fn shows_input(alloc: Global, words: &[Text]) -> bool {
+    match read_inspection(alloc, words) {
+        Ok(Some(Inspection::Show)) => true,
+        _ => false,
     }
 }
 

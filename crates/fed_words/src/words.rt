@@ -3,10 +3,10 @@
 use crate::command::Command;
 use crate::moment_notes::warn_of_moments;
 use crate::options::option_in;
-use crate::usages::{OptionName, USAGES, Usage};
 use crate::values::explain_value;
 use base64url::decode_32;
 use fed_base::Text;
+use fed_help::{OptionName, USAGES, Usage};
 use plain_notes::{Notes, Sentence, is_like};
 use std::alloc::Global;
 
@@ -34,8 +34,10 @@ fn explain_verb(alloc: Global, verb: &[u8], rest: &[Text], notes: &mut Notes) {
         explain_verify(alloc, rest, notes);
     } else if verb == b"--help".as_slice() || verb == b"--version".as_slice() {
         explain_flag(alloc, verb, rest, notes);
-    } else if verb == b"-h".as_slice() || verb == b"help".as_slice() {
+    } else if verb == b"-h".as_slice() {
         say_usages(alloc, notes);
+    } else if verb == b"help".as_slice() {
+        explain_help(alloc, rest, notes);
     } else if verb == b"\xff".as_slice() {
         notes.say(Sentence::of(alloc, b"a word of the command line isn't UTF-8"));
     } else {
@@ -56,6 +58,19 @@ fn explain_verify(alloc: Global, rest: &[Text], notes: &mut Notes) {
         },
         [_, more, ..] => notes.say(
             Sentence::of(alloc, b"verify takes one word, the public key; ")
+                .and(more.as_slice())
+                .and(b" is one too many"),
+        ),
+    }
+}
+
+// Behind `help` stands a command.
+fn explain_help(alloc: Global, rest: &[Text], notes: &mut Notes) {
+    match rest {
+        [] => say_usages(alloc, notes),
+        [command] => explain_unknown(alloc, command.as_slice(), notes),
+        [_, more, ..] => notes.say(
+            Sentence::of(alloc, b"help takes one word, a command; ")
                 .and(more.as_slice())
                 .and(b" is one too many"),
         ),
@@ -247,6 +262,9 @@ fn command_like(word: &[u8]) -> Option<&'static str> {
     if is_like(word, b"verify") {
         return Some("verify");
     }
+    if is_like(word, b"help") {
+        return Some("help");
+    }
     let like = USAGES
         .iter()
         .find(|usage| is_like(word, usage.command.as_bytes()));
@@ -259,6 +277,7 @@ fn say_usages(alloc: Global, notes: &mut Notes) {
     for usage in &USAGES {
         notes.say(usage_line(alloc, usage));
     }
+    notes.say(Sentence::of(alloc, b"usage: fed help COMMAND"));
     notes.say(Sentence::of(alloc, b"usage: fed --help | --version"));
 }
 

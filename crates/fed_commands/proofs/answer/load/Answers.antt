@@ -1,11 +1,7 @@
-use Rattle.fed_commands.proofs.ReadLaws.{long_file, steady_file}
+use Rattle.fed_commands.proofs.ReadLaws.{named_file}
 use Rattle.fed_commands.proofs.answer.load.Goals as goal
 
 -- src/answer.rt
-pub returns-in-Err-TooLong-clause-found : goal.returns-in-Err-TooLong-clause-found
-returns-in-Err-TooLong-clause-found g c =
-    long_file c.args.command.now (g.D.Store.files c.args.store.now) c.in-Some.name.now c.in-Err-TooLong.field-0 c.in-Err-TooLong.field-0-is c.in-Some.ensures c.in-Err-TooLong.ensures.loaded
-
--- src/answer.rt
-pub returns-in-Err-TooLong-clause-steady : goal.returns-in-Err-TooLong-clause-steady
-returns-in-Err-TooLong-clause-steady g c = steady_file _ _ c.in-Err-TooLong.field-0 c.in-Err-TooLong.field-0-is c.in-Err-TooLong.ensures.cause.counted
+pub returns-in-Some-clause-found : goal.returns-in-Some-clause-found
+returns-in-Some-clause-found g c =
+    named_file c.args.command.now (g.D.Store.files c.args.store.now) c.in-Some.name.now c.load_file.result c.in-Some.ensures c.load_file.ensures.found

@@ -9,6 +9,8 @@ pub enum Form {
     Moment,
     /// How many connections are served.
     Connections,
+    /// How many parameters a rehearsal has.
+    Params,
     /// A port.
     Port,
     /// An entity identifier.
@@ -32,6 +34,7 @@ pub enum OptionName {
     Exp,
     Keys,
     Kid,
+    Params,
     Port,
     Reason,
     Ring,
@@ -51,6 +54,7 @@ impl OptionName {
             OptionName::Exp => b"--exp",
             OptionName::Keys => b"--keys",
             OptionName::Kid => b"--kid",
+            OptionName::Params => b"--params",
             OptionName::Port => b"--port",
             OptionName::Reason => b"--reason",
             OptionName::Ring => b"--ring",
@@ -66,7 +70,7 @@ impl OptionName {
             OptionName::Anchor | OptionName::Sub => b"ID",
             OptionName::At | OptionName::Exp => b"T",
             OptionName::Config | OptionName::Keys | OptionName::Ring => b"FILE",
-            OptionName::Connections => b"N",
+            OptionName::Connections | OptionName::Params => b"N",
             OptionName::Kid => b"KID",
             OptionName::Port => b"P",
             OptionName::Reason => b"R",
@@ -83,6 +87,7 @@ impl OptionName {
             OptionName::Config | OptionName::Keys | OptionName::Kid | OptionName::Ring =>
                 Form::Word,
             OptionName::Connections => Form::Connections,
+            OptionName::Params => Form::Params,
             OptionName::Port => Form::Port,
             OptionName::Reason => Form::Reason,
             OptionName::Typ => Form::TextType,
@@ -104,8 +109,8 @@ pub struct Usage {
     pub input: &'static str,
 }
 
-/// All commands but `verify`, which takes one word, and the flags, which stand alone.
-pub const USAGES: [Usage; 8] = [
+/// All commands but `verify` and `help`, which take one word, and the flags, which stand alone.
+pub const USAGES: [Usage; 13] = [
     Usage {
         command: "keygen",
         act: "",
@@ -153,11 +158,32 @@ pub const USAGES: [Usage; 8] = [
         input: "",
     },
     Usage {
+        command: "public",
+        act: "",
+        needed: &[OptionName::Ring],
+        free: &[OptionName::Kid],
+        input: "",
+    },
+    Usage {
         command: "check",
         act: "",
         needed: &[OptionName::Anchor, OptionName::Keys],
         free: &[OptionName::At],
         input: "CHAIN",
+    },
+    Usage {
+        command: "show",
+        act: "",
+        needed: &[],
+        free: &[],
+        input: "TEXT",
+    },
+    Usage {
+        command: "check-config",
+        act: "",
+        needed: &[OptionName::Config],
+        free: &[OptionName::At],
+        input: "",
     },
     Usage {
         command: "authority",
@@ -171,9 +197,27 @@ pub const USAGES: [Usage; 8] = [
         input: "",
     },
     Usage {
+        command: "resolver",
+        act: "",
+        needed: &[
+            OptionName::Config,
+            OptionName::Port,
+            OptionName::Connections,
+        ],
+        free: &[],
+        input: "",
+    },
+    Usage {
         command: "resolve",
         act: "",
         needed: &[OptionName::Config, OptionName::Sub, OptionName::Anchor],
+        free: &[],
+        input: "",
+    },
+    Usage {
+        command: "rehearse",
+        act: "",
+        needed: &[OptionName::Params],
         free: &[],
         input: "",
     },

@@ -1,0 +1,80 @@
+// The pages of the commands that check and show what others wrote.
+
+/// The page of `verify`.
+pub(crate) const VERIFY: &[u8] = b"fed verify PUB < TEXT
+
+Checks one entity configuration under a public key. The text's own keys, its kid
+and its moments aren't looked at.
+
+words    PUB          the public key, PK.seed and PK.root (FIPS 205): 43
+                      base64url characters
+input    the configuration, a text in JWS compact serialization of at most
+         262,144 bytes
+output   valid <sub>       it is the configuration of that entity
+         refused Form      it is no entity statement
+         refused Names     its iss isn't its sub
+         refused Signature the signature doesn't verify under PUB
+         input             the input has more than 4,194,304 bytes
+status   0 valid, 1 refused, 2 words or input, 3 the input can't be read, 4 the
+         output can't be written, 5 memory was wanting
+example  fed verify \"$(cat examples/rp.pub)\" < examples/rp.jwt
+";
+
+/// The page of `check`.
+pub(crate) const CHECK: &[u8] = b"fed check --anchor ID --keys FILE [--at T] < CHAIN
+
+Checks a trust chain for a trust anchor, under the keys that it is known by.
+
+words    --anchor ID  the anchor's identifier, a URL
+         --keys FILE  a file with the anchor's keys, a JWK Set
+         --at T       the moment for which it is checked, in seconds since 1970;
+                      without it, now
+input    a JSON list of at most 10 texts: the leaf's configuration, the
+         statement about the leaf, and so on up to the anchor's configuration
+output   valid <leaf> <exp> the chain is valid until exp; a second line has the
+                            leaf's metadata under the merged policy
+         refused <place> R  the first place, from the leaf's 0 on, that fails,
+                            and why: R is Form, Names, Times, Signature,
+                            PathLength, Name, Conflict .. or Policy ..
+         input              the file or the input isn't of its form
+status   0 valid, 1 refused, 2 words or input, 3 the input can't be read, 4 the
+         output can't be written, 5 memory was wanting, 6 the file can't be read
+example  fed check --anchor https://ta.example --keys examples/ta.keys.json \\
+             --at 1800000000 < examples/rp.chain.json
+";
+
+/// The page of `show`.
+pub(crate) const SHOW: &[u8] = b"fed show < TEXT
+
+Shows what a signed text, a chain or a key set says: header and claims indented,
+moments with their dates, keys by their thumbprints. Nothing is verified.
+
+words    none
+input    a text in JWS compact serialization; a chain, a JSON list of such
+         texts; or a JWK Set
+output   the parts, and then what they are: an entity's configuration, a
+         statement, a trust mark, a delegation, a status, a key set; or, by
+         name, the first reason why they aren't
+         refused R    the reason, as in docs/COMMANDS.md
+         input        the input is JSON of another kind, or has more than
+                      4,194,304 bytes; nothing else is written then
+status   0 it is what it says, 1 refused, 2 words or input, 3 the input can't be
+         read, 4 the output can't be written, 5 memory was wanting
+example  fed show < examples/rp.jwt
+";
+
+/// The page of `help`.
+pub(crate) const HELP_PAGE: &[u8] = b"fed help COMMAND
+
+Shows how a command is called: its words, its input, what it writes, its
+statuses, and an example.
+
+words    COMMAND      verify, keygen, issue, rotate, public, check, show,
+                      check-config, authority, resolver, resolve, rehearse
+                      or help
+input    none is read
+output   the page
+status   0 shown, 2 there is no such command, 4 the output can't be written, 5
+         memory was wanting
+example  fed help check
+";
