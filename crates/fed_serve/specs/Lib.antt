@@ -1,4 +1,5 @@
 pub mod Authorities
+pub mod Desks
 pub mod Handlings
 pub mod Moments
 pub mod Places

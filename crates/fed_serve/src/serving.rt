@@ -14,6 +14,7 @@ use crate::answer::answer_to;
 use crate::node::Node;
 use crate::send::send_answer;
 use crate::served::Served;
+use crate::time::{ByClock, TimeSource};
 use fed_ports::{Clock, Ledger, Link, Peer, Steps};
 use http_plain::{Incoming, ReadEnd, read_request};
 use statement_shelf::FedPass;
@@ -81,8 +82,33 @@ pub fn serve_one<R: Wait, P: Peer, L: Link, C: Clock, G: Ledger>(
         (call_at (known pass.new) (L.web link.new) (L.calls link.new) (L.link_faults link.new) (G.count steps.new.ledger)))
         result }
 {
+    serve_by::<R, P, L, C, ByClock, G>(node, rt, alloc, pass, peer, link, clock, steps)
+}
+
+// `serve_one`, with the moment from any source.
+pub(crate) fn serve_by<R: Wait, P: Peer, L: Link, C, S: TimeSource<C>, G: Ledger>(
+    node: &Node,
+    rt: &R,
+    alloc: Global,
+    pass: &mut FedPass,
+    peer: &mut P,
+    link: &mut L,
+    clock: &mut C,
+    steps: &mut Steps<G>,
+) -> Result<Served, ServeFault>
+    requires of { IfSome node.now.resolver (λ part. IsPassOfAll part.commons pass.old) }
+    ensures kept { IfSome node.now.resolver (λ part. IsKept part.commons pass.old pass.new) }
+    ensures serves { Serves node.now (GaveAll L.gave link.old link.new)
+        (around (peer_at (P.left peer.old) (P.held peer.old) (P.read_faults peer.old) (P.write_faults peer.old))
+        (clock_at (S.readings clock.old) (S.last clock.old) (S.told clock.old))
+        (call_at (known pass.old) (L.web link.old) (L.calls link.old) (L.link_faults link.old) (G.count steps.old.ledger)))
+        (around (peer_at (P.left peer.new) (P.held peer.new) (P.read_faults peer.new) (P.write_faults peer.new))
+        (clock_at (S.readings clock.new) (S.last clock.new) (S.told clock.new))
+        (call_at (known pass.new) (L.web link.new) (L.calls link.new) (L.link_faults link.new) (G.count steps.new.ledger)))
+        result }
+{
     let came = read(alloc, peer)?;
-    let t = clock.now();
+    let t = S::now(clock);
     let answer = answer_to(node, rt, alloc, pass, &came, link, t, steps);
     drop(came);
     match answer {

@@ -7,7 +7,7 @@ use Rattle.fed_serve.specs.Moments.{peer_at}
 use Rattle.fed_serve.specs.Steps.{IsAnswer}
 use Rattle.fed_serve.proofs.Asking.{has_reason}
 use Rattle.fed_serve.proofs.Outcomes.{answered}
-use Rattle.fed_serve.proofs.serving.serve_one.Goals as goal
+use Rattle.fed_serve.proofs.serving.serve_by.Goals as goal
 
 pub send_answer-requires : goal.send_answer-requires
 send_answer-requires g c =
@@ -33,7 +33,7 @@ returns-in-Ok-clause-serves g c =
     (record {
       clock = record {
         counted = c.now-t.ensures.counted;
-        added = subst (Told (g.C.Clock.readings c.args.clock.now) (g.C.Clock.told c.args.clock.now) (g.C.Clock.told c.now-t.new.self)) (sym c.now-t.ensures.last) c.now-t.ensures.told;
+        added = subst (Told (g.S.TimeSource.readings c.args.clock.now) (g.S.TimeSource.told c.args.clock.now) (g.S.TimeSource.told c.now-t.new.clock)) (sym c.now-t.ensures.last) c.now-t.ensures.told;
       };
       answer = subst (λ t. IsAnswer node walks t before now c.in_ok-came.came (Ok c.in-Ok.answer)) (sym c.now-t.ensures.last) c.in-Ok.ensures.answer;
     })
