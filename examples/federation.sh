@@ -1,6 +1,7 @@
 #!/usr/bin/env bash
 # Starts a federation on loopback: a trust anchor, an intermediate below it and a leaf, each answering for itself on an address and a port
-# of its own. Gets every statement with curl, checks the chain that they make, resolves the leaf, and stops all that it started.
+# of its own. Gets every statement with curl, checks the chain that they make, resolves the leaf, lets a resolver answer those who ask for it,
+# and stops all that it started.
 set -euo pipefail
 here=$(cd "$(dirname "$0")/.." && pwd)
 folder=$(mktemp -d)
@@ -24,9 +25,9 @@ key() {
     chmod 600 "$1.ring"
 }
 
-# start NAME ADDRESS PORT: answers as the node of NAME.json
+# start COMMAND NAME ADDRESS PORT: answers as the node of NAME.json
 start() {
-    FED_LISTEN=$2 "$here/fed" authority --config "$1.json" --port "$3" --connections 1000 >"$1.out" 2>"$1.log" &
+    FED_LISTEN=$3 "$here/fed" "$1" --config "$2.json" --port "$4" --connections 1000 >"$2.out" 2>"$2.log" &
     started+=($!)
 }
 
@@ -36,7 +37,7 @@ get() {
     echo "  $(wc -c <"$1") bytes from $2"
 }
 
-anchor_port=$(port) middle_port=$(port) leaf_port=$(port)
+anchor_port=$(port) middle_port=$(port) leaf_port=$(port) resolver_port=$(port)
 anchor=http://127.0.0.1:$anchor_port middle=http://127.0.0.2:$middle_port leaf=http://127.0.0.3:$leaf_port
 anchor_key=$(key anchor) middle_key=$(key middle) leaf_key=$(key leaf) resolver_key=$(key resolver)
 
@@ -56,9 +57,9 @@ cat >leaf.json <<END
  "metadata":{"openid_relying_party":{"client_name":"A","grant_types":["authorization_code","implicit"]}}}
 END
 
-start anchor 127.0.0.1 "$anchor_port"
-start middle 127.0.0.2 "$middle_port"
-start leaf 127.0.0.3 "$leaf_port"
+start authority anchor 127.0.0.1 "$anchor_port"
+start authority middle 127.0.0.2 "$middle_port"
+start authority leaf 127.0.0.3 "$leaf_port"
 echo "a trust anchor at $anchor, an intermediate at $middle, a leaf at $leaf:"
 get leaf.jwt "$leaf/.well-known/openid-federation"
 get middle-about-leaf.jwt "$middle/fetch?sub=$leaf"
@@ -75,15 +76,27 @@ echo "the leaf's chain:"
 # a resolver knows the anchor by its keys, and reaches each host by a route
 cat >resolver.json <<END
 {"entity_id":"https://resolver.example","ring":"resolver.ring","lifetime":86400,
- "resolver":{"anchors":[{"entity_id":"$anchor","jwks":{"keys":[$anchor_key]}}],"age":600,"workers":1,"control":{"keys":[$resolver_key]},
+ "resolver":{"anchors":[{"entity_id":"$anchor","jwks":{"keys":[$anchor_key]}}],"age":600,"workers":4,"control":{"keys":[$resolver_key]},
    "routes":[{"host":"127.0.0.1","ip":"127.0.0.1","port":$anchor_port},{"host":"127.0.0.2","ip":"127.0.0.2","port":$middle_port},
      {"host":"127.0.0.3","ip":"127.0.0.3","port":$leaf_port}]}}
 END
 "$here/fed" resolve --config resolver.json --sub "$leaf" --anchor "$anchor" >reply.jwt
-echo "the leaf as the resolver found it, $(wc -c <reply.jwt) bytes that are signed:"
-python3 - reply.jwt <<'END'
+told() {
+    python3 - "$1" <<'END'
 import base64, json, sys
 claims = json.loads(base64.urlsafe_b64decode(open(sys.argv[1]).read().split(".")[1] + "=="))
 print("  by", claims["iss"], "for", claims["exp"] - claims["iat"], "seconds, with a chain of", len(claims["trust_chain"]), "texts:")
 print(" ", json.dumps(claims["metadata"]["openid_relying_party"]))
 END
+}
+echo "the leaf as the resolver found it, $(wc -c <reply.jwt) bytes that are signed:"
+told reply.jwt
+
+# the same for those who ask over HTTP: the first has to wait for the pages, the others find them in the cache
+start resolver resolver 127.0.0.4 "$resolver_port"
+resolver=http://127.0.0.4:$resolver_port
+echo "a resolver at $resolver, which is asked four times:"
+for number in 1 2 3 4; do
+    get "answer-$number.jwt" "$resolver/resolve?sub=$leaf&trust_anchor=$anchor"
+done
+told answer-4.jwt

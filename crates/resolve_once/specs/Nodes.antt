@@ -32,6 +32,10 @@ configured_keys anchor anchors = option_map (λ entity. entity.keys) (find (is_n
 abbrev pub anchor_keys : AnchorPart → AnchorKeys
 anchor_keys part = record { anchor = part.anchor; keys = part.keys }
 
+-- what the book has, as the configuration has it
+abbrev pub told_anchor : AnchorKeys → Entity
+told_anchor a = record { id = a.anchor; keys = a.keys.keys }
+
 -- the keys that a book gives an anchor
 abbrev pub booked_keys : Identifier → List AnchorKeys → Option (List Jwk)
 booked_keys anchor anchors = option_map (λ (set : JwkSet). set.keys) (keys_of anchor anchors)

@@ -1,5 +1,5 @@
 -- What holds between the steps of a call.
-use Rattle.std.specs.Prelude.{◌≡◌, ℕ, List, Some, IfOk, Err}
+use Rattle.std.specs.Prelude.{◌≡◌, ℕ, List, map, Some, IfOk, Err}
 use Rattle.std.specs.declared.snapshot.Snapshot.{Snapshot}
 use Rattle.fed_base.specs.Counts.{Rose}
 use Rattle.entity_statement.specs.Claims.{Identifier}
@@ -32,7 +32,7 @@ use Rattle.fed_resolver.specs.Uses.{CountsFaults}
 use Rattle.resolve_once.specs.declared.parts.Parts.{Parts}
 use Rattle.resolve_once.specs.Calls.{Around}
 use Rattle.resolve_once.specs.Exchanged.{ExchangedBy}
-use Rattle.resolve_once.specs.Nodes.{HasKeys, booked_keys, configured_keys, signer_of}
+use Rattle.resolve_once.specs.Nodes.{HasKeys, booked_keys, configured_keys, signer_of, told_anchor}
 
 -- the parts are those of a node that resolves
 pub record ArePartsOf (node : Node) (parts : Parts) : Type 0 where
@@ -41,6 +41,7 @@ pub record ArePartsOf (node : Node) (parts : Parts) : Type 0 where
   pub seeds : List ℕ
   pub signs : signer_seeds node.ring ≡ Some seeds
   pub signer : parts.signer ≡ signer_of node resolver seeds
+  pub listed : map told_anchor parts.anchors ≡ resolver.anchors
   pub anchors : (anchor : Identifier) → booked_keys anchor parts.anchors ≡ configured_keys anchor resolver.anchors
   pub routes : parts.routes ≡ resolver.routes
 

@@ -14,17 +14,17 @@ use std::alloc::Global;
 
 /// What a node resolves with.
 #[derive(Drop)]
-pub(crate) struct Parts {
+pub struct Parts {
     /// Who signs the reply.
-    pub(crate) signer: Signer,
+    pub signer: Signer,
     /// The trust anchors with their keys.
-    pub(crate) anchors: Seq<AnchorKeys>,
+    pub anchors: Seq<AnchorKeys>,
     /// Where hosts are reached.
-    pub(crate) routes: Seq<Route>,
+    pub routes: Seq<Route>,
 }
 
-/// What the node resolves with.
-pub(crate) fn parts_of(alloc: Global, registry: &Registry) -> Result<Parts, Memory>
+/// What the node of a configuration that has the member `resolver` resolves with.
+pub fn parts_of(alloc: Global, registry: &Registry) -> Result<Parts, Memory>
     requires { IsResolver registry.now }
     ensures { IfOk result (ArePartsOf registry.now) }
 {

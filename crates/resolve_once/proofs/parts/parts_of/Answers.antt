@@ -1,7 +1,7 @@
 use Rattle.std.proofs.Common.{rules, ◌≡◌, map, Some, ap, ◌∙◌}
 use Rattle.node_config.specs.Told.{told_resolver}
-use Rattle.resolve_once.specs.Nodes.{anchor_keys, booked_keys}
-use Rattle.resolve_once.proofs.AnchorLaws.{booked}
+use Rattle.resolve_once.specs.Nodes.{anchor_keys, booked_keys, told_anchor}
+use Rattle.resolve_once.proofs.AnchorLaws.{booked, listed}
 use Rattle.resolve_once.proofs.parts.parts_of.Goals as goal
 
 pub returns : goal.returns
@@ -13,6 +13,7 @@ returns c =
       seeds = c.signer.result.now;
       signs = c.signer.ensures;
       signer = search (rules, c.in_ok-iss.ensures, c.id.ensures, c.twin.ensures);
+      listed = ap (map told_anchor) (c.in_ok-anchors.ensures ∙ ap (map anchor_keys) c.as_slice.ensures) ∙ listed c.in-Some.part.now.anchors;
       anchors = λ anchor. ap (booked_keys anchor) (c.in_ok-anchors.ensures ∙ ap (map anchor_keys) c.as_slice.ensures) ∙ booked anchor c.in-Some.part.now.anchors;
       routes = c.in_ok-routes.ensures;
     }

@@ -1,0 +1,5 @@
+mod BatchLaws
+mod ConfigLaws
+mod DeskLaws
+mod EndLaws
+mod NodeLaws

@@ -1,0 +1,13 @@
+use Rattle.turn_log.specs.Groups.{known}
+use Rattle.resolver_service.proofs.EndLaws.{has_served, pass_of}
+use Rattle.resolver_service.proofs.service.serve_listening.Goals as goal
+
+pub serve_batches-served-requires-clause-of : goal.serve_batches-served-requires-clause-of
+serve_batches-served-requires-clause-of g c = λ lives within. pass_of (record { opened = c.args.opened.now; pass = c.args.pass }) c.in-Some.part c.requires.start c.in-Some.is
+
+pub returns-in-Ok-clause-ends : goal.returns-in-Ok-clause-ends
+returns-in-Ok-clause-ends g c = λ node is. (
+  has_served _ node c.args.opened.now c.in-Some.part c.args.connections _ _ (known c.args.pass) (known c.serve_batches-served.new.pass) is c.in-Some.is
+      (record { parts = c.requires.start.unused.parts_unused; book = c.requires.start.unused.book_unused }) c.in-Ok.ensures.serves c.is_history.ensures,
+  c.in-Ok.ensures.stops,
+)

@@ -1,0 +1,90 @@
+-- How serving as a resolver ends.
+use Rattle.std.specs.Prelude.{◌≡◌, ℕ, [], Option, Some, None}
+use Rattle.fed_base.specs.Counts.{Rose}
+use Rattle.fed_base.specs.declared.ledger.Plain.{Plain}
+use Rattle.fed_ports.specs.Stores.{Files}
+use Rattle.http_plain.specs.declared.link.HttpLink.{HttpLink}
+use Rattle.node_config.specs.Nodes.{Resolver}
+use Rattle.authority_core.specs.Nodes.{Node as Authority}
+use Rattle.turn_log.specs.Groups.{IsHistory, known}
+use Rattle.turn_log.specs.Runs.{call_limit}
+use Rattle.statement_shelf.specs.Book.{BookStep, opened_with}
+use Rattle.statement_shelf.specs.Passes.{CommonsKnown}
+use Rattle.statement_shelf.specs.Shelf.{ShelfStep}
+use Rattle.resolve_pages.specs.Acts.{HasCounted}
+use Rattle.fed_serve.specs.declared.node.Node.{Node}
+use Rattle.fed_serve.specs.Desks.{NetworkAt, Views}
+use Rattle.fed_serve.specs.Moments.{ClockAt}
+use Rattle.node_service.specs.Ends.{Order}
+use Rattle.node_service.specs.NodeFiles.{IsNodeOf, IsResolver}
+use Rattle.resolver_service.specs.declared.ending.ResolverEnd.{ResolverEnd}
+use Rattle.resolver_service.specs.declared.ending.ResolverEnd.TheVariants as ends
+use Rattle.resolver_service.specs.Batches.{ServesAll, setup, standing}
+use Rattle.resolver_service.specs.Nodes.{HasSeenNothing, IsNodeWith}
+
+-- the network and the clock at one moment
+pub record Around (P : Type 0) : Type 0 where
+  pub net : NetworkAt P
+  pub clock : ClockAt
+
+-- the same with the files, where they are told, and how often the store failed
+pub record At (P : Type 0) : Type 0 where
+  pub files : Option Files
+  pub store_faults : ℕ
+  pub around : Around P
+
+abbrev pub around : {P : Type 0} → NetworkAt P → ClockAt → Around P
+around net clock = record { net = net; clock = clock }
+
+abbrev pub at_moment : {P : Type 0} → Option Files → ℕ → Around P → At P
+at_moment files store_faults seen = record { files = files; store_faults = store_faults; around = seen }
+
+-- the same, where the network listens on this port
+abbrev pub on_port : {P : Type 0} → ℕ → Around P → Around P
+on_port port seen = record seen { net = record seen.net { port = Some port } }
+
+-- no file is that of a node that resolves, where the files are told
+abbrev pub HasNoNode : Order → Option Files → Type 0
+HasNoNode order files = (node : Authority) → IsNodeOf files order.config node → IsResolver node → files ≡ None
+
+-- neither the store nor the network failed
+abbrev pub IsSteady : {P : Type 0} → At P → At P → Type 0
+IsSteady before now = (now.store_faults ≡ before.store_faults) × (now.around.net.faults ≡ before.around.net.faults)
+
+module _ {P N C : Type 0} where
+  -- so many connections were served by this node, batch by batch, over one cache and one book: one pass has all their calls, and no others
+  -- but the Purge before each batch, and it has seen of each shared object a legal list of calls, from the empty part and the configured
+  -- book on
+  pub record HasServed (views : Views P (HttpLink N) C Plain) (node : Authority) (connections : ℕ) (before now : Around P) (joined : CommonsKnown) : Type 0 where
+    pub resolver : Resolver
+    pub full : Node
+    pub is_full : IsNodeWith node resolver full
+    pub first : CommonsKnown
+    pub unseen : HasSeenNothing first
+    pub serves : ServesAll (setup views full resolver.routes) resolver.workers connections (standing before.net first before.clock) (standing now.net joined now.clock)
+    pub history : IsHistory ShelfStep [] BookStep (opened_with is_full.is.anchors) joined
+
+  -- the same by the node of the file, on the port
+  abbrev pub HasServedFile : Views P (HttpLink N) C Plain → Order → At P → At P → CommonsKnown → Type 0
+  HasServedFile views order before now joined =
+      (node : Authority) × IsNodeOf before.files order.config node × HasServed views node order.post.connections (on_port order.post.port before.around) now.around joined
+
+  -- by each end: what was done, or why not all was, and that nothing else failed
+  abbrev pub EndsBy : Views P (HttpLink N) C Plain → Order → At P → At P → ResolverEnd → Type 0
+  -- all connections were served
+  EndsBy views order before now (ends.Served pass) = HasServedFile views order before now (known pass) × IsSteady before now
+  -- a file isn't there or not of its form, or the node doesn't resolve; nobody was accepted, and the clock wasn't read
+  EndsBy views order before now ends.Input = HasNoNode order before.files × (now.around ≡ before.around) × (now.store_faults ≡ before.store_faults)
+  -- a file couldn't be read
+  EndsBy views order before now ends.StoreFailed = Rose before.store_faults now.store_faults × (now.around ≡ before.around)
+  -- nobody could be listened to, or the next connection not be accepted
+  EndsBy views order before now ends.NetworkFailed = Rose before.around.net.faults now.around.net.faults × (now.store_faults ≡ before.store_faults)
+  EndsBy views order before now ends.Memory = IsSteady before now
+  -- a shared object has counted all calls that it can, which the pass has seen
+  EndsBy views order before now (ends.Worn pass) = HasCounted (known pass) call_limit × IsSteady before now
+
+  -- how it ended; no file is changed, and no connection opened
+  pub record Ends (views : Views P (HttpLink N) C Plain) (order : Order) (before now : At P) (result : ResolverEnd) : Type 0 where
+    pub ended : EndsBy views order before now result
+    pub files : now.files ≡ before.files
+    pub exchanges : now.around.net.exchanges ≡ before.around.net.exchanges

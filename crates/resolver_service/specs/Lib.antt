@@ -1,0 +1,5 @@
+pub mod Batches
+pub mod Ends
+pub mod Faults
+pub mod Nodes
+pub mod Steps

@@ -1,0 +1,36 @@
+-- The node that a resolver serves as, made of a configuration file and its ring.
+use Rattle.std.specs.Prelude.{◌≡◌, ℕ, List, map, Some}
+use Rattle.key_ring.specs.Sets.{signer_seeds}
+use Rattle.node_config.specs.Nodes.{Resolver}
+use Rattle.authority_core.specs.Nodes.{Node as Authority}
+use Rattle.turn_log.specs.Passes.{unused}
+use Rattle.statement_shelf.specs.Book.{opened_with}
+use Rattle.statement_shelf.specs.Passes.{CommonsKnown, opened_book}
+use Rattle.statement_shelf.specs.declared.calls.AnchorKeys.{AnchorKeys}
+use Rattle.resolver_answers.specs.declared.part.ResolverPart.{ResolverPart}
+use Rattle.fed_serve.specs.declared.node.Node.{Node}
+use Rattle.resolve_once.specs.Nodes.{signer_of, told_anchor}
+
+-- the part signs by the node's newest live key, keeps pages for the configured age, obeys the configured control keys, and its book was
+-- opened with the configured trust anchors
+pub record IsPartOf (node : Authority) (resolver : Resolver) (part : ResolverPart) : Type 0 where
+  pub seeds : List ℕ
+  pub signs : signer_seeds node.ring ≡ Some seeds
+  pub signer : part.signer ≡ signer_of node resolver seeds
+  pub control : part.control.keys ≡ resolver.control
+  pub anchors : List AnchorKeys
+  pub listed : map told_anchor anchors ≡ resolver.anchors
+  pub opened : opened_book part.commons ≡ opened_with anchors
+
+-- the node that serves is that of the file, with such a part
+pub record IsNodeWith (node : Authority) (resolver : Resolver) (full : Node) : Type 0 where
+  pub resolves : node.settings.resolver ≡ Some resolver
+  pub registry : full.registry ≡ node
+  pub part : ResolverPart
+  pub has : full.resolver ≡ Some part
+  pub is : IsPartOf node resolver part
+
+-- nothing was seen of any shared object, and no call was made
+pub record HasSeenNothing (known : CommonsKnown) : Type 0 where
+  pub parts : (p : ℕ) → known.part p ≡ unused
+  pub book : known.book ≡ unused

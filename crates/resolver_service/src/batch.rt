@@ -1,0 +1,289 @@
+// One batch of connections: a desk for each, and what is left of the desks once all are served.
+
+ghost use Rattle.std.specs.Prelude.{◌≡◌, All, OnOk, Some, Ok, true, false, is_some};
+ghost use Rattle.fed_ports.specs.Lists.{Added};
+ghost use Rattle.fed_serve.specs.Desks.{network_at, views_of};
+ghost use Rattle.fed_serve.specs.Moments.{clock_at, peer_at};
+ghost use Rattle.resolver_answers.specs.Resolutions.{call_at};
+ghost use Rattle.statement_shelf.specs.Passes.{CommonsKnown, IsPassOfAll};
+ghost use Rattle.turn_log.specs.Groups.{AreJoined, known};
+ghost use Rattle.turn_log.specs.Runs.{call_limit};
+ghost use Rattle.resolve_pages.specs.Acts.{HasCounted};
+ghost use Rattle.resolver_service.specs.Batches.{AreEnded, ServesDesks, is_worn, peers_of, progress, service_views, setup, standing};
+ghost use Rattle.resolver_service.specs.Steps.{IfWorn, IsDone, IsPurged, IsReady, IsServedBatch, StopsBy};
+
+use crate::desks::add_desks;
+use crate::node::Opened;
+use crate::stop::Stop;
+use fed_base::Memory;
+use fed_ports::{Clock, Ledger, Link, Network};
+use fed_serve::{Desk, Node, ResolverPart, ServeFault, serve_many};
+use statement_shelf::{FedPass, ShelfCall};
+use std::alloc::Global;
+use std::sync::Wait;
+use std::thread::Threads;
+
+// Drops from the cache what is stale at the moment.
+fn purge<R: Wait>(
+    part: &ResolverPart,
+    rt: &R,
+    alloc: Global,
+    pass: &mut FedPass,
+    moment: u64,
+) -> Result<(), Stop>
+    requires of { IsPassOfAll part.now.commons pass.old }
+    ensures of { IsPassOfAll part.now.commons pass.new }
+    ensures purged { OnOk result (IsPurged moment (known pass.old) (known pass.new)) }
+    ensures worn { IfWorn (known pass.new) result }
+{
+    match part
+        .commons
+        .shelf(rt, alloc, pass, ShelfCall::Purge { moment })
+    {
+        Ok(dropped) => {
+            drop(dropped);
+            Ok(())
+        }
+        Err(_) => Err(Stop::Worn),
+    }
+}
+
+// Whether an object that was called at the desk is worn.
+fn is_worn<P, L, C, G: Ledger>(desk: &Desk<P, L, C, G>) -> bool
+    ensures { result ≡ is_worn desk.now.result }
+{
+    matches!(&desk.result, Some(Err(ServeFault::Worn(_))))
+}
+
+// The pass and the peer of a desk, of which the rest is let go.
+fn parted<P: Drop, L: Drop, C: Drop, G: Ledger + Drop>(
+    desk: Desk<P, L, C, G>,
+) -> (FedPass, Option<P>)
+    ensures { (result.0 ≡ desk.pass) × (result.1 ≡ desk.peer) }
+{
+    let Desk {
+        pass,
+        peer,
+        link,
+        clock,
+        steps,
+        result,
+    } = desk;
+    drop(link);
+    drop(clock);
+    drop(steps);
+    drop(result);
+    (pass, peer)
+}
+
+// Takes the peer back, where there is one.
+fn settle_peer<N: Network>(alloc: Global, net: &mut N, peer: Option<N::Peer>) -> Result<(), Memory>
+    ensures settled { OnOk result (Added (N.settled net.old) (peers_of peer) (N.settled net.new)) }
+    ensures callers { N.callers net.new ≡ N.callers net.old }
+    ensures port { N.port net.new ≡ N.port net.old }
+    ensures exchanges { N.exchanges net.new ≡ N.exchanges net.old }
+    ensures faults { N.faults net.new ≡ N.faults net.old }
+{
+    match peer {
+        Some(peer) => net.settle(alloc, peer),
+        None => Ok(()),
+    }
+}
+
+// Joins the pass of a desk to the one pass, unless the batch has stopped. That of a desk where an object was worn takes its place.
+fn take_in<R>(
+    part: &ResolverPart,
+    rt: &R,
+    pass: &mut FedPass,
+    own: FedPass,
+    is_worn: bool,
+    so_far: Result<(), Stop>,
+) -> Result<(), Stop>
+    requires of { IsPassOfAll part.now.commons pass.old }
+    requires own_of { IsPassOfAll part.now.commons own }
+    requires own_worn { is_worn ≡ true → HasCounted (known own) call_limit }
+    requires worn { IfWorn (known pass.old) so_far }
+    ensures of { IsPassOfAll part.now.commons pass.new }
+    ensures worn { IfWorn (known pass.new) result }
+    ensures joined { OnOk result ((so_far ≡ Ok tt) × (is_worn ≡ false) × AreJoined (known pass.old) (known own) (known pass.new)) }
+{
+    if so_far.is_err() {
+        drop(own);
+        so_far
+    } else if is_worn {
+        *pass = own;
+        Err(Stop::Worn)
+    } else {
+        part.commons.join(rt, pass, own);
+        Ok(())
+    }
+}
+
+// What both say: the first fault of the two.
+fn first_fault(taken: Result<(), Stop>, settled: Result<(), Memory>) -> Result<(), Stop>
+    ensures ok { OnOk result ((taken ≡ Ok tt) × (settled ≡ Ok tt)) }
+    ensures worn { (k : CommonsKnown) → IfWorn k taken → IfWorn k result }
+{
+    match taken {
+        Ok(()) => match settled {
+            Ok(()) => Ok(()),
+            Err(memory) => Err(Stop::from(memory)),
+        },
+        Err(stop) => Err(stop),
+    }
+}
+
+// Settles the peer of a desk, and takes its pass in.
+fn end_desk<R, N: Network, L: Drop, C: Drop, G: Ledger + Drop>(
+    part: &ResolverPart,
+    rt: &R,
+    alloc: Global,
+    net: &mut N,
+    pass: &mut FedPass,
+    so_far: Result<(), Stop>,
+    desk: Desk<N::Peer, L, C, G>,
+) -> Result<(), Stop>
+where
+    N::Peer: Drop,
+    requires of { IsPassOfAll part.now.commons pass.old }
+    requires done { IsDone part.now desk }
+    requires worn { IfWorn (known pass.old) so_far }
+    ensures of { IsPassOfAll part.now.commons pass.new }
+    ensures worn { IfWorn (known pass.new) result }
+    ensures ended { OnOk result ((so_far ≡ Ok tt) × (is_worn desk.result ≡ false) × AreJoined (known pass.old) (known desk.pass) (known pass.new)
+        × Added (N.settled net.old) (peers_of desk.peer) (N.settled net.new)) }
+    ensures callers { N.callers net.new ≡ N.callers net.old }
+    ensures port { N.port net.new ≡ N.port net.old }
+    ensures exchanges { N.exchanges net.new ≡ N.exchanges net.old }
+    ensures faults { N.faults net.new ≡ N.faults net.old }
+{
+    let worn = is_worn(&desk);
+    let (own, peer) = parted(desk);
+    let settled = settle_peer(alloc, net, peer);
+    let taken = take_in(part, rt, pass, own, worn, so_far);
+    first_fault(taken, settled)
+}
+
+// Settles the peers of the desks, in order, and takes their passes in.
+fn end_desks<R, N: Network, L: Drop, C: Drop, G: Ledger + Drop>(
+    part: &ResolverPart,
+    rt: &R,
+    alloc: Global,
+    net: &mut N,
+    pass: &mut FedPass,
+    desks: Vec<Desk<N::Peer, L, C, G>>,
+) -> Result<(), Stop>
+where
+    N::Peer: Drop,
+    requires of { IsPassOfAll part.now.commons pass.old }
+    requires done { All (IsDone part.now) desks.items }
+    ensures of { IsPassOfAll part.now.commons pass.new }
+    ensures worn { IfWorn (known pass.new) result }
+    ensures ended { OnOk result (AreEnded desks.items
+        (progress (network_at (N.port net.old) (N.exchanges net.old) (N.callers net.old) (N.settled net.old) (N.faults net.old)) (known pass.old))
+        (progress (network_at (N.port net.new) (N.exchanges net.new) (N.callers net.new) (N.settled net.new) (N.faults net.new)) (known pass.new))) }
+    ensures callers { N.callers net.new ≡ N.callers net.old }
+    ensures port { N.port net.new ≡ N.port net.old }
+    ensures exchanges { N.exchanges net.new ≡ N.exchanges net.old }
+    ensures faults { N.faults net.new ≡ N.faults net.old }
+{
+    let mut ended = Ok(());
+    for desk in desks {
+        ended = end_desk(part, rt, alloc, net, pass, ended, desk);
+    }
+    ended
+}
+
+// Accepts a connection for each desk, serves it there, some of them at once, and then settles all and takes their passes in.
+fn serve_desks<
+    R: Threads + Wait + Sync,
+    N: Network,
+    L: Link + Send + Drop,
+    C: Clock + Drop,
+    G: Ledger + Send + Drop,
+>(
+    node: &Node,
+    part: &ResolverPart,
+    rt: &R,
+    alloc: Global,
+    net: &mut N,
+    pass: &mut FedPass,
+    mut desks: Vec<Desk<N::Peer, L, C, G>>,
+) -> Result<(), Stop>
+where
+    N::Peer: Drop,
+    requires listens { is_some (N.port net.old) ≡ true }
+    requires part { node.now.resolver ≡ Some part.now }
+    requires of { IsPassOfAll part.now.commons pass.old }
+    requires ready { All (IsReady part.now) desks.items }
+    ensures of { IsPassOfAll part.now.commons pass.new }
+    ensures serves { OnOk result (ServesDesks
+        (views_of (λ peer. peer_at (N.Peer.left peer) (N.Peer.held peer) (N.Peer.read_faults peer) (N.Peer.write_faults peer))
+        (λ clock. clock_at (C.readings clock) (C.last clock) (C.told clock))
+        (λ known link ledger. call_at known (L.web link) (L.calls link) (L.link_faults link) (G.count ledger)) L.gave)
+        node.now desks.items
+        (progress (network_at (N.port net.old) (N.exchanges net.old) (N.callers net.old) (N.settled net.old) (N.faults net.old)) (known pass.old))
+        (progress (network_at (N.port net.new) (N.exchanges net.new) (N.callers net.new) (N.settled net.new) (N.faults net.new)) (known pass.new))) }
+    ensures stops { StopsBy (N.faults net.old) (N.faults net.new) (known pass.new) result }
+    ensures port { N.port net.new ≡ N.port net.old }
+    ensures exchanges { N.exchanges net.new ≡ N.exchanges net.old }
+{
+    let served = serve_many(node, rt, alloc, net, desks.as_mut_slice());
+    let ended = end_desks(part, rt, alloc, net, pass, desks);
+    match served {
+        Ok(()) => ended,
+        Err(_) => Err(Stop::Network),
+    }
+}
+
+/// Serves a batch of so many connections: reads the clock once, drops from the cache what is stale, makes the desks, and serves a
+/// connection at each.
+pub(crate) fn serve_batch<R: Threads + Wait + Sync, N: Network + Drop, C: Clock + Drop>(
+    opened: &Opened,
+    part: &ResolverPart,
+    rt: &R,
+    alloc: Global,
+    net: &mut N,
+    pass: &mut FedPass,
+    clock: &mut C,
+    count: u64,
+) -> Result<(), Stop>
+where
+    N::Peer: Drop,
+    requires listens { is_some (N.port net.old) ≡ true }
+    requires part { opened.now.node.resolver ≡ Some part.now }
+    requires of { IsPassOfAll part.now.commons pass.old }
+    ensures of { IsPassOfAll part.now.commons pass.new }
+    ensures batch { OnOk result (IsServedBatch count (setup
+        (service_views (λ peer. peer_at (N.Peer.left peer) (N.Peer.held peer) (N.Peer.read_faults peer) (N.Peer.write_faults peer))
+        (λ clock. clock_at (C.readings clock) (C.last clock) (C.told clock)) N.exchanges N.faults)
+        opened.now.node opened.now.routes)
+        (standing (network_at (N.port net.old) (N.exchanges net.old) (N.callers net.old) (N.settled net.old) (N.faults net.old)) (known pass.old)
+        (clock_at (C.readings clock.old) (C.last clock.old) (C.told clock.old)))
+        (standing (network_at (N.port net.new) (N.exchanges net.new) (N.callers net.new) (N.settled net.new) (N.faults net.new)) (known pass.new)
+        (clock_at (C.readings clock.new) (C.last clock.new) (C.told clock.new)))) }
+    ensures stops { StopsBy (N.faults net.old) (N.faults net.new) (known pass.new) result }
+    ensures port { N.port net.new ≡ N.port net.old }
+    ensures exchanges { N.exchanges net.new ≡ N.exchanges net.old }
+{
+    let moment = clock.now();
+    purge(part, rt, alloc, pass, moment)?;
+    let mut desks = Vec::new(alloc);
+    match add_desks(
+        part,
+        rt,
+        alloc,
+        pass,
+        &opened.routes,
+        net,
+        clock,
+        count,
+        &mut desks,
+    ) {
+        Ok(()) => serve_desks(&opened.node, part, rt, alloc, net, pass, desks),
+        Err(_) => {
+            drop(desks);
+            Err(Stop::Memory)
+        }
+    }
+}
