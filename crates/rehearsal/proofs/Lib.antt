@@ -1,0 +1,6 @@
+mod AnswerLaws
+mod FederationLaws
+mod RehearsalLaws
+mod RingLaws
+mod SeedLaws
+mod WholeLaws
