@@ -3,15 +3,19 @@
 //! `main` makes the real outside, calls [`fed_run::run_with_notes`], which does all that the program does and carries what is proved of
 //! it, and ends with its status. What a person reads goes to standard error, unless the environment has `FED_QUIET=1`. A service listens
 //! on 127.0.0.1, or on the IPv4 address in `FED_LISTEN`, and each connection leaves a line on standard error, unless the environment has
-//! `FED_LOG=off`.
+//! `FED_LOG=off`. Behind its version `main` writes the commit and the target that the script `fed` wrote behind the program's bytes.
 #![tactic(auto)]
 
+mod build;
 mod named_file;
 
+use build::{is_version, tell_of_build};
 use fed_net::RealNetwork;
-use fed_ports::{Memory, RealClock, RealSink, RealSource, RealStore, Seq, Text, listen_address};
+use fed_ports::{
+    Memory, RealClock, RealSink, RealSource, RealStore, Seq, Sink, Text, listen_address,
+};
 use fed_run::{run, run_with_notes};
-use fed_words::{explain_waiting, read_service};
+use fed_words::{Service, explain_waiting, read_service};
 use named_file::{explain_fault, value_of, warn_of_open_file};
 use plain_notes::{Notes, Sentence};
 use std::alloc::Global;
@@ -23,6 +27,9 @@ use std::{env, str};
 
 // The status of words, or of a file, that aren't of their form.
 const FAULTY: u8 = 2;
+
+// The status of output that can't be written.
+const SINK_FAULT: u8 = 4;
 
 // The status of a file that can't be read or kept.
 const STORE_FAULT: u8 = 6;
@@ -62,9 +69,13 @@ fn address<R: Env + AllocGlobal>(rt: &R) -> Option<[u8; 4]> {
     }
 }
 
-// Whether the words ask for a service.
+// Whether the words ask for a service over the network.
 fn serves(alloc: Global, words: &[Text]) -> bool {
-    matches!(read_service(alloc, words), Ok(Some(_)))
+    match read_service(alloc, words) {
+        Ok(Some(Service::Rehearse { params: _ })) => false,
+        Ok(service) => service.is_some(),
+        Err(_) => false,
+    }
 }
 
 // Says that there is no address to listen on.
@@ -106,6 +117,15 @@ fn tell_of_file<R: Files + Eprint>(rt: &R, alloc: Global, words: &[Text], status
     tell(rt, &notes);
 }
 
+// Writes behind the version what the program was built from, and gives the status.
+fn with_build<R: Files, K: Sink>(rt: &R, words: &[Text], out: &mut K, status: u8) -> u8 {
+    if status == 0 && is_version(words) && tell_of_build(rt, out).is_err() {
+        SINK_FAULT
+    } else {
+        status
+    }
+}
+
 fn main(rt: HostRuntime) -> ExitCode {
     let alloc = rt.alloc();
     let Ok(words) = words(&rt) else {
@@ -122,20 +142,39 @@ fn main(rt: HostRuntime) -> ExitCode {
     let mut store = RealStore::new(&rt);
     let mut clock = RealClock::new(&rt);
     let mut worn = None;
+    let mut joined = None;
     if is_quiet(&rt) {
         let status = run(
-            &rt, alloc, &words, &mut input, &mut out, &mut store, &mut net, &mut clock, &mut worn,
+            &rt,
+            alloc,
+            &words,
+            &mut input,
+            &mut out,
+            &mut store,
+            &mut net,
+            &mut clock,
+            &mut worn,
+            &mut joined,
         );
-        return ExitCode::from(status);
+        return ExitCode::from(with_build(&rt, words.as_slice(), &mut out, status));
     }
     if rt.stdin().is_terminal() {
         tell_of_waiting(&rt, alloc, words.as_slice());
     }
     let mut said = RealSink::new(rt.stderr());
     let status = run_with_notes(
-        &rt, alloc, &words, &mut input, &mut out, &mut store, &mut net, &mut clock, &mut worn,
+        &rt,
+        alloc,
+        &words,
+        &mut input,
+        &mut out,
+        &mut store,
+        &mut net,
+        &mut clock,
+        &mut worn,
+        &mut joined,
         &mut said,
     );
     tell_of_file(&rt, alloc, words.as_slice(), status);
-    ExitCode::from(status)
+    ExitCode::from(with_build(&rt, words.as_slice(), &mut out, status))
 }

@@ -1,2 +1,5 @@
 mod AuthorityLaws
+mod CommandLaws
+mod RehearsalLaws
 mod ResolveLaws
+mod ResolverLaws

@@ -1,5 +1,8 @@
 -- What is told of a call, and the pass that is held then.
 use Rattle.std.proofs.Common.{◌≡◌, ◌≢◌, ◌≤◌, ◌<◌, ◌⊎◌, ℕ, List, [], Option, Some, None, Result, Ok, Err, IfSome, refl, subst, sym, inl, inr, arith, lit<}
+use Rattle.fed_base.specs.declared.ledger.Plain.{Plain}
+use Rattle.http_plain.specs.declared.link.HttpLink.{HttpLink}
+use Rattle.fed_serve.specs.Desks.{Views}
 use Rattle.fed_serve.specs.Moments.{PeerAt}
 use Rattle.node_service.specs.Ends.{Order}
 use Rattle.node_service.specs.declared.node_files.NodeFault.{NodeFault}
@@ -17,18 +20,22 @@ use Rattle.fed_resolver.specs.declared.outcome.Refusal.{Refusal}
 use Rattle.fed_resolver.specs.declared.outcome.Refusal.TheVariants.{NoAnchor, NotFound, PolicyOnly, NoChain, Unavailable, Budget, Worn, Memory}
 use Rattle.resolve_once.specs.Calls.{HoldsWorn, Question}
 use Rattle.fed_words.specs.declared.service.Service.{Service}
-use Rattle.fed_words.specs.declared.service.Service.TheVariants.{Authority, Resolve}
+use Rattle.fed_words.specs.declared.service.Service.TheVariants.{Authority, Rehearse, Resolve, Resolver}
 use Rattle.fed_run.specs.Authorities.{Outside, RunsAuthority, WritesLine}
+use Rattle.rehearsal.specs.declared.fault.RehearsalFault.TheVariants as rehearsal_fault
+use Rattle.fed_run.specs.Rehearsals.{RunsRehearsal}
+use Rattle.resolver_service.specs.declared.ending.ResolverEnd.TheVariants as ends
+use Rattle.fed_run.specs.Resolvers.{RunsResolver}
 use Rattle.fed_run.specs.Resolving.{HoldsBy, IsSilent, IsTold, IsToldBy, RunsResolve, Written}
 use Rattle.fed_run.specs.Services.{RunsService}
 
 -- ---- statuses other than 8
 
-lines-other : (status : ℕ) (line : List ℕ) (old new : Option (List ℕ)) (before now result : ℕ) → WritesLine status line old new before now result → status < 8 → result ≢ 8
+pub lines-other : (status : ℕ) (line : List ℕ) (old new : Option (List ℕ)) (before now result : ℕ) → WritesLine status line old new before now result → status < 8 → result ≢ 8
 lines-other status line old new before now result (inl (is, written, same)) small eight = absurd (omega (arith, is, small, eight))
 lines-other status line old new before now result (inr (four, written, rose)) small eight = absurd (omega (arith, four, eight))
 
-silent-other : (status : ℕ) (before now : Written) (result : ℕ) → IsSilent status before now result → status < 8 → result ≢ 8
+pub silent-other : (status : ℕ) (before now : Written) (result : ℕ) → IsSilent status before now result → status < 8 → result ≢ 8
 silent-other status before now result (is, same) small eight = absurd (omega (arith, is, small, eight))
 
 pub authority-other : {P : Type 0} (at : P → PeerAt) (order : Order) (before now : Outside P) (status : ℕ) → RunsAuthority at order before now status → status ≢ 8
@@ -77,11 +84,12 @@ module _ {S T : Type 0} (worn : Option (Group (PassSeat S Part ShelfCall ShelfRe
 -- ---- the service
 
 -- a service resolves as it is asked to, where that is what it does
-pub resolves_service : {P : Type 0} (at : P → PeerAt) (service : Service) (before now : Outside P) (status : ℕ) (config sub anchor : List ℕ) (types : List (List ℕ)) → service ≡ Resolve config sub anchor → types ≡ []
-    → RunsResolve (record { config = config; request = record { sub = sub; anchor = anchor; types = types } }) before now status → RunsService at service before now status
-resolves_service at service before now status config sub anchor types is none runs =
-    subst (λ s. RunsService at s before now status) (sym is)
-    (subst (λ ts. RunsResolve (record { config = config; request = record { sub = sub; anchor = anchor; types = ts } }) before now status) none runs)
+pub resolves_service : {P N C S T : Type 0} (views : Views P (HttpLink N) C Plain) (service : Service) (before now : Outside P) (joined : Option (Group (PassSeat S Part ShelfCall ShelfReply) (PassSeat T Book BookCall BookReply))) (status : ℕ) (config sub anchor : List ℕ) (types : List (List ℕ))
+    → service ≡ Resolve config sub anchor → types ≡ []
+    → RunsResolve (record { config = config; request = record { sub = sub; anchor = anchor; types = types } }) before now status → joined ≡ None → RunsService views service before now joined status
+resolves_service views service before now joined status config sub anchor types is none runs unjoined =
+    subst (λ s. RunsService views s before now joined status) (sym is)
+    (subst (λ ts. RunsResolve (record { config = config; request = record { sub = sub; anchor = anchor; types = ts } }) before now status) none runs, unjoined)
 
 -- ---- memory was wanting for the words
 
@@ -109,11 +117,29 @@ unresolved question o = record {
   told = (refl, refl);
 }
 
-unrun : {P : Type 0} (at : P → PeerAt) (service : Service) (o : Outside P) → RunsService at service o o 5
-unrun at (Authority config port connections) o = unserved at (record { config = config; post = record { port = port; connections = connections } }) o
-unrun at (Resolve config sub anchor) o = unresolved (record { config = config; request = record { sub = sub; anchor = anchor; types = [] } }) o
+unrehearsed : {P : Type 0} (params : ℕ) (o : Outside P) → RunsRehearsal params o o 5
+unrehearsed params o = record {
+  rehearsed = record { result = Err rehearsal_fault.Memory; rehearses = tt; told = (refl, refl) };
+  node = refl;
+  exchanges = refl;
+}
 
--- nothing was done, whatever was asked for
-pub unread_words : {P I : Type 0} (at : P → PeerAt) (asked : Option Service) (input : I) (o : Outside P) → IfSome asked (λ service. (input ≡ input) × RunsService at service o o 5)
-unread_words at None input o = tt
-unread_words at (Some service) input o = (refl, unrun at service o)
+module _ {P N C S T : Type 0} (views : Views P (HttpLink N) C Plain) (joined : Option (Group (PassSeat S Part ShelfCall ShelfReply) (PassSeat T Book BookCall BookReply))) (none : joined ≡ None) where
+  pub unserved_resolver : (order : Order) (o : Outside P) → RunsResolver views order o o joined 5
+  unserved_resolver order o = record {
+    end = ends.Memory;
+    ended = record { ended = (refl, refl); files = refl; exchanges = refl };
+    told = (refl, refl);
+    joins = record { held = λ zero. absurd (omega (arith, zero)); none = λ _. none };
+  }
+
+  unrun : (service : Service) (o : Outside P) → RunsService views service o o joined 5
+  unrun (Authority config port connections) o = (unserved views.peer (record { config = config; post = record { port = port; connections = connections } }) o, none)
+  unrun (Resolver config port connections) o = unserved_resolver (record { config = config; post = record { port = port; connections = connections } }) o
+  unrun (Resolve config sub anchor) o = (unresolved (record { config = config; request = record { sub = sub; anchor = anchor; types = [] } }) o, none)
+  unrun (Rehearse params) o = (unrehearsed params o, none)
+
+  -- nothing was done, whatever was asked for
+  pub unread_words : {I : Type 0} (asked : Option Service) (input : I) (o : Outside P) → IfSome asked (λ service. (input ≡ input) × RunsService views service o o joined 5)
+  unread_words None input o = tt
+  unread_words (Some service) input o = (refl, unrun service o)

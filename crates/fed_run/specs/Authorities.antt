@@ -1,10 +1,10 @@
 -- What `authority` does: the outside before and after, and the status.
 use Rattle.std.specs.Prelude.{◌≡◌, ◌⊎◌, ℕ, List, [], ◌∷◌, ◌++◌, take, codes, decimal, Option, None}
-use Rattle.fed_base.specs.Counts.{Rose}
 use Rattle.fed_ports.specs.Bytes.{Appends}
 use Rattle.fed_ports.specs.Exchanges.{Exchange}
 use Rattle.authority_core.specs.Nodes.{Node}
 use Rattle.fed_commands.specs.Answers.{Tells}
+pub use Rattle.fed_inspect.specs.Outputs.{WritesLine}
 use Rattle.fed_serve.specs.Moments.{PeerAt}
 use Rattle.node_service.specs.Ends.{At, HasDropped, HasFailed, HasServed, Order}
 use Rattle.node_service.specs.NodeFiles.{IsAuthorityAlone, IsNodeOf}
@@ -19,11 +19,6 @@ pub record Outside (P : Type 0) : Type 0 where
 
 abbrev pub outside : {P : Type 0} → Option (List ℕ) → ℕ → At P → Option (List Exchange) → Outside P
 outside held write_faults node exchanges = record { held = held; write_faults = write_faults; node = node; exchanges = exchanges }
-
--- the line was written and the status says so, or a beginning of it was and the sink failed
-abbrev pub WritesLine : ℕ → List ℕ → Option (List ℕ) → Option (List ℕ) → ℕ → ℕ → ℕ → Type 0
-WritesLine status line old new before now result =
-    ((result ≡ status) × Appends old new line × (now ≡ before)) ⊎ ((result ≡ 4) × ((n : ℕ) × Appends old new (take n line)) × Rose before now)
 
 -- what is written once all are served
 abbrev pub served_line : ℕ → List ℕ

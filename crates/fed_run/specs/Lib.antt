@@ -1,3 +1,6 @@
 pub mod Authorities
+pub mod Commands
+pub mod Rehearsals
+pub mod Resolvers
 pub mod Resolving
 pub mod Services

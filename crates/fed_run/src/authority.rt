@@ -2,19 +2,19 @@
 
 ghost use Rattle.std.specs.Prelude.{◌≡◌, IfOk};
 ghost use Rattle.fed_serve.specs.Moments.{clock_at, peer_at};
-ghost use Rattle.fed_run.specs.Authorities.{RunsAuthority, WritesLine, outside, served_line};
+ghost use Rattle.fed_run.specs.Authorities.{RunsAuthority, outside, served_line};
 ghost use Rattle.node_service.specs.Connections.{service_at};
 ghost use Rattle.node_service.specs.Ends.{at_moment};
 
-use fed_commands::write_all;
+use fed_inspect::write_line;
 use fed_ports::{Clock, Memory, Network, Sink, Store, Text};
 use node_service::{ServiceEnd, serve_authority};
-use plain_notes::{Notes, explain_memory, explain_sink};
+use plain_notes::{Notes, explain_memory};
 use std::alloc::Global;
 use std::sync::Wait;
 
-// The line that is written once all connections are served.
-fn served_line(alloc: Global, connections: u64) -> Result<Text, Memory>
+/// The line that is written once all connections are served.
+pub(crate) fn served_line(alloc: Global, connections: u64) -> Result<Text, Memory>
     ensures { IfOk result (λ line. line ≡ served_line connections) }
 {
     let number = format!(in alloc; "{connections}")?;
@@ -22,25 +22,6 @@ fn served_line(alloc: Global, connections: u64) -> Result<Text, Memory>
     line.append(number.as_bytes())?;
     line.push(b'\n')?;
     Ok(line)
-}
-
-// Writes the line, and gives the status.
-pub(crate) fn conclude<K: Sink>(
-    alloc: Global,
-    status: u8,
-    line: &[u8],
-    out: &mut K,
-    notes: &mut Notes,
-) -> u8
-    ensures { WritesLine status line.now (K.held out.old) (K.held out.new) (K.write_faults out.old) (K.write_faults out.new) result }
-{
-    match write_all(out, line) {
-        Ok(()) => status,
-        Err(_) => {
-            explain_sink(alloc, notes);
-            4
-        }
-    }
 }
 
 /// Serves as the authority of the configuration file, and gives the exit status.
@@ -83,8 +64,8 @@ pub(crate) fn serve<R: Wait, K: Sink, D: Store, N: Network + Drop, C: Clock>(
         notes,
     );
     match end {
-        ServiceEnd::Served => conclude(alloc, 0, line.as_slice(), out, notes),
-        ServiceEnd::Input => conclude(alloc, 2, b"input\n", out, notes),
+        ServiceEnd::Served => write_line(alloc, 0, line.as_slice(), out, notes),
+        ServiceEnd::Input => write_line(alloc, 2, b"input\n", out, notes),
         ServiceEnd::StoreFailed => 6,
         ServiceEnd::NetworkFailed => 7,
         ServiceEnd::Memory => {

@@ -5,6 +5,8 @@
 #![tactic(auto)]
 
 mod authority;
+mod rehearsing;
+mod resolver;
 mod resolving;
 mod top;
 

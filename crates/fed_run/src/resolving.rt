@@ -7,7 +7,7 @@ ghost use Rattle.fed_run.specs.Resolving.{HoldsBy, IsReplyTold, IsToldBy, RunsRe
 ghost use Rattle.node_service.specs.Connections.{service_at};
 ghost use Rattle.node_service.specs.Ends.{at_moment};
 
-use crate::authority::conclude;
+use fed_inspect::write_line;
 use fed_ports::{Clock, Network, Sink, Store, Text};
 use fed_resolver::{Outcome, Refusal, Reply, ResolveRequest};
 use node_service::NodeFault;
@@ -58,7 +58,7 @@ pub(crate) fn resolve<R: Wait, K: Sink, D: Store, N: Network + Drop, C: Clock>(
             explain_outcome(alloc, request, &outcome, notes);
             tell(alloc, outcome, out, notes)
         }
-        Err(NodeFault::Input) => conclude(alloc, 2, b"input\n", out, notes),
+        Err(NodeFault::Input) => write_line(alloc, 2, b"input\n", out, notes),
         Err(NodeFault::Store) => 6,
         Err(NodeFault::Memory) => {
             explain_memory(alloc, notes);
@@ -76,10 +76,10 @@ fn tell<K: Sink>(alloc: Global, outcome: Outcome, out: &mut K, notes: &mut Notes
     drop(trace);
     match result {
         Ok(reply) => tell_reply(alloc, reply, out, notes),
-        Err(Refusal::NoAnchor) => conclude(alloc, 1, NO_ANCHOR, out, notes),
-        Err(Refusal::NotFound) => conclude(alloc, 1, NOT_FOUND, out, notes),
-        Err(Refusal::PolicyOnly) => conclude(alloc, 1, POLICY_ONLY, out, notes),
-        Err(Refusal::NoChain) => conclude(alloc, 1, NO_CHAIN, out, notes),
+        Err(Refusal::NoAnchor) => write_line(alloc, 1, NO_ANCHOR, out, notes),
+        Err(Refusal::NotFound) => write_line(alloc, 1, NOT_FOUND, out, notes),
+        Err(Refusal::PolicyOnly) => write_line(alloc, 1, POLICY_ONLY, out, notes),
+        Err(Refusal::NoChain) => write_line(alloc, 1, NO_CHAIN, out, notes),
         Err(Refusal::Unavailable) => 7,
         Err(Refusal::Budget { calls: _, paths: _ }) => 9,
         Err(Refusal::Worn(_)) => 8,
@@ -97,5 +97,5 @@ fn tell_reply<K: Sink>(alloc: Global, reply: Reply, out: &mut K, notes: &mut Not
         explain_memory(alloc, notes);
         return 5;
     }
-    conclude(alloc, 0, line.as_slice(), out, notes)
+    write_line(alloc, 0, line.as_slice(), out, notes)
 }

@@ -14,12 +14,12 @@ returns-in-Ok-clause-worn g c =
 pub returns-in-Err-Input-clause-runs : goal.returns-in-Err-Input-clause-runs
 returns-in-Err-Input-clause-runs g c =
     let is : c.in-Err-Input.field-0 ≡ fault.Input = search rules in
-    record { result = Err c.in-Err-Input.field-0; resolves = c.in-Err-Input.ensures.resolves; told = rw is c.conclude.ensures }
+    record { result = Err c.in-Err-Input.field-0; resolves = c.in-Err-Input.ensures.resolves; told = rw is c.write_line.ensures }
 
 pub returns-in-Err-Input-clause-worn : goal.returns-in-Err-Input-clause-worn
 returns-in-Err-Input-clause-worn g c =
     holds-fault _ fault.Input (record { held = g.K.Sink.held c.args.out.now; faults = g.K.Sink.write_faults c.args.out.now })
-    (record { held = g.K.Sink.held c.conclude.new.out; faults = g.K.Sink.write_faults c.conclude.new.out }) _ c.in-Err-Input.ensures.worn c.conclude.ensures
+    (record { held = g.K.Sink.held c.write_line.new.out; faults = g.K.Sink.write_faults c.write_line.new.out }) _ c.in-Err-Input.ensures.worn c.write_line.ensures
 
 pub returns-in-Err-Store-clause-runs : goal.returns-in-Err-Store-clause-runs
 returns-in-Err-Store-clause-runs g c =

@@ -9,10 +9,10 @@ returns-in-Ok-Some-clause-service g c =
     rw asked (refl, c.serve_as.ensures.runs)
 
 pub returns-in-Ok-None-clause-worn : goal.returns-in-Ok-None-clause-worn
-returns-in-Ok-None-clause-worn g c = holds-none _ _ c.requires (small-other _ 6 c.run.ensures.range (lit< tt))
+returns-in-Ok-None-clause-worn g c = holds-none _ _ c.requires.worn (small-other _ 6 c.do_command.ensures.range (lit< tt))
 
 pub returns-in-Err-clause-worn : goal.returns-in-Err-clause-worn
-returns-in-Err-clause-worn g c = holds-none _ _ c.requires (λ eight. absurd (omega (arith, eight)))
+returns-in-Err-clause-worn g c = holds-none _ _ c.requires.worn (λ eight. absurd (omega (arith, eight)))
 
 pub returns-in-Err-clause-service : goal.returns-in-Err-clause-service
-returns-in-Err-clause-service g c = unread_words _ (service_of c.args.words.now) c.args.input.now _
+returns-in-Err-clause-service g c = unread_words _ _ c.requires.joined (service_of c.args.words.now) c.args.input.now _
