@@ -159,6 +159,7 @@ def words(case):
         ["keygen", "--ring", "never.ring", "--at", "1", "--exp", "2"], ["issue", "--ring", "rp.ring", "--typ", STATEMENT],
         ["rotate", "--ring", "never.ring", "--act", "revoke", "--kid", "none", "--at", "1", "--reason", "superseded"],
         ["resolve", "--config", "never.json", "--sub", IM, "--anchor", TA], ["authority", "--config", "never.json", "--port", "1", "--connections", "1"],
+        ["public", "--ring", "rp.ring", "--kid", "none"], ["check-config", "--config", "never.json", "--at", "1"], ["show"], ["help", "check"],
         ["--help"], ["--version"], []]))
     for _ in range(rng.choice([1, 1, 2, 3])):
         at, kind = rng.randrange(len(line) + 1), rng.randrange(5)

@@ -58,21 +58,32 @@ def constant(_):
 READER = json.JSONDecoder(parse_int=integer, parse_float=decimal, parse_constant=constant)
 
 
+TOKENS = re.compile(r'"(?:[^"\\]|\\.)*"|[\[\]{}]', re.S)
+
+
 def walk(tree):
-    """Each value of the tree with how many lists and objects it stands in, itself counted."""
-    left = [(tree, 1)]
+    """Each value of the tree."""
+    left = [tree]
     while left:
-        node, depth = left.pop()
+        node = left.pop()
+        yield node
         if isinstance(node, (dict, list)):
-            yield node, depth
-            left.extend((held, depth + 1) for held in (node.values() if isinstance(node, dict) else node))
-        else:
-            yield node, 0
+            left.extend(node.values() if isinstance(node, dict) else node)
 
 
-def has_surrogate(node):
-    texts = [node] if isinstance(node, str) else node if isinstance(node, dict) else ()
-    return any("\ud800" <= letter <= "\udfff" for text in texts if not text.isascii() for letter in text)
+def is_readable(text):
+    """Whether this JSON nests as deep as reads, and its strings are Unicode, those of members that count no more too."""
+    depth = 0
+    for token in map(re.Match.group, TOKENS.finditer(text)):
+        if token in "[{":
+            depth += 1
+        elif token in "]}":
+            depth -= 1
+        elif "\\u" in token and any("\ud800" <= letter <= "\udfff" for letter in json.loads(token, strict=False)):
+            return False
+        if depth > DEPTH:
+            return False
+    return True
 
 
 def tree_of(data):
@@ -82,13 +93,13 @@ def tree_of(data):
         tree = READER.decode(text) if not text.startswith("\ufeff") else constant(text)
     except (ValueError, RecursionError) as error:
         raise Unreadable from error
-    if any(depth > DEPTH or has_surrogate(node) for node, depth in walk(tree)):
+    if not is_readable(text):
         raise Unreadable
     return tree
 
 
 def is_whole(tree):
-    return all(node is not ODD for node, _ in walk(tree))
+    return all(node is not ODD for node in walk(tree))
 
 
 def is_number(node, least, most):

@@ -1,6 +1,7 @@
-"""Changed texts, chains, key sets and policies, handed to `check` and `verify`. What they have to answer is what rules.py says."""
+"""Changed texts, chains, key sets and policies, handed to `check`, `verify` and `show`. What they have to answer is what rules.py says."""
 
 import json
+import re
 
 from . import changes, rules
 from .changes import Pairs, Raw, encoded, written
@@ -258,9 +259,8 @@ def listed(given):
 
 # ---- key sets
 
-def keys(case):
-    """A chain under a file of keys that was changed."""
-    rng, pool = case.rng, case.pool
+def changed_keys(rng, pool):
+    """A key set that was changed."""
     good = {"keys": [pool.keys["ta"].jwk]}
     more = [pool.keys["im"].jwk, {"kty": "RSA", "kid": "r", "n": "AQAB", "e": "AQAB"}, {"kty": "EC", "crv": "P-256", "x": "a", "y": [1, {"z": None}]}]
     good["keys"] = rng.sample(more, rng.randrange(4)) + good["keys"]
@@ -273,6 +273,13 @@ def keys(case):
         data = written({"keys": good["keys"] + [{"kty": "x", "kid": str(number)} for number in range(rng.choice([59, 60, 61, 62, 63, 64, 1000]))]})
     if rng.random() < .0005:
         data += b" " * (rules.FILE_LIMIT - len(data) + rng.randrange(-1, 2))
+    return data
+
+
+def keys(case):
+    """A chain under a file of keys that was changed."""
+    rng, pool = case.rng, case.pool
+    data = changed_keys(rng, pool)
     made = [pool.texts[name] for name in rng.choice(pool.chains[:2])]
     texts_of = made if len(data) <= rules.FILE_LIMIT else None
     check(case, texts_of, json.dumps(made).encode(), data, TA, AT, 1)
@@ -288,4 +295,66 @@ def policies(case):
     check(case, made, json.dumps(made).encode(), pool_keys(pool), TA, AT, 1)
 
 
-KINDS = {"texts": texts, "chains": chains, "keys": keys, "policies": policies}
+# ---- what is shown
+
+# what a terminal acts on: control characters but the line end, and marks of direction
+LOUD = re.compile(rb"[\x00-\x09\x0b-\x1f\x7f]|\xc2[\x80-\x9f]|\xe2[\x80-\x81]")
+LAST = b"nothing was verified\n"
+
+
+def shown(case):
+    """A changed text, a list with one, or a changed key set, handed to `show`."""
+    rng, pool = case.rng, case.pool
+    kind = rng.randrange(4)
+    if kind == 3:
+        given = changed_keys(rng, pool)
+    else:
+        names = list(pool.texts)
+        parts = Parts(rng, pool.texts[rng.choice(names)])
+        given = parts.changed_hard() if rng.random() < .5 else parts.changed_softly()
+        if kind == 2:
+            made = [given.decode("latin-1"), *(pool.texts[rng.choice(names)] for _ in range(rng.randrange(3)))]
+            rng.shuffle(made)
+            given = written(made, rng if rng.random() < .3 else None)
+    statuses, ending = view_of(given)
+    given += rng.choice([b"", b"\n", b"\r\n"]) if len(given) < rules.FILE_LIMIT - 2 else b""
+    case.runs(["show"], given, 1, lambda done: done.status in statuses and is_shown(done, ending), (statuses, ending))
+
+
+def is_shown(done, ending):
+    """Whether the answer ends as it has to, and is one that a terminal can be given."""
+    if done.status == 2:
+        return done.out == b"input\n"
+    return done.out.endswith(ending + LAST) and not LOUD.search(done.out) and (b"refused " in done.out or done.status == 0)
+
+
+def view_of(given):
+    """The statuses with which the input may be shown, and what stands before the last line."""
+    if len(given) > rules.FILE_LIMIT:
+        return {2}, b""
+    try:
+        tree = rules.tree_of(given)
+    except rules.Unreadable:
+        return found_in(given)
+    if rules.is_object(tree):
+        try:
+            rules.key_set(tree)
+            return {0}, b"key set of %d\n" % len(tree["keys"])
+        except rules.Fault:
+            return {1}, b"\n"
+    if not rules.is_texts(tree):
+        return {2}, b""
+    each = [found_in(text.encode())[0] for text in tree]
+    statuses = {1} if {1} in each else {0, 1} if {0, 1} in each else {0}
+    return statuses, b"chain of %d\n" % len(tree)
+
+
+def found_in(text):
+    """The same of a text: one of another type may be shown, whatever its claims, or be no text at all."""
+    it = rules.statement(text)
+    if it is None or it.doubted:
+        return {0, 1}, b"\n"
+    return {0}, f"configuration of {it.sub}\n".encode() if it.own else f"statement of {it.iss} about {it.sub}\n".encode()
+
+
+KINDS = {"texts": texts, "chains": chains, "keys": keys, "policies": policies, "shown": shown}
