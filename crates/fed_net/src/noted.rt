@@ -8,13 +8,13 @@ const KEPT: usize = 256;
 // How many bytes of an answer there are up to the end of its status, as in `HTTP/1.1 200`.
 const STATUS_END: usize = 12;
 
-/// The beginning of the request's first line, that of the answer's, and how many bytes were given.
+/// The beginning of the request's first line, that of the answer, and how many bytes were given.
 #[derive(Drop)]
 pub struct Noted {
     request: [u8; KEPT],
     kept: usize,
     ended: bool,
-    answer: [u8; STATUS_END],
+    answer: [u8; KEPT],
     given: u64,
 }
 
@@ -24,6 +24,15 @@ fn shown(byte: u8) -> u8 {
         byte
     } else {
         b'*'
+    }
+}
+
+// A byte as it is kept of an answer: as the log shows it, and the ends of lines as they are.
+fn kept_of(byte: u8) -> u8 {
+    if byte == b'\r' || byte == b'\n' {
+        byte
+    } else {
+        shown(byte)
     }
 }
 
@@ -44,7 +53,7 @@ impl Noted {
             request: [0; KEPT],
             kept: 0,
             ended: false,
-            answer: [b' '; STATUS_END],
+            answer: [b' '; KEPT],
             given: 0,
         }
     }
@@ -66,8 +75,8 @@ impl Noted {
     /// Notes what was given.
     pub fn given(&mut self, bytes: &[u8]) {
         for byte in bytes {
-            if self.given < STATUS_END as u64 {
-                self.answer[self.given as usize] = shown(*byte);
+            if self.given < KEPT as u64 {
+                self.answer[self.given as usize] = kept_of(*byte);
             }
             self.given = self.given.saturating_add(1);
         }
@@ -84,7 +93,7 @@ impl Noted {
 
     /// The status of the answer, or a dash.
     pub fn status(&self) -> &str {
-        let text = str::from_utf8(&self.answer).unwrap_or("");
+        let text = str::from_utf8(self.answer.get(..STATUS_END).unwrap_or(&[])).unwrap_or("");
         let (_, status) = cut(text, ' ');
         or_dash(status.trim_ascii())
     }
@@ -92,5 +101,21 @@ impl Noted {
     /// How many bytes were given.
     pub fn bytes(&self) -> u64 {
         self.given
+    }
+
+    /// Whether the answer was given whole, by the length that its head tells. Of one without a length, or with a longer head than is kept,
+    /// it isn't known.
+    pub fn is_answered(&self) -> bool {
+        self.answer_end().is_some_and(|end| self.given >= end)
+    }
+
+    // Where the answer ends: behind the empty line, and as many bytes further as its length says.
+    fn answer_end(&self) -> Option<u64> {
+        let text = str::from_utf8(&self.answer).ok()?;
+        let (head, _) = text.split_once("\r\n\r\n")?;
+        let (_, length) = head.split_once("\r\nContent-Length: ")?;
+        let (length, _) = cut(length, '\r');
+        let length: u64 = length.parse().ok()?;
+        length.checked_add(head.len() as u64 + 4)
     }
 }

@@ -24,7 +24,8 @@ const ANSWER: u64 = 30;
 const READINGS: u32 = 64;
 
 /// A caller over TCP. It fails where it is silent for 10 seconds, where it hasn't sent its request 30 seconds after it was accepted, and
-/// where it doesn't take its answer in 30 seconds.
+/// where it doesn't take its answer in 30 seconds. Once its answer was given whole, by its `Content-Length`, it gets the end of it, though
+/// the connection is kept until it is settled.
 #[derive(Drop)]
 pub struct RealPeer<'a, R: SystemClock> {
     rt: &'a R,
@@ -137,6 +138,9 @@ impl<'a, R: SystemClock> Sink for RealPeer<'a, R> {
         match write(&mut self.stream, wait, piece) {
             Some(n) => {
                 self.noted.given(&piece[..n]);
+                if self.noted.is_answered() {
+                    let _ = self.stream.shutdown(Shutdown::Write);
+                }
                 Ok(n)
             }
             None => {
