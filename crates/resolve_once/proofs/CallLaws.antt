@@ -30,12 +30,12 @@ use Rattle.fed_resolver.specs.declared.outcome.Outcome.{Outcome}
 use Rattle.fed_resolver.specs.declared.outcome.Refusal.{Refusal}
 use Rattle.fed_resolver.specs.declared.outcome.Refusal.TheVariants.{NoAnchor, NotFound, PolicyOnly, NoChain, Unavailable, Budget, Worn, Memory}
 use Rattle.fed_resolver.specs.Calls.{WornOnly}
-use Rattle.fed_resolver.specs.Outcomes.{Tells}
 use Rattle.fed_resolver.specs.Told.{situation_of}
 use Rattle.node_service.specs.declared.node_files.NodeFault.{NodeFault}
 use Rattle.node_service.specs.declared.node_files.NodeFault.TheVariants as fault
 use Rattle.node_service.specs.NodeFiles.{Answers, IsNodeOf, IsResolver}
 use Rattle.resolve_once.specs.declared.parts.Parts.{Parts}
+use Rattle.resolve_once.specs.Alone.{ResolvesAlone}
 use Rattle.resolve_once.specs.Calls.{Around, At, HasNoCall, HoldsWorn, IsCallBy, Question, is_worn}
 use Rattle.resolve_once.specs.Exchanged.{ExchangedBy}
 use Rattle.resolve_once.specs.Nodes.{HasKeys}
@@ -91,7 +91,9 @@ call-by node parts request before now outcome are call = record {
   seeds = are.seeds;
   signs = are.signs;
   clock = call.clock;
-  tells = subst (λ (s : Signer). Tells (situation_of request s.age now.clock.last) s outcome outcome.result) are.signer call.told.tells;
+  anchors = parts.anchors;
+  listed = are.listed;
+  alone = subst (λ (s : Signer). ResolvesAlone (situation_of request s.age now.clock.last) s parts.anchors outcome) are.signer call.told.alone;
   keys = subst (λ listed. HasKeys listed outcome.trace.keys.keys outcome.result) (are.anchors request.anchor) call.told.keys;
   exchanges = subst (λ routes. ExchangedBy routes (asks_in outcome.trace.searches) before.exchanges now.exchanges outcome.result) are.routes call.exchanges;
   faults = call.fails.faults;

@@ -2,7 +2,9 @@ mod AnchorLaws
 mod CallLaws
 mod ExchangeLaws
 mod FaultLaws
+mod HitLaws
 mod KeyLaws
 mod OwnCalls
 mod PassLaws
 mod SignerLaws
+mod WebLaws

@@ -1,5 +1,5 @@
 -- One resolve call of a node over its network: what is asked, the outside before and after, and what is answered.
-use Rattle.std.specs.Prelude.{◌≡◌, ◌≤◌, ℕ, List, length, Bool, true, false, Option, Some, None, IfOk, Result, Ok, Err}
+use Rattle.std.specs.Prelude.{◌≡◌, ◌≤◌, ℕ, List, length, map, Bool, true, false, Option, Some, None, IfOk, Result, Ok, Err}
 use Rattle.fed_base.specs.Counts.{Rose}
 use Rattle.fed_ports.specs.Exchanges.{Exchange}
 use Rattle.fed_ports.specs.Stores.{Files}
@@ -15,6 +15,7 @@ use Rattle.turn_log.specs.declared.pass.PassSeat.{PassSeat}
 use Rattle.turn_log.specs.declared.group.Group.{Group}
 use Rattle.statement_shelf.specs.Book.{Book}
 use Rattle.statement_shelf.specs.Entries.{Part}
+use Rattle.statement_shelf.specs.declared.calls.AnchorKeys.{AnchorKeys}
 use Rattle.statement_shelf.specs.declared.calls.ShelfCall.{ShelfCall}
 use Rattle.statement_shelf.specs.declared.calls.ShelfReply.{ShelfReply}
 use Rattle.statement_shelf.specs.declared.calls.BookCall.{BookCall}
@@ -26,14 +27,14 @@ use Rattle.resolve_pages.specs.Acts.{HasCounted}
 use Rattle.fed_resolver.specs.declared.outcome.Outcome.{Outcome}
 use Rattle.fed_resolver.specs.declared.outcome.Refusal.{Refusal}
 use Rattle.fed_resolver.specs.declared.outcome.Refusal.TheVariants.{Unavailable, Worn}
-use Rattle.fed_resolver.specs.Outcomes.{Tells}
 use Rattle.fed_resolver.specs.Told.{situation_of}
 use Rattle.fed_resolver.specs.Uses.{CountsFaults}
 use Rattle.node_service.specs.declared.node_files.NodeFault.{NodeFault}
 use Rattle.node_service.specs.declared.node_files.NodeFault.TheVariants.{Input}
 use Rattle.node_service.specs.NodeFiles.{Counts, IsNodeOf, IsResolver}
+use Rattle.resolve_once.specs.Alone.{ResolvesAlone}
 use Rattle.resolve_once.specs.Exchanged.{ExchangedBy}
-use Rattle.resolve_once.specs.Nodes.{HasKeys, configured_keys, signer_of}
+use Rattle.resolve_once.specs.Nodes.{HasKeys, configured_keys, signer_of, told_anchor}
 
 -- the name of a node's configuration file, and what is asked of the node
 pub record Question : Type 0 where
@@ -65,8 +66,11 @@ pub record IsCallBy (node : Node) (resolver : Resolver) (request : ResolveReques
   pub signs : signer_seeds node.ring ≡ Some seeds
   -- the clock was read once
   pub clock : IsOneReading before.clock now.clock
-  -- at the moment that it gave, the result is the one that the trace calls for, and the trace is true
-  pub tells : Tells (situation_of request resolver.age now.clock.last) (signer_of node resolver seeds) outcome outcome.result
+  -- at the moment that it gave, the result is the one that the trace calls for, and the trace is true; no other call was made on the
+  -- cache and the book, which were opened empty and with the anchors of the configuration
+  pub anchors : List AnchorKeys
+  pub listed : map told_anchor anchors ≡ resolver.anchors
+  pub alone : ResolvesAlone (situation_of request resolver.age now.clock.last) (signer_of node resolver seeds) anchors outcome
   -- the keys are those that the configuration gives the anchor
   pub keys : HasKeys (configured_keys request.anchor resolver.anchors) outcome.trace.keys.keys outcome.result
   -- what was got is what the exchanges of this call say

@@ -26,10 +26,10 @@ use Rattle.resolve_round.specs.declared.request.ResolveRequest.{ResolveRequest}
 use Rattle.resolve_round.specs.Traces.{asks_in}
 use Rattle.fed_resolver.specs.declared.outcome.Outcome.{Outcome}
 use Rattle.fed_resolver.specs.declared.outcome.Refusal.TheVariants.{Unavailable}
-use Rattle.fed_resolver.specs.Outcomes.{Tells}
 use Rattle.fed_resolver.specs.Told.{situation_of}
 use Rattle.fed_resolver.specs.Uses.{CountsFaults}
 use Rattle.resolve_once.specs.declared.parts.Parts.{Parts}
+use Rattle.resolve_once.specs.Alone.{ResolvesAlone}
 use Rattle.resolve_once.specs.Calls.{Around}
 use Rattle.resolve_once.specs.Exchanged.{ExchangedBy}
 use Rattle.resolve_once.specs.Nodes.{HasKeys, booked_keys, configured_keys, signer_of, told_anchor}
@@ -47,7 +47,7 @@ pub record ArePartsOf (node : Node) (parts : Parts) : Type 0 where
 
 -- what one call tells of its trace at a moment, by the keys that its book was opened with
 pub record TellsBy (signer : Signer) (anchors : List AnchorKeys) (request : ResolveRequest) (moment : ℕ) (outcome : Outcome) : Type 0 where
-  pub tells : Tells (situation_of request signer.age moment) signer outcome outcome.result
+  pub alone : ResolvesAlone (situation_of request signer.age moment) signer anchors outcome
   pub keys : HasKeys (booked_keys request.anchor anchors) outcome.trace.keys.keys outcome.result
   pub sealed : IfOk outcome.result (λ reply. IsSealedFor signer.keys reply.text)
 

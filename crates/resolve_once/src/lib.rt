@@ -6,6 +6,7 @@
 #![tactic(auto)]
 
 mod call;
+pub mod laws;
 mod parts;
 
 pub use call::resolve_once;
