@@ -1,7 +1,5 @@
 -- Where a node's files aren't of their form, the line says so.
 use Rattle.std.proofs.Common.{◌≡◌, ◌⊎◌, ◌<◌, ℕ, subst, sym, ◌∙◌, inl, inr, arith, lit<}
-use Rattle.fed_base.specs.declared.ledger.Plain.{Plain}
-use Rattle.http_plain.specs.declared.link.HttpLink.{HttpLink}
 use Rattle.turn_log.specs.declared.pass.PassSeat.{PassSeat}
 use Rattle.turn_log.specs.declared.group.Group.{Group}
 use Rattle.statement_shelf.specs.Book.{Book}
@@ -10,12 +8,12 @@ use Rattle.statement_shelf.specs.declared.calls.ShelfCall.{ShelfCall}
 use Rattle.statement_shelf.specs.declared.calls.ShelfReply.{ShelfReply}
 use Rattle.statement_shelf.specs.declared.calls.BookCall.{BookCall}
 use Rattle.statement_shelf.specs.declared.calls.BookReply.{BookReply}
-use Rattle.fed_serve.specs.Desks.{Views}
 use Rattle.fed_serve.specs.Moments.{PeerAt}
 use Rattle.node_service.specs.declared.service.ServiceEnd.{ServiceEnd}
 use Rattle.node_service.specs.declared.service.ServiceEnd.TheVariants as ends
 use Rattle.node_service.specs.Ends.{At, Ends, Order}
 use Rattle.std.specs.Prelude.{List, None, Option}
+use Rattle.resolver_service.specs.Batches.{ServiceViews}
 use Rattle.fed_words.specs.declared.service.Service.{Service}
 use Rattle.fed_words.specs.declared.service.Service.TheVariants.{Authority}
 use Rattle.fed_run.specs.Authorities.{HasNoNode, Outside, RunsAuthority, WritesLine, input_line}
@@ -66,7 +64,7 @@ runs_input at order before now end status is e (inr (four, (n, written), rose)) 
 }
 
 -- a service is run as an authority's is, where it is one
-pub runs_service : {P N C S T : Type 0} (views : Views P (HttpLink N) C Plain) (service : Service) (before now : Outside P) (joined : Option (Group (PassSeat S Part ShelfCall ShelfReply) (PassSeat T Book BookCall BookReply))) (status : ℕ) (config : List ℕ) (port connections : ℕ)
+pub runs_service : {P N C S T : Type 0} (views : ServiceViews P N C) (service : Service) (before now : Outside P) (joined : Option (Group (PassSeat S Part ShelfCall ShelfReply) (PassSeat T Book BookCall BookReply))) (status : ℕ) (config : List ℕ) (port connections : ℕ)
     → service ≡ Authority config port connections → RunsAuthority views.peer (record { config = config; post = record { port = port; connections = connections } }) before now status
     → joined ≡ None → RunsService views service before now joined status
 runs_service views service before now joined status config port connections is runs none = subst (λ s. RunsService views s before now joined status) (sym is) (runs, none)

@@ -1,8 +1,5 @@
 -- What is told of a rehearsal, and the pass that is held then.
 use Rattle.std.proofs.Common.{◌≡◌, ℕ, Option, None, Result, Ok, Err, sym, subst, inl, inr, lit<}
-use Rattle.fed_base.specs.declared.ledger.Plain.{Plain}
-use Rattle.http_plain.specs.declared.link.HttpLink.{HttpLink}
-use Rattle.fed_serve.specs.Desks.{Views}
 use Rattle.turn_log.specs.declared.pass.PassSeat.{PassSeat}
 use Rattle.turn_log.specs.declared.group.Group.{Group}
 use Rattle.statement_shelf.specs.Book.{Book}
@@ -15,6 +12,7 @@ use Rattle.rehearsal.specs.declared.fault.RehearsalFault.{RehearsalFault}
 use Rattle.rehearsal.specs.declared.fault.RehearsalFault.TheVariants.{Worn, Memory}
 use Rattle.rehearsal.specs.declared.summary.Summary.{Summary}
 use Rattle.rehearsal.specs.Rehearsals.{HoldsWornBy}
+use Rattle.resolver_service.specs.Batches.{ServiceViews}
 use Rattle.fed_words.specs.declared.service.Service.{Service}
 use Rattle.fed_words.specs.declared.service.Service.TheVariants.{Rehearse}
 use Rattle.fed_run.specs.Authorities.{Outside}
@@ -32,7 +30,7 @@ module _ {S T : Type 0} (worn : Option (Group (PassSeat S Part ShelfCall ShelfRe
   holds-rehearsed (Err Memory) before now status none told = holds-none worn status none (silent-other _ before now status told (lit< tt))
 
 -- a service rehearses as it is asked to, where that is what it does
-pub rehearses_service : {P N C S T : Type 0} (views : Views P (HttpLink N) C Plain) (service : Service) (before now : Outside P) (joined : Option (Group (PassSeat S Part ShelfCall ShelfReply) (PassSeat T Book BookCall BookReply))) (status params : ℕ) → service ≡ Rehearse params
+pub rehearses_service : {P N C S T : Type 0} (views : ServiceViews P N C) (service : Service) (before now : Outside P) (joined : Option (Group (PassSeat S Part ShelfCall ShelfReply) (PassSeat T Book BookCall BookReply))) (status params : ℕ) → service ≡ Rehearse params
     → IsRehearsedAs params (written_in before) (written_in now) status → now.node ≡ before.node → now.exchanges ≡ before.exchanges → joined ≡ None → RunsService views service before now joined status
 rehearses_service views service before now joined status params is rehearsed node exchanges unjoined =
     subst (λ s. RunsService views s before now joined status) (sym is) (record { rehearsed = rehearsed; node = node; exchanges = exchanges }, unjoined)

@@ -1,8 +1,5 @@
 -- What is told of a call, and the pass that is held then.
 use Rattle.std.proofs.Common.{◌≡◌, ◌≢◌, ◌≤◌, ◌<◌, ◌⊎◌, ℕ, List, [], Option, Some, None, Result, Ok, Err, IfSome, refl, subst, sym, inl, inr, arith, lit<}
-use Rattle.fed_base.specs.declared.ledger.Plain.{Plain}
-use Rattle.http_plain.specs.declared.link.HttpLink.{HttpLink}
-use Rattle.fed_serve.specs.Desks.{Views}
 use Rattle.fed_serve.specs.Moments.{PeerAt}
 use Rattle.node_service.specs.Ends.{Order}
 use Rattle.node_service.specs.declared.node_files.NodeFault.{NodeFault}
@@ -19,6 +16,7 @@ use Rattle.resolve_reply.specs.declared.reply.Reply.{Reply}
 use Rattle.fed_resolver.specs.declared.outcome.Refusal.{Refusal}
 use Rattle.fed_resolver.specs.declared.outcome.Refusal.TheVariants.{NoAnchor, NotFound, PolicyOnly, NoChain, Unavailable, Budget, Worn, Memory}
 use Rattle.resolve_once.specs.Calls.{HoldsWorn, Question}
+use Rattle.resolver_service.specs.Batches.{ServiceViews}
 use Rattle.fed_words.specs.declared.service.Service.{Service}
 use Rattle.fed_words.specs.declared.service.Service.TheVariants.{Authority, Rehearse, Resolve, Resolver}
 use Rattle.fed_run.specs.Authorities.{Outside, RunsAuthority, WritesLine}
@@ -84,7 +82,7 @@ module _ {S T : Type 0} (worn : Option (Group (PassSeat S Part ShelfCall ShelfRe
 -- ---- the service
 
 -- a service resolves as it is asked to, where that is what it does
-pub resolves_service : {P N C S T : Type 0} (views : Views P (HttpLink N) C Plain) (service : Service) (before now : Outside P) (joined : Option (Group (PassSeat S Part ShelfCall ShelfReply) (PassSeat T Book BookCall BookReply))) (status : ℕ) (config sub anchor : List ℕ) (types : List (List ℕ))
+pub resolves_service : {P N C S T : Type 0} (views : ServiceViews P N C) (service : Service) (before now : Outside P) (joined : Option (Group (PassSeat S Part ShelfCall ShelfReply) (PassSeat T Book BookCall BookReply))) (status : ℕ) (config sub anchor : List ℕ) (types : List (List ℕ))
     → service ≡ Resolve config sub anchor → types ≡ []
     → RunsResolve (record { config = config; request = record { sub = sub; anchor = anchor; types = types } }) before now status → joined ≡ None → RunsService views service before now joined status
 resolves_service views service before now joined status config sub anchor types is none runs unjoined =
@@ -124,11 +122,11 @@ unrehearsed params o = record {
   exchanges = refl;
 }
 
-module _ {P N C S T : Type 0} (views : Views P (HttpLink N) C Plain) (joined : Option (Group (PassSeat S Part ShelfCall ShelfReply) (PassSeat T Book BookCall BookReply))) (none : joined ≡ None) where
+module _ {P N C S T : Type 0} (views : ServiceViews P N C) (joined : Option (Group (PassSeat S Part ShelfCall ShelfReply) (PassSeat T Book BookCall BookReply))) (none : joined ≡ None) where
   pub unserved_resolver : (order : Order) (o : Outside P) → RunsResolver views order o o joined 5
   unserved_resolver order o = record {
     end = ends.Memory;
-    ended = record { ended = (refl, refl); files = refl; exchanges = refl };
+    ended = record { ended = ((refl, refl), inl refl); files = refl; exchanges = refl };
     told = (refl, refl);
     joins = record { held = λ zero. absurd (omega (arith, zero)); none = λ _. none };
   }

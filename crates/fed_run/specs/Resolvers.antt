@@ -1,7 +1,5 @@
 -- What `resolver` does: the outside before and after, the pass that is handed out, and the status.
 use Rattle.std.specs.Prelude.{◌≡◌, ◌≢◌, ℕ, Option, Some, None}
-use Rattle.fed_base.specs.declared.ledger.Plain.{Plain}
-use Rattle.http_plain.specs.declared.link.HttpLink.{HttpLink}
 use Rattle.turn_log.specs.Groups.{known}
 use Rattle.turn_log.specs.Runs.{call_limit}
 use Rattle.turn_log.specs.declared.pass.PassSeat.{PassSeat}
@@ -14,10 +12,11 @@ use Rattle.statement_shelf.specs.declared.calls.BookCall.{BookCall}
 use Rattle.statement_shelf.specs.declared.calls.BookReply.{BookReply}
 use Rattle.statement_shelf.specs.Passes.{CommonsKnown}
 use Rattle.resolve_pages.specs.Acts.{HasCounted}
-use Rattle.fed_serve.specs.Desks.{Views, network_at}
+use Rattle.fed_serve.specs.Desks.{network_at}
 use Rattle.node_service.specs.Ends.{Order}
 use Rattle.resolver_service.specs.declared.ending.ResolverEnd.{ResolverEnd}
 use Rattle.resolver_service.specs.declared.ending.ResolverEnd.TheVariants as ends
+use Rattle.resolver_service.specs.Batches.{ServiceViews}
 use Rattle.resolver_service.specs.Ends.{At, Ends, around, at_moment}
 use Rattle.fed_run.specs.Authorities.{Outside, input_line, served_line}
 use Rattle.fed_run.specs.Resolving.{IsSilent, Writes, Written, written_in}
@@ -34,6 +33,7 @@ IsEndTold connections (ends.Served pass) before now status = Writes 0 (served_li
 IsEndTold connections ends.Input before now status = Writes 2 input_line before now status
 IsEndTold connections ends.StoreFailed before now status = IsSilent 6 before now status
 IsEndTold connections ends.NetworkFailed before now status = IsSilent 7 before now status
+IsEndTold connections ends.Unsettled before now status = IsSilent 7 before now status
 IsEndTold connections ends.Memory before now status = IsSilent 5 before now status
 IsEndTold connections (ends.Worn pass) before now status = IsSilent 8 before now status
 
@@ -55,7 +55,7 @@ module _ {S T : Type 0} where
 
 module _ {P N C S T : Type 0} where
   -- it served and ended so, and that is written and told by the status
-  pub record RunsResolver (views : Views P (HttpLink N) C Plain) (order : Order) (before now : Outside P) (joined : Option (Group (PassSeat S Part ShelfCall ShelfReply) (PassSeat T Book BookCall BookReply))) (status : ℕ) : Type 0 where
+  pub record RunsResolver (views : ServiceViews P N C) (order : Order) (before now : Outside P) (joined : Option (Group (PassSeat S Part ShelfCall ShelfReply) (PassSeat T Book BookCall BookReply))) (status : ℕ) : Type 0 where
     pub end : ResolverEnd
     pub ended : Ends views order (seen_by_resolver before) (seen_by_resolver now) end
     pub told : IsEndTold order.post.connections end (written_in before) (written_in now) status

@@ -1,7 +1,5 @@
 -- What is done over a network, or over one in memory, by what the words ask for, and the pass that is handed out.
 use Rattle.std.specs.Prelude.{◌≡◌, ℕ, [], Option, None}
-use Rattle.fed_base.specs.declared.ledger.Plain.{Plain}
-use Rattle.http_plain.specs.declared.link.HttpLink.{HttpLink}
 use Rattle.turn_log.specs.declared.pass.PassSeat.{PassSeat}
 use Rattle.turn_log.specs.declared.group.Group.{Group}
 use Rattle.statement_shelf.specs.Book.{Book}
@@ -10,7 +8,7 @@ use Rattle.statement_shelf.specs.declared.calls.ShelfCall.{ShelfCall}
 use Rattle.statement_shelf.specs.declared.calls.ShelfReply.{ShelfReply}
 use Rattle.statement_shelf.specs.declared.calls.BookCall.{BookCall}
 use Rattle.statement_shelf.specs.declared.calls.BookReply.{BookReply}
-use Rattle.fed_serve.specs.Desks.{Views}
+use Rattle.resolver_service.specs.Batches.{ServiceViews}
 use Rattle.fed_words.specs.declared.service.Service.{Service}
 use Rattle.fed_words.specs.declared.service.Service.TheVariants.{Authority, Rehearse, Resolve, Resolver}
 use Rattle.fed_run.specs.Authorities.{Outside, RunsAuthority}
@@ -19,7 +17,7 @@ use Rattle.fed_run.specs.Resolvers.{RunsResolver}
 use Rattle.fed_run.specs.Resolving.{RunsResolve}
 
 module _ {P N C S T : Type 0} where
-  abbrev pub RunsService : Views P (HttpLink N) C Plain → Service → Outside P → Outside P → Option (Group (PassSeat S Part ShelfCall ShelfReply) (PassSeat T Book BookCall BookReply)) → ℕ → Type 0
+  abbrev pub RunsService : ServiceViews P N C → Service → Outside P → Outside P → Option (Group (PassSeat S Part ShelfCall ShelfReply) (PassSeat T Book BookCall BookReply)) → ℕ → Type 0
   RunsService views (Authority config port connections) before now joined status =
       RunsAuthority views.peer (record { config = config; post = record { port = port; connections = connections } }) before now status × (joined ≡ None)
   RunsService views (Resolver config port connections) before now joined status =

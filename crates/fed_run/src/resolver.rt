@@ -99,6 +99,7 @@ fn tell_end<K: Sink>(
         ResolverEnd::Input => write_line(alloc, 2, b"input\n", out, notes),
         ResolverEnd::StoreFailed => 6,
         ResolverEnd::NetworkFailed => 7,
+        ResolverEnd::Unsettled => 7,
         ResolverEnd::Memory => {
             explain_memory(alloc, notes);
             5

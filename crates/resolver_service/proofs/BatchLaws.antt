@@ -2,7 +2,8 @@
 use Rattle.std.proofs.Common.{◌≡◌, ◌-◌, ℕ, List, [], ◌∷◌, ◌++◌, length, refl, sym, ap, ◌∙◌, subst}
 use Rattle.std.specs.Prelude.{min}
 use Rattle.resolver_service.specs.Batches.{AreBatches, Batch, IsBatch, IsSized, Setup, Standing}
-use Rattle.resolver_service.specs.Steps.{IsServedBatch, ServesSome}
+use Rattle.resolver_service.specs.Steps.{IsServedBatch}
+use Rattle.resolver_service.specs.Stopped.{ServesSome}
 
 module _ {P N C : Type 0} where
   batches_more : (s : Setup P N C) (a b c : Standing P) (batches : List (Batch P N C)) (x : Batch P N C) → AreBatches s a batches b → x.before ≡ b → x.now ≡ c → IsBatch s x

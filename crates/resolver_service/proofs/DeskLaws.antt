@@ -30,7 +30,7 @@ use Rattle.fed_serve.specs.Handlings.{Handling, dealt, issued, not_asked, resolv
 use Rattle.fed_serve.specs.Uses.{IsWornBy, Uses}
 use Rattle.resolver_service.specs.declared.stop.Stop.{Stop}
 use Rattle.resolver_service.specs.declared.stop.Stop.TheVariants as stop
-use Rattle.resolver_service.specs.Batches.{AreEnded, IsNewDesk, Progress, ServesDesks, is_worn, peers_at, peers_of, progress, setup, standing}
+use Rattle.resolver_service.specs.Batches.{AreEnded, IsNewDesk, Progress, ServesDesks, ServiceViews, at_desks, is_worn, peers_at, peers_of, progress, setup, standing}
 use Rattle.resolver_service.specs.Steps.{AreMade, IfWorn, IsDone, IsPurged, IsReady, IsServedBatch, StopsBy}
 
 -- ---- a worn object
@@ -104,11 +104,11 @@ whole_again len old new all same =
 
 -- ---- what is left of them
 
-added_none : {A : Type 0} (a : Option (List A)) → Added a [] a
+pub added_none : {A : Type 0} (a : Option (List A)) → Added a [] a
 added_none None = refl
 added_none (Some xs) = ap Some (sym (append-nil xs))
 
-added_after : {A : Type 0} (xs ys : List A) (a b c : Option (List A)) → Added a xs b → Added b ys c → Added a (xs ++ ys) c
+pub added_after : {A : Type 0} (xs ys : List A) (a b c : Option (List A)) → Added a xs b → Added b ys c → Added a (xs ++ ys) c
 added_after xs ys None b c one next = next ∙ ap (option_map (λ held. held ++ ys)) one
 added_after xs ys (Some held) b c one next = next ∙ ap (option_map (λ held. held ++ ys)) one ∙ ap Some (append_assoc held xs ys)
 
@@ -120,7 +120,7 @@ module _ {P L C G : Type 0} where
   pub ended_none : (a : Progress P) → AreEnded {P = P} {L = L} {C = C} {G = G} [] a a
   ended_none a = record { unworn = All-nil (λ (d : Desk P L C G). is_worn d.result ≡ false); settled = added_none a.net.settled; joined = refl }
 
-  ended_more : (desk : Desk P L C G) (desks : List (Desk P L C G)) (a b c : Progress P) → is_worn desk.result ≡ false → AreJoined a.known (known desk.pass) b.known
+  pub ended_more : (desk : Desk P L C G) (desks : List (Desk P L C G)) (a b c : Progress P) → is_worn desk.result ≡ false → AreJoined a.known (known desk.pass) b.known
       → Added a.net.settled (peers_of desk.peer) b.net.settled → AreEnded desks b c → AreEnded (desk ∷ desks) a c
   ended_more desk desks a b c unworn joined settled more = record {
     unworn = All-cons (λ (d : Desk P L C G). is_worn d.result ≡ false) desk desks unworn more.unworn;
@@ -128,30 +128,8 @@ module _ {P L C G : Type 0} where
     joined = (b.known, joined, more.joined);
   }
 
-  -- what is left to be done at the first desk and those behind it is, once it is done there, left to be done at those behind it
-  pub ended_step : (so_far result : Result Unit Stop) (desk : Desk P L C G) (rest all : List (Desk P L C G)) (first a b : Progress P)
-      → OnOk so_far ((last : Progress P) → AreEnded (desk ∷ rest) a last → AreEnded all first last)
-      → OnOk result ((so_far ≡ Ok tt) × (is_worn desk.result ≡ false) × AreJoined a.known (known desk.pass) b.known × Added a.net.settled (peers_of desk.peer) b.net.settled)
-      → OnOk result ((last : Progress P) → AreEnded rest b last → AreEnded all first last)
-  ended_step so_far (Ok u) desk rest all first a b inv (ok, unworn, joined, settled) = λ last more.
-      subst (λ r. OnOk r ((last : Progress P) → AreEnded (desk ∷ rest) a last → AreEnded all first last)) ok inv last (ended_more desk rest a b last unworn joined settled more)
-  ended_step so_far (Err stop) desk rest all first a b inv is = tt
-
-  pub ended_next : (so_far result : Result Unit Stop) (desk : Desk P L C G) (items rest all : List (Desk P L C G)) (first a b : Progress P) → items ≡ desk ∷ rest
-      → OnOk so_far ((last : Progress P) → AreEnded items a last → AreEnded all first last)
-      → OnOk result ((so_far ≡ Ok tt) × (is_worn desk.result ≡ false) × AreJoined a.known (known desk.pass) b.known × Added a.net.settled (peers_of desk.peer) b.net.settled)
-      → OnOk result ((last : Progress P) → AreEnded rest b last → AreEnded all first last)
-  ended_next so_far result desk items rest all first a b is inv one =
-      ended_step so_far result desk rest all first a b (subst (λ (ds : List (Desk P L C G)). OnOk so_far ((last : Progress P) → AreEnded ds a last → AreEnded all first last)) is inv) one
-
   pub done_rest : (part : ResolverPart) (items : List (Desk P L C G)) (desk : Desk P L C G) (rest : List (Desk P L C G)) → items ≡ desk ∷ rest → All (IsDone part) items → All (IsDone part) rest
   done_rest part items desk rest is all = All-tail (IsDone part) desk rest (subst (λ (ds : List (Desk P L C G)). All (IsDone part) ds) is all)
-
-  -- where nothing is left to be done, all is
-  pub ended_all : (so_far : Result Unit Stop) (rest all : List (Desk P L C G)) (first a : Progress P) → rest ≡ []
-      → OnOk so_far ((last : Progress P) → AreEnded rest a last → AreEnded all first last) → OnOk so_far (AreEnded all first a)
-  ended_all (Ok u) rest all first a none inv = inv a (subst (λ (ds : List (Desk P L C G)). AreEnded ds a a) (sym none) (ended_none a))
-  ended_all (Err stop) rest all first a none inv = tt
 
 module _ {P L C G : Type 0} where
   -- all desks were served, whole
@@ -192,6 +170,7 @@ cause_ok before now result is cause = subst (λ r. OnOk r (now ≡ before)) is c
 pub stops_of : (before now : ℕ) (k : CommonsKnown) (result : Result Unit Stop) → now ≡ before → IfWorn k result → StopsBy before now k result
 stops_of before now k (Ok u) same is = same
 stops_of before now k (Err stop.Network) same is = absurd is
+stops_of before now k (Err stop.Unsettled) same is = absurd is
 stops_of before now k (Err stop.Memory) same is = same
 stops_of before now k (Err stop.Worn) same is = (same, is)
 
@@ -212,12 +191,14 @@ worn_purge moment count old new (same, (counts, few, purged, all)) = inr (length
 pub uncalled_at : (k : CommonsKnown) (a b c : ℕ) → a ≡ 0 → b ≡ 0 → c ≡ 0 → call_at k None a b c ≡ call_at k None 0 0 0
 uncalled_at k a b c e f h = ap (λ n. call_at k None n b c) e ∙ ap (λ n. call_at k None 0 n c) f ∙ ap (λ n. call_at k None 0 0 n) h
 
-module _ {P N C : Type 0} (views : Views P (HttpLink N) C Plain) (routes : List Route) where
+module _ {P N C : Type 0} (views : ServiceViews P N C) (routes : List Route) where
   -- what was split off a pass that knows the same
   new_from : (a b : CommonsKnown) (desk : Desk P (HttpLink N) C Plain) → IsSame a b → IsNewDesk views routes b desk → IsNewDesk views routes a desk
   new_from a b desk same new = record {
+    free = new.free;
     pass = record { parts = λ p within. new.pass.parts p within ∙ ap untaken (same.parts p); book = new.pass.book ∙ ap untaken same.book };
     routed = new.routed;
+    silent = new.silent;
     uncalled = new.uncalled;
     unread = new.unread;
   }
@@ -239,7 +220,7 @@ module _ {P N C : Type 0} (views : Views P (HttpLink N) C Plain) (routes : List 
   -- a batch, by the steps of it
   pub batch_of : (part : ResolverPart) (node : Node) (a c : NetworkAt P) (k purged split k' : CommonsKnown) (clock clock' : ClockAt) (moment count : ℕ) (desks : List (Desk P (HttpLink N) C Plain))
       (result : Result Unit Stop) → IsOneReading clock clock' → moment ≡ clock'.last → IsPurged moment k purged → IsSame purged split → AreMade views part routes purged desks → length desks ≡ count
-      → OnOk result (ServesDesks views node desks (progress a split) (progress c k')) → OnOk result (IsServedBatch count (setup views node routes) (standing a k clock) (standing c k' clock'))
+      → OnOk result (ServesDesks (at_desks views) node desks (progress a split) (progress c k')) → OnOk result (IsServedBatch count (setup views node routes) (standing a k clock) (standing c k' clock'))
   batch_of part node a c k purged split k' clock clock' moment count desks (Ok u) reading is (dropped, purge) same made many serves = (
     record { before = standing a k clock; desks = desks; now = standing c k' clock' },
     many,

@@ -1,53 +1,76 @@
 -- How it ends without a node, and with one.
-use Rattle.std.proofs.Common.{◌≡◌, ℕ, List, [], Option, Some, Err, refl, sym, ap, ◌∙◌, subst}
-use Rattle.fed_base.specs.declared.ledger.Plain.{Plain}
+use Rattle.std.proofs.Common.{◌≡◌, ◌<◌, ℕ, List, [], Option, Some, Err, inl, inr, refl, sym, ap, ◌∙◌, subst}
+use Rattle.std.specs.Prelude.{◌⊎◌, min}
 use Rattle.fed_ports.specs.Exchanges.{Exchange}
 use Rattle.fed_ports.specs.Stores.{Files}
-use Rattle.http_plain.specs.declared.link.HttpLink.{HttpLink}
 use Rattle.authority_core.specs.Nodes.{Node as Authority}
 use Rattle.turn_log.specs.Groups.{IsHistory}
+use Rattle.turn_log.specs.Runs.{call_limit}
 use Rattle.statement_shelf.specs.Book.{BookStep, opened_with}
 use Rattle.statement_shelf.specs.Passes.{CommonsKnown, IsPassOfAll, opened_book}
 use Rattle.statement_shelf.specs.Shelf.{ShelfStep}
+use Rattle.resolve_pages.specs.Acts.{HasCounted}
 use Rattle.resolver_answers.specs.declared.part.ResolverPart.{ResolverPart}
-use Rattle.fed_serve.specs.Desks.{Views, network_at}
+use Rattle.fed_serve.specs.Desks.{network_at}
 use Rattle.fed_serve.specs.Moments.{ClockAt}
 use Rattle.fed_serve.specs.declared.node.Node.{Node}
 use Rattle.jwk_set.specs.declared.set.JwkSet.{JwkSet}
 use Rattle.node_config.specs.Nodes.{Resolver}
+use Rattle.resolve_once.specs.Alone.{HasSeenNothing}
 use Rattle.resolve_once.specs.Nodes.{signer_of}
 use Rattle.node_service.specs.declared.node_files.NodeFault.{NodeFault}
 use Rattle.node_service.specs.declared.node_files.NodeFault.TheVariants.{Input, Store, Memory}
-use Rattle.node_service.specs.Ends.{Order}
+use Rattle.node_service.specs.Ends.{Order, Post}
 use Rattle.node_service.specs.NodeFiles.{Answers, Counts, IsNodeOf, IsResolver}
 use Rattle.resolver_service.specs.declared.ending.ResolverEnd.{ResolverEnd}
 use Rattle.resolver_service.specs.declared.ending.ResolverEnd.TheVariants as ends
 use Rattle.resolver_service.specs.declared.node.Opened.{Opened}
 use Rattle.resolver_service.specs.declared.node.Start.{Start}
 use Rattle.resolver_service.specs.declared.node.Terms.{Terms}
-use Rattle.resolver_service.specs.Batches.{ServesAll, setup, standing}
-use Rattle.resolver_service.specs.Ends.{Around, EndsBy, HasServed, around, at_moment, on_port}
+use Rattle.resolver_service.specs.declared.stop.Stop.{Stop}
+use Rattle.resolver_service.specs.declared.stop.Stop.TheVariants as stop
+use Rattle.resolver_service.specs.Batches.{ServesAll, ServiceViews, Setup, Standing, setup, standing}
+use Rattle.resolver_service.specs.Ends.{Around, EndsBy, HasServed, HasStopped, StopsIn, around, at_moment, on_port, with_faults}
 use Rattle.resolver_service.specs.Faults.{end_without_node}
-use Rattle.resolver_service.specs.Nodes.{HasSeenNothing}
-use Rattle.resolver_service.specs.Steps.{AreTermsOf, EndsOn, IsNewStart, IsOpenedFrom}
+use Rattle.resolver_service.specs.Steps.{AreTermsOf, EndsOn, EndsServing, IsEndOf, IsNewStart, IsOpenedFrom, StopsAfter, StopsBatch, StopsBy}
+use Rattle.resolver_service.specs.Stopped.{ServesSome}
 
-module _ {P N C : Type 0} (views : Views P (HttpLink N) C Plain) where
+-- the end of a batch, by what stopped it
+stops_in : {P N C : Type 0} (s : Setup P N C) (count : ℕ) (before now : Standing P) (why : Stop) (end : ResolverEnd) → IsEndOf why now.progress.known end
+    → StopsBatch s count before now (Err why) → StopsIn s count before now end
+stops_in s count before now stop.Network ends.NetworkFailed of stops = stops
+stops_in s count before now stop.Unsettled ends.Unsettled of stops = stops
+stops_in s count before now stop.Memory ends.Memory of stops = stops
+stops_in s count before now stop.Worn (ends.Worn pass) of stops = (sym of, stops)
+stops_in s count before now why end of stops = absurd of
+
+module _ {P N C : Type 0} (views : ServiceViews P N C) where
   -- there is no node
   pub ends_without : (order : Order) (files files' : Option Files) (seen : Around P) (a b : ℕ) (fault : NodeFault)
       → Answers files (λ (node : Authority). IsNodeOf files order.config node × IsResolver node) (Err fault) → Counts {X = Authority} a b (Err fault)
       → EndsBy views order (at_moment files a seen) (at_moment files' b seen) (end_without_node fault)
   ends_without order files files' seen a b Input none counts = (λ node is resolves. none node (is, resolves), refl, counts)
   ends_without order files files' seen a b Store none counts = (counts, refl)
-  ends_without order files files' seen a b Memory none counts = (counts, refl)
+  ends_without order files files' seen a b Memory none counts = ((counts, refl), inl refl)
+
+  failed_file : (order : Order) (files files' : Option Files) (before now : Around P) (a b : ℕ) (node : Authority) → b ≡ a → IsNodeOf files order.config node
+      → EndsOn views node order.post before now ends.NetworkFailed → EndsBy views order (at_moment files a before) (at_moment files' b now) ends.NetworkFailed
+  failed_file order files files' before now a b node steady is (rose, stopped) = (rose, steady, (node, is, stopped))
+
+  wanted_file : (order : Order) (files files' : Option Files) (before now : Around P) (a b : ℕ) (node : Authority) → b ≡ a → IsNodeOf files order.config node → now.net.faults ≡ before.net.faults
+      → (now ≡ before) ⊎ HasStopped views node order.post.connections (on_port order.post.port before) now ends.Memory
+      → EndsBy views order (at_moment files a before) (at_moment files' b now) ends.Memory
+  wanted_file order files files' before now a b node steady is same (inl nothing) = ((steady, same), inl nothing)
+  wanted_file order files files' before now a b node steady is same (inr stopped) = ((steady, same), inr (node, is, stopped))
 
   -- the node of the file ended so
   pub ends_with : (order : Order) (files files' : Option Files) (before now : Around P) (a b : ℕ) (node : Authority) (end : ResolverEnd) → b ≡ a
-      → IsNodeOf files order.config node → EndsOn views node order.post.connections (on_port order.post.port before) now end
-      → EndsBy views order (at_moment files a before) (at_moment files' b now) end
+      → IsNodeOf files order.config node → EndsOn views node order.post before now end → EndsBy views order (at_moment files a before) (at_moment files' b now) end
   ends_with order files files' before now a b node (ends.Served pass) steady is (served, same) = ((node, is, served), (steady, same))
-  ends_with order files files' before now a b node ends.NetworkFailed steady is rose = (rose, steady)
-  ends_with order files files' before now a b node ends.Memory steady is same = (steady, same)
-  ends_with order files files' before now a b node (ends.Worn pass) steady is (counted, same) = (counted, (steady, same))
+  ends_with order files files' before now a b node ends.NetworkFailed steady is failed = failed_file order files files' before now a b node steady is failed
+  ends_with order files files' before now a b node ends.Unsettled steady is (rose, stopped) = (rose, steady, (node, is, stopped))
+  ends_with order files files' before now a b node ends.Memory steady is (same, wanted) = wanted_file order files files' before now a b node steady is same wanted
+  ends_with order files files' before now a b node (ends.Worn pass) steady is (counted, same, stopped) = (counted, ((steady, same), (node, is, stopped)))
   ends_with order files files' before now a b node ends.Input steady is of = absurd of
   ends_with order files files' before now a b node ends.StoreFailed steady is of = absurd of
 
@@ -69,6 +92,58 @@ module _ {P N C : Type 0} (views : Views P (HttpLink N) C Plain) where
             (subst (λ workers. ServesAll (setup views opened.node opened.routes) workers connections (standing before.net first before.clock) (standing now.net joined now.clock)) is.workers serves);
         history = subst (λ book. IsHistory ShelfStep [] BookStep book joined) (ap (λ (p : ResolverPart). opened_book p.commons) same ∙ is.is_full.is.opened) history;
       }
+
+  -- fewer were, and then a batch stopped
+  has_stopped : (node : Authority) (opened : Opened) (part : ResolverPart) (connections : ℕ) (before now : Around P) (first last : CommonsKnown) (end : ResolverEnd)
+      → IsOpenedFrom node opened → opened.node.resolver ≡ Some part → HasSeenNothing first → (left : ℕ) → 0 < left → (then : Standing P)
+      → ServesSome (setup views opened.node opened.routes) opened.workers connections left (standing before.net first before.clock) then
+      → StopsIn (setup views opened.node opened.routes) (min opened.workers left) then (standing now.net last now.clock) end
+      → IsHistory ShelfStep [] BookStep (opened_book part.commons) last → HasStopped views node connections before now end
+  has_stopped node opened part connections before now first last end is has unseen left fewer then serves stops history =
+      let same : part ≡ is.is_full.part = cc (sym has ∙ is.is_full.has) in
+      record {
+        resolver = is.resolver;
+        full = opened.node;
+        is_full = is.is_full;
+        first = first;
+        unseen = unseen;
+        left = left;
+        fewer = fewer;
+        then = then;
+        serves =
+            subst (λ routes. ServesSome (setup views opened.node routes) is.resolver.workers connections left (standing before.net first before.clock) then) is.routes
+            (subst (λ workers. ServesSome (setup views opened.node opened.routes) workers connections left (standing before.net first before.clock) then) is.workers serves);
+        last = last;
+        stops =
+            subst (λ routes. StopsIn (setup views opened.node routes) (min is.resolver.workers left) then (standing now.net last now.clock) end) is.routes
+            (subst (λ workers. StopsIn (setup views opened.node opened.routes) (min workers left) then (standing now.net last now.clock) end) is.workers stops);
+        history = subst (λ book. IsHistory ShelfStep [] BookStep book last) (ap (λ (p : ResolverPart). opened_book p.commons) same ∙ is.is_full.is.opened) history;
+      }
+
+  -- it ended so, since serving stopped
+  by_stop : (node : Authority) (connections : ℕ) (before now : Around P) (last : CommonsKnown) (why : Stop) (end : ResolverEnd) → IsEndOf why last end
+      → StopsBy before.net.faults now.net.faults last (Err why) → HasStopped views node connections before now end → EndsServing views node connections before now end
+  by_stop node connections before now last stop.Network ends.NetworkFailed of by stopped = (by, stopped)
+  by_stop node connections before now last stop.Unsettled ends.Unsettled of by stopped = (by, stopped)
+  by_stop node connections before now last stop.Memory ends.Memory of by stopped = (by, stopped)
+  by_stop node connections before now last stop.Worn (ends.Worn pass) of (same, counted) stopped = (subst (λ k. HasCounted k call_limit) (sym of) counted, same, stopped)
+  by_stop node connections before now last why end of by stopped = absurd of
+
+  pub ends_stopped : (node : Authority) (opened : Opened) (part : ResolverPart) (connections : ℕ) (before now : Around P) (first last : CommonsKnown) (why : Stop) (end : ResolverEnd)
+      → IsOpenedFrom node opened → opened.node.resolver ≡ Some part → HasSeenNothing first → IsEndOf why last end → StopsBy before.net.faults now.net.faults last (Err why)
+      → StopsAfter (setup views opened.node opened.routes) opened.workers connections (standing before.net first before.clock) (standing now.net last now.clock) (Err why)
+      → IsHistory ShelfStep [] BookStep (opened_book part.commons) last → EndsServing views node connections before now end
+  ends_stopped node opened part connections before now first last why end is has unseen of by (left, fewer, then, serves, stops) history =
+      by_stop node connections before now last why end of by
+      (has_stopped node opened part connections before now first last end is has unseen left fewer then serves
+      (stops_in (setup views opened.node opened.routes) (min opened.workers left) then (standing now.net last now.clock) why end of stops) history)
+
+  -- on the port that was taken, it ended as it did on a port
+  ends_post : (node : Authority) (post : Post) (before now : Around P) (end : ResolverEnd) → EndsServing views node post.connections (on_port post.port before) now end
+      → EndsOn views node post before now end
+  ends_post node post before now ends.NetworkFailed (rose, stopped) = (rose, inr stopped)
+  ends_post node post before now ends.Memory (same, stopped) = (same, inr stopped)
+  ends_post node post before now end is = is
 
 -- the pass is of the part's objects
 pub pass_of : (start : Start) (part : ResolverPart) → IsNewStart start → start.opened.node.resolver ≡ Some part → IsPassOfAll part.commons start.pass
@@ -110,6 +185,13 @@ listened port p q e e' c c' s s' f f' clock h1 h2 h3 h4 h5 =
     ap (λ x. around (network_at x e' c' s' f') clock) h1 ∙ ap (λ x. around (network_at (Some port) x c' s' f') clock) h2 ∙ ap (λ x. around (network_at (Some port) e x s' f') clock) h3
     ∙ ap (λ x. around (network_at (Some port) e c x f') clock) h4 ∙ ap (λ x. around (network_at (Some port) e c s x) clock) h5
 
-pub ends_from : {P N C : Type 0} (views : Views P (HttpLink N) C Plain) (node : Authority) (connections : ℕ) (before before' now : Around P) (end : ResolverEnd) → before ≡ before'
-    → EndsOn views node connections before now end → EndsOn views node connections before' now end
-ends_from views node connections before before' now end same ends = subst (λ b. EndsOn views node connections b now end) same ends
+-- the network failed, and else is as before
+pub unheard : {P : Type 0} (p q : Option ℕ) (e e' : Option (List Exchange)) (c c' s s' : Option (List P)) (f f' : ℕ) (clock : ClockAt) → p ≡ q → e' ≡ e → c' ≡ c → s' ≡ s
+    → around (network_at p e' c' s' f') clock ≡ with_faults f' (around (network_at q e c s f) clock)
+unheard p q e e' c c' s s' f f' clock h1 h2 h3 h4 =
+    ap (λ x. around (network_at x e' c' s' f') clock) h1 ∙ ap (λ x. around (network_at q x c' s' f') clock) h2 ∙ ap (λ x. around (network_at q e x s' f') clock) h3
+    ∙ ap (λ x. around (network_at q e c x f') clock) h4
+
+pub ends_from : {P N C : Type 0} (views : ServiceViews P N C) (node : Authority) (post : Post) (before before' now : Around P) (end : ResolverEnd) → before' ≡ on_port post.port before
+    → EndsServing views node post.connections before' now end → EndsOn views node post before now end
+ends_from views node post before before' now end same ends = ends_post views node post before now end (subst (λ b. EndsServing views node post.connections b now end) same ends)

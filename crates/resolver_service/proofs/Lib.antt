@@ -3,3 +3,4 @@ mod ConfigLaws
 mod DeskLaws
 mod EndLaws
 mod NodeLaws
+mod StopLaws

@@ -1,5 +1,5 @@
 -- Batches of connections: a desk for each connection, and one pass that takes in what the passes of all desks have seen and done.
-use Rattle.std.specs.Prelude.{◌≡◌, ◌-◌, ℕ, List, [], ◌∷◌, ◌++◌, length, map, min, All, Bool, true, false, Option, Some, None, Result, Err}
+use Rattle.std.specs.Prelude.{◌≡◌, ◌-◌, ℕ, List, [], ◌∷◌, ◌++◌, length, map, min, All, Bool, true, false, Option, Some, None, IfSome, Result, Err}
 use Rattle.fed_base.specs.Ledgers.{plain_count}
 use Rattle.fed_base.specs.declared.ledger.Plain.{Plain}
 use Rattle.fed_ports.specs.Exchanges.{Exchange}
@@ -89,18 +89,28 @@ module _ {P L C G : Type 0} where
 
 -- ---- batches
 
--- how peers, clocks and networks are seen, at desks that get pages over a network of their own
-abbrev pub service_views : {P N C : Type 0} → (P → PeerAt) → (C → ClockAt) → (N → Option (List Exchange)) → (N → ℕ) → Views P (HttpLink N) C Plain
-service_views peer clock exchanges faults =
-    views_of peer clock (λ known link ledger. call_at known None (link_calls link) (faults (link_network link)) (plain_count ledger)) (link_gave exchanges)
+-- how peers, clocks and networks are seen: a network's exchanges, where it tells them, and how often a call of it has failed
+pub record ServiceViews (P N C : Type 0) : Type 0 where
+  pub peer : P → PeerAt
+  pub clock : C → ClockAt
+  pub exchanges : N → Option (List Exchange)
+  pub faults : N → ℕ
+
+abbrev pub service_views : {P N C : Type 0} → (P → PeerAt) → (C → ClockAt) → (N → Option (List Exchange)) → (N → ℕ) → ServiceViews P N C
+service_views peer clock exchanges faults = record { peer = peer; clock = clock; exchanges = exchanges; faults = faults }
+
+-- the same at desks that get pages over a network of their own
+abbrev pub at_desks : {P N C : Type 0} → ServiceViews P N C → Views P (HttpLink N) C Plain
+at_desks views =
+    views_of views.peer views.clock (λ known link ledger. call_at known None (link_calls link) (views.faults (link_network link)) (plain_count ledger)) (link_gave views.exchanges)
 
 -- what a resolver serves with: the node, and where it reaches hosts
-pub record Setup (P N C : Type 0) : Type 1 where
-  pub views : Views P (HttpLink N) C Plain
+pub record Setup (P N C : Type 0) : Type 0 where
+  pub views : ServiceViews P N C
   pub node : Node
   pub routes : List Route
 
-abbrev pub setup : {P N C : Type 0} → Views P (HttpLink N) C Plain → Node → List Route → Setup P N C
+abbrev pub setup : {P N C : Type 0} → ServiceViews P N C → Node → List Route → Setup P N C
 setup views node routes = record { views = views; node = node; routes = routes }
 
 -- a batch: the desks as they were made, and how serving stood before and after
@@ -110,12 +120,14 @@ pub record Batch (P N C : Type 0) : Type 0 where
   pub now : Standing P
 
 module _ {P N C : Type 0} where
-  -- a desk at which nobody was served yet: its pass was split off and has made no call, its link goes by the routes and had no call, its
-  -- ledger has counted nothing, and its clock wasn't read
-  pub record IsNewDesk (views : Views P (HttpLink N) C Plain) (routes : List Route) (split : CommonsKnown) (desk : Desk P (HttpLink N) C Plain) : Type 0 where
+  -- a desk at which nobody was served yet: it has no peer, its pass was split off and has made no call, its link goes by the routes and had no
+  -- call, over a network that had no exchange, its ledger has counted nothing, and its clock wasn't read
+  pub record IsNewDesk (views : ServiceViews P N C) (routes : List Route) (split : CommonsKnown) (desk : Desk P (HttpLink N) C Plain) : Type 0 where
+    pub free : desk.peer ≡ None
     pub pass : IsUntaken split (known desk.pass)
     pub routed : link_routes desk.link ≡ routes
-    pub uncalled : views.call (known desk.pass) desk.link desk.steps.ledger ≡ call_at (known desk.pass) None 0 0 0
+    pub silent : IfSome (views.exchanges (link_network desk.link)) (λ told. told ≡ [])
+    pub uncalled : (at_desks views).call (known desk.pass) desk.link desk.steps.ledger ≡ call_at (known desk.pass) None 0 0 0
     pub unread : (views.clock desk.clock).count ≡ 0
 
   -- the clock was read once, and what was stale at that moment dropped from the cache; desks were made, with a pass for each that was split
@@ -128,7 +140,7 @@ module _ {P N C : Type 0} where
     pub new : All (IsNewDesk s.views s.routes purged) b.desks
     pub split : CommonsKnown
     pub same : IsSame purged split
-    pub serves : ServesDesks s.views s.node b.desks (progress b.before.progress.net split) b.now.progress
+    pub serves : ServesDesks (at_desks s.views) s.node b.desks (progress b.before.progress.net split) b.now.progress
 
   -- batches, one after the other
   abbrev pub AreBatches : Setup P N C → Standing P → List (Batch P N C) → Standing P → Type 0

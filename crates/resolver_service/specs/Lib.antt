@@ -3,3 +3,4 @@ pub mod Ends
 pub mod Faults
 pub mod Nodes
 pub mod Steps
+pub mod Stopped

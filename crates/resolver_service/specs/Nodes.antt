@@ -3,9 +3,8 @@ use Rattle.std.specs.Prelude.{◌≡◌, ℕ, List, map, Some}
 use Rattle.key_ring.specs.Sets.{signer_seeds}
 use Rattle.node_config.specs.Nodes.{Resolver}
 use Rattle.authority_core.specs.Nodes.{Node as Authority}
-use Rattle.turn_log.specs.Passes.{unused}
 use Rattle.statement_shelf.specs.Book.{opened_with}
-use Rattle.statement_shelf.specs.Passes.{CommonsKnown, opened_book}
+use Rattle.statement_shelf.specs.Passes.{opened_book}
 use Rattle.statement_shelf.specs.declared.calls.AnchorKeys.{AnchorKeys}
 use Rattle.resolver_answers.specs.declared.part.ResolverPart.{ResolverPart}
 use Rattle.fed_serve.specs.declared.node.Node.{Node}
@@ -29,8 +28,3 @@ pub record IsNodeWith (node : Authority) (resolver : Resolver) (full : Node) : T
   pub part : ResolverPart
   pub has : full.resolver ≡ Some part
   pub is : IsPartOf node resolver part
-
--- nothing was seen of any shared object, and no call was made
-pub record HasSeenNothing (known : CommonsKnown) : Type 0 where
-  pub parts : (p : ℕ) → known.part p ≡ unused
-  pub book : known.book ≡ unused

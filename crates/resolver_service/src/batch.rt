@@ -1,22 +1,20 @@
 // One batch of connections: a desk for each, and what is left of the desks once all are served.
 
-ghost use Rattle.std.specs.Prelude.{◌≡◌, All, OnOk, Some, Ok, true, false, is_some};
+ghost use Rattle.std.specs.Prelude.{◌≡◌, All, OnErr, OnOk, Some, Ok, true, is_some};
 ghost use Rattle.fed_ports.specs.Lists.{Added};
 ghost use Rattle.fed_serve.specs.Desks.{network_at, views_of};
 ghost use Rattle.fed_serve.specs.Moments.{clock_at, peer_at};
 ghost use Rattle.resolver_answers.specs.Resolutions.{call_at};
-ghost use Rattle.statement_shelf.specs.Passes.{CommonsKnown, IsPassOfAll};
-ghost use Rattle.turn_log.specs.Groups.{AreJoined, known};
-ghost use Rattle.turn_log.specs.Runs.{call_limit};
-ghost use Rattle.resolve_pages.specs.Acts.{HasCounted};
-ghost use Rattle.resolver_service.specs.Batches.{AreEnded, ServesDesks, is_worn, peers_of, progress, service_views, setup, standing};
-ghost use Rattle.resolver_service.specs.Steps.{IfWorn, IsDone, IsPurged, IsReady, IsServedBatch, StopsBy};
+ghost use Rattle.statement_shelf.specs.Passes.{IsPassOfAll};
+ghost use Rattle.turn_log.specs.Groups.{known};
+ghost use Rattle.resolver_service.specs.Batches.{ServesDesks, is_worn, peers_of, progress, service_views, setup, standing};
+ghost use Rattle.resolver_service.specs.Steps.{EndInTurn, EndsDesk, IfWorn, IsDone, IsPurged, IsReady, IsServedBatch, StopsBatch, StopsBy, StopsDesks, StopsPurge, Takes, memory_first, network_first};
 
 use crate::desks::add_desks;
 use crate::node::Opened;
 use crate::stop::Stop;
 use fed_base::Memory;
-use fed_ports::{Clock, Ledger, Link, Network};
+use fed_ports::{Clock, Failed, Ledger, Link, Network};
 use fed_serve::{Desk, Node, ResolverPart, ServeFault, serve_many};
 use statement_shelf::{FedPass, ShelfCall};
 use std::alloc::Global;
@@ -35,6 +33,7 @@ fn purge<R: Wait>(
     ensures of { IsPassOfAll part.now.commons pass.new }
     ensures purged { OnOk result (IsPurged moment (known pass.old) (known pass.new)) }
     ensures worn { IfWorn (known pass.new) result }
+    ensures stops { StopsPurge moment (known pass.old) (known pass.new) result }
 {
     match part
         .commons
@@ -79,6 +78,7 @@ fn parted<P: Drop, L: Drop, C: Drop, G: Ledger + Drop>(
 // Takes the peer back, where there is one.
 fn settle_peer<N: Network>(alloc: Global, net: &mut N, peer: Option<N::Peer>) -> Result<(), Memory>
     ensures settled { OnOk result (Added (N.settled net.old) (peers_of peer) (N.settled net.new)) }
+    ensures err { OnErr result (N.settled net.new ≡ N.settled net.old) }
     ensures callers { N.callers net.new ≡ N.callers net.old }
     ensures port { N.port net.new ≡ N.port net.old }
     ensures exchanges { N.exchanges net.new ≡ N.exchanges net.old }
@@ -90,7 +90,29 @@ fn settle_peer<N: Network>(alloc: Global, net: &mut N, peer: Option<N::Peer>) ->
     }
 }
 
-// Joins the pass of a desk to the one pass, unless the batch has stopped. That of a desk where an object was worn takes its place.
+// Joins the pass of a desk to the one pass. That of a desk where an object was worn takes its place.
+fn take_next<R>(
+    part: &ResolverPart,
+    rt: &R,
+    pass: &mut FedPass,
+    own: FedPass,
+    is_worn: bool,
+) -> Result<(), Stop>
+    requires of { IsPassOfAll part.now.commons pass.old }
+    requires own_of { IsPassOfAll part.now.commons own }
+    ensures of { IsPassOfAll part.now.commons pass.new }
+    ensures takes { Takes (Ok tt) is_worn (known pass.old) (known own) (known pass.new) result }
+{
+    if is_worn {
+        *pass = own;
+        Err(Stop::Worn)
+    } else {
+        part.commons.join(rt, pass, own);
+        Ok(())
+    }
+}
+
+// The same, unless the batch has stopped.
 fn take_in<R>(
     part: &ResolverPart,
     rt: &R,
@@ -101,35 +123,38 @@ fn take_in<R>(
 ) -> Result<(), Stop>
     requires of { IsPassOfAll part.now.commons pass.old }
     requires own_of { IsPassOfAll part.now.commons own }
-    requires own_worn { is_worn ≡ true → HasCounted (known own) call_limit }
-    requires worn { IfWorn (known pass.old) so_far }
     ensures of { IsPassOfAll part.now.commons pass.new }
-    ensures worn { IfWorn (known pass.new) result }
-    ensures joined { OnOk result ((so_far ≡ Ok tt) × (is_worn ≡ false) × AreJoined (known pass.old) (known own) (known pass.new)) }
+    ensures takes { Takes so_far is_worn (known pass.old) (known own) (known pass.new) result }
 {
-    if so_far.is_err() {
-        drop(own);
-        so_far
-    } else if is_worn {
-        *pass = own;
-        Err(Stop::Worn)
-    } else {
-        part.commons.join(rt, pass, own);
-        Ok(())
+    match so_far {
+        Ok(()) => take_next(part, rt, pass, own, is_worn),
+        Err(stop) => {
+            drop(own);
+            Err(stop)
+        }
     }
 }
 
-// What both say: the first fault of the two.
-fn first_fault(taken: Result<(), Stop>, settled: Result<(), Memory>) -> Result<(), Stop>
-    ensures ok { OnOk result ((taken ≡ Ok tt) × (settled ≡ Ok tt)) }
-    ensures worn { (k : CommonsKnown) → IfWorn k taken → IfWorn k result }
+// What both say: want of memory first.
+fn memory_first(taken: Result<(), Stop>, settled: Result<(), Memory>) -> Result<(), Stop>
+    ensures { result ≡ memory_first taken settled }
 {
-    match taken {
-        Ok(()) => match settled {
-            Ok(()) => Ok(()),
-            Err(memory) => Err(Stop::from(memory)),
+    match settled {
+        Ok(()) => taken,
+        Err(_) => Err(Stop::Memory),
+    }
+}
+
+// What both say: a failure of the network first, and whether memory was wanting beside it.
+fn network_first(served: Result<(), Failed>, ended: Result<(), Stop>) -> Result<(), Stop>
+    ensures { result ≡ network_first served ended }
+{
+    match served {
+        Ok(()) => ended,
+        Err(_) => match ended {
+            Err(Stop::Memory) => Err(Stop::Unsettled),
+            _ => Err(Stop::Network),
         },
-        Err(stop) => Err(stop),
     }
 }
 
@@ -147,11 +172,10 @@ where
     N::Peer: Drop,
     requires of { IsPassOfAll part.now.commons pass.old }
     requires done { IsDone part.now desk }
-    requires worn { IfWorn (known pass.old) so_far }
     ensures of { IsPassOfAll part.now.commons pass.new }
-    ensures worn { IfWorn (known pass.new) result }
-    ensures ended { OnOk result ((so_far ≡ Ok tt) × (is_worn desk.result ≡ false) × AreJoined (known pass.old) (known desk.pass) (known pass.new)
-        × Added (N.settled net.old) (peers_of desk.peer) (N.settled net.new)) }
+    ensures ends { EndsDesk desk
+        (progress (network_at (N.port net.old) (N.exchanges net.old) (N.callers net.old) (N.settled net.old) (N.faults net.old)) (known pass.old))
+        (progress (network_at (N.port net.new) (N.exchanges net.new) (N.callers net.new) (N.settled net.new) (N.faults net.new)) (known pass.new)) so_far result }
     ensures callers { N.callers net.new ≡ N.callers net.old }
     ensures port { N.port net.new ≡ N.port net.old }
     ensures exchanges { N.exchanges net.new ≡ N.exchanges net.old }
@@ -161,7 +185,7 @@ where
     let (own, peer) = parted(desk);
     let settled = settle_peer(alloc, net, peer);
     let taken = take_in(part, rt, pass, own, worn, so_far);
-    first_fault(taken, settled)
+    memory_first(taken, settled)
 }
 
 // Settles the peers of the desks, in order, and takes their passes in.
@@ -179,9 +203,9 @@ where
     requires done { All (IsDone part.now) desks.items }
     ensures of { IsPassOfAll part.now.commons pass.new }
     ensures worn { IfWorn (known pass.new) result }
-    ensures ended { OnOk result (AreEnded desks.items
-        (progress (network_at (N.port net.old) (N.exchanges net.old) (N.callers net.old) (N.settled net.old) (N.faults net.old)) (known pass.old))
-        (progress (network_at (N.port net.new) (N.exchanges net.new) (N.callers net.new) (N.settled net.new) (N.faults net.new)) (known pass.new))) }
+    ensures ends { EndInTurn desks.items
+        (progress (network_at (N.port net.old) (N.exchanges net.old) (N.callers net.old) (N.settled net.old) (N.faults net.old)) (known pass.old)) (Ok tt)
+        (progress (network_at (N.port net.new) (N.exchanges net.new) (N.callers net.new) (N.settled net.new) (N.faults net.new)) (known pass.new)) result }
     ensures callers { N.callers net.new ≡ N.callers net.old }
     ensures port { N.port net.new ≡ N.port net.old }
     ensures exchanges { N.exchanges net.new ≡ N.exchanges net.old }
@@ -225,15 +249,19 @@ where
         (progress (network_at (N.port net.old) (N.exchanges net.old) (N.callers net.old) (N.settled net.old) (N.faults net.old)) (known pass.old))
         (progress (network_at (N.port net.new) (N.exchanges net.new) (N.callers net.new) (N.settled net.new) (N.faults net.new)) (known pass.new))) }
     ensures stops { StopsBy (N.faults net.old) (N.faults net.new) (known pass.new) result }
+    ensures stopped { StopsDesks
+        (views_of (λ peer. peer_at (N.Peer.left peer) (N.Peer.held peer) (N.Peer.read_faults peer) (N.Peer.write_faults peer))
+        (λ clock. clock_at (C.readings clock) (C.last clock) (C.told clock))
+        (λ known link ledger. call_at known (L.web link) (L.calls link) (L.link_faults link) (G.count ledger)) L.gave)
+        node.now desks.items
+        (progress (network_at (N.port net.old) (N.exchanges net.old) (N.callers net.old) (N.settled net.old) (N.faults net.old)) (known pass.old))
+        (progress (network_at (N.port net.new) (N.exchanges net.new) (N.callers net.new) (N.settled net.new) (N.faults net.new)) (known pass.new)) result }
     ensures port { N.port net.new ≡ N.port net.old }
     ensures exchanges { N.exchanges net.new ≡ N.exchanges net.old }
 {
     let served = serve_many(node, rt, alloc, net, desks.as_mut_slice());
     let ended = end_desks(part, rt, alloc, net, pass, desks);
-    match served {
-        Ok(()) => ended,
-        Err(_) => Err(Stop::Network),
-    }
+    network_first(served, ended)
 }
 
 /// Serves a batch of so many connections: reads the clock once, drops from the cache what is stale, makes the desks, and serves a
@@ -263,6 +291,14 @@ where
         (standing (network_at (N.port net.new) (N.exchanges net.new) (N.callers net.new) (N.settled net.new) (N.faults net.new)) (known pass.new)
         (clock_at (C.readings clock.new) (C.last clock.new) (C.told clock.new)))) }
     ensures stops { StopsBy (N.faults net.old) (N.faults net.new) (known pass.new) result }
+    ensures stopped { StopsBatch (setup
+        (service_views (λ peer. peer_at (N.Peer.left peer) (N.Peer.held peer) (N.Peer.read_faults peer) (N.Peer.write_faults peer))
+        (λ clock. clock_at (C.readings clock) (C.last clock) (C.told clock)) N.exchanges N.faults)
+        opened.now.node opened.now.routes) count
+        (standing (network_at (N.port net.old) (N.exchanges net.old) (N.callers net.old) (N.settled net.old) (N.faults net.old)) (known pass.old)
+        (clock_at (C.readings clock.old) (C.last clock.old) (C.told clock.old)))
+        (standing (network_at (N.port net.new) (N.exchanges net.new) (N.callers net.new) (N.settled net.new) (N.faults net.new)) (known pass.new)
+        (clock_at (C.readings clock.new) (C.last clock.new) (C.told clock.new))) result }
     ensures port { N.port net.new ≡ N.port net.old }
     ensures exchanges { N.exchanges net.new ≡ N.exchanges net.old }
 {

@@ -6,7 +6,7 @@ ghost use Rattle.fed_serve.specs.Moments.{clock_at, peer_at};
 ghost use Rattle.statement_shelf.specs.Passes.{IsPassOfAll};
 ghost use Rattle.turn_log.specs.Groups.{known};
 ghost use Rattle.resolver_service.specs.Batches.{ServesAll, service_views, setup, standing};
-ghost use Rattle.resolver_service.specs.Steps.{StopsBy};
+ghost use Rattle.resolver_service.specs.Steps.{StopsAfter, StopsBy};
 
 use crate::batch::serve_batch;
 use crate::node::Opened;
@@ -45,6 +45,14 @@ where
         (standing (network_at (N.port net.new) (N.exchanges net.new) (N.callers net.new) (N.settled net.new) (N.faults net.new)) (known pass.new)
         (clock_at (C.readings clock.new) (C.last clock.new) (C.told clock.new)))) }
     ensures stops { StopsBy (N.faults net.old) (N.faults net.new) (known pass.new) result }
+    ensures stopped { StopsAfter (setup
+        (service_views (λ peer. peer_at (N.Peer.left peer) (N.Peer.held peer) (N.Peer.read_faults peer) (N.Peer.write_faults peer))
+        (λ clock. clock_at (C.readings clock) (C.last clock) (C.told clock)) N.exchanges N.faults)
+        opened.now.node opened.now.routes) opened.now.workers connections
+        (standing (network_at (N.port net.old) (N.exchanges net.old) (N.callers net.old) (N.settled net.old) (N.faults net.old)) (known pass.old)
+        (clock_at (C.readings clock.old) (C.last clock.old) (C.told clock.old)))
+        (standing (network_at (N.port net.new) (N.exchanges net.new) (N.callers net.new) (N.settled net.new) (N.faults net.new)) (known pass.new)
+        (clock_at (C.readings clock.new) (C.last clock.new) (C.told clock.new))) result }
     ensures exchanges { N.exchanges net.new ≡ N.exchanges net.old }
 {
     let mut left = connections;

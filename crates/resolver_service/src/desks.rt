@@ -1,6 +1,6 @@
 // Desks for a batch of connections.
 
-ghost use Rattle.std.specs.Prelude.{◌≡◌, [], length, IfOk, OnOk};
+ghost use Rattle.std.specs.Prelude.{◌≡◌, [], length, IfOk, IfSome, OnOk};
 ghost use Rattle.fed_serve.specs.Moments.{clock_at, peer_at};
 ghost use Rattle.http_plain.specs.Links.{link_calls, link_network, link_routes};
 ghost use Rattle.statement_shelf.specs.Passes.{IsPassOfAll};
@@ -24,6 +24,7 @@ fn new_link<N: Network + Drop>(
     ensures routes { IfOk result (λ link. link_routes link ≡ routes.now) }
     ensures calls { IfOk result (λ link. link_calls link ≡ 0) }
     ensures faults { IfOk result (λ link. N.faults (link_network link) ≡ 0) }
+    ensures silent { IfOk result (λ link. IfSome (N.exchanges (link_network link)) (λ told. told ≡ [])) }
 {
     let routes = routes.copy(alloc)?;
     match net.another(alloc) {
@@ -47,6 +48,7 @@ fn desk_with<R, N: Network + Drop, C: Clock + Drop>(
     requires of { IsPassOfAll part.now.commons pass.old }
     requires calls { link_calls link ≡ 0 }
     requires faults { N.faults (link_network link) ≡ 0 }
+    requires silent { IfSome (N.exchanges (link_network link)) (λ told. told ≡ []) }
     requires readings { C.readings clock ≡ 0 }
     ensures of { IsPassOfAll part.now.commons pass.new }
     ensures same { IsSame (known pass.old) (known pass.new) }

@@ -12,8 +12,10 @@ pub enum ResolverEnd {
     Input,
     /// The store failed.
     StoreFailed,
-    /// The network failed to listen, or to accept a connection.
+    /// The network failed to listen, or to accept a connection. Those who were accepted before were served and settled.
     NetworkFailed,
+    /// The network failed to accept a connection. Those before were served, but to settle some of them memory was wanting.
+    Unsettled,
     /// Memory was wanting.
     Memory,
     /// A shared object has counted 2^62 calls, which the pass has seen.

@@ -6,8 +6,9 @@ ghost use Rattle.fed_serve.specs.Desks.{network_at};
 ghost use Rattle.fed_serve.specs.Moments.{clock_at, peer_at};
 ghost use Rattle.node_service.specs.NodeFiles.{IsResolver};
 ghost use Rattle.resolver_service.specs.Batches.{service_views};
-ghost use Rattle.resolver_service.specs.Ends.{Ends, around, at_moment, on_port};
-ghost use Rattle.resolver_service.specs.Steps.{EndsOn, HasWorkers, IsNewStart, IsOpenedFrom};
+ghost use Rattle.resolver_service.specs.Ends.{Ends, around, at_moment};
+ghost use Rattle.resolver_service.specs.Steps.{EndsOn, EndsServing, HasWorkers, IsEndOf, IsNewStart, IsOpenedFrom};
+ghost use Rattle.turn_log.specs.Groups.{known};
 
 use crate::batches::serve_batches;
 use crate::ending::ResolverEnd;
@@ -74,9 +75,9 @@ where
     ensures ends { EndsOn
         (service_views (λ peer. peer_at (N.Peer.left peer) (N.Peer.held peer) (N.Peer.read_faults peer) (N.Peer.write_faults peer))
         (λ clock. clock_at (C.readings clock) (C.last clock) (C.told clock)) N.exchanges N.faults)
-        registry connections
-        (on_port port (around (network_at (N.port net.old) (N.exchanges net.old) (N.callers net.old) (N.settled net.old) (N.faults net.old))
-        (clock_at (C.readings clock.old) (C.last clock.old) (C.told clock.old))))
+        registry (record { port = port; connections = connections })
+        (around (network_at (N.port net.old) (N.exchanges net.old) (N.callers net.old) (N.settled net.old) (N.faults net.old))
+        (clock_at (C.readings clock.old) (C.last clock.old) (C.told clock.old)))
         (around (network_at (N.port net.new) (N.exchanges net.new) (N.callers net.new) (N.settled net.new) (N.faults net.new))
         (clock_at (C.readings clock.new) (C.last clock.new) (C.told clock.new)))
         result }
@@ -121,20 +122,22 @@ where
     ensures ends { (node : Authority) → IsOpenedFrom node opened.now → EndsOn
         (service_views (λ peer. peer_at (N.Peer.left peer) (N.Peer.held peer) (N.Peer.read_faults peer) (N.Peer.write_faults peer))
         (λ clock. clock_at (C.readings clock) (C.last clock) (C.told clock)) N.exchanges N.faults)
-        node connections
-        (on_port port (around (network_at (N.port net.old) (N.exchanges net.old) (N.callers net.old) (N.settled net.old) (N.faults net.old))
-        (clock_at (C.readings clock.old) (C.last clock.old) (C.told clock.old))))
+        node (record { port = port; connections = connections })
+        (around (network_at (N.port net.old) (N.exchanges net.old) (N.callers net.old) (N.settled net.old) (N.faults net.old))
+        (clock_at (C.readings clock.old) (C.last clock.old) (C.told clock.old)))
         (around (network_at (N.port net.new) (N.exchanges net.new) (N.callers net.new) (N.settled net.new) (N.faults net.new))
         (clock_at (C.readings clock.new) (C.last clock.new) (C.told clock.new)))
         result }
     ensures exchanges { N.exchanges net.new ≡ N.exchanges net.old }
 {
-    if net.listen(port).is_err() {
-        drop(pass);
-        explain_port(alloc, port, notes);
-        return ResolverEnd::NetworkFailed;
+    match net.listen(port) {
+        Ok(()) => serve_listening(opened, pass, rt, alloc, connections, net, clock, notes),
+        Err(_) => {
+            drop(pass);
+            explain_port(alloc, port, notes);
+            ResolverEnd::NetworkFailed
+        }
     }
-    serve_listening(opened, pass, rt, alloc, connections, net, clock, notes)
 }
 
 // Answers the connections on the port that is taken.
@@ -153,7 +156,7 @@ where
     requires listens { is_some (N.port net.old) ≡ true }
     requires workers { 1 ≤ opened.now.workers }
     requires start { IsNewStart (record { opened = opened.now; pass = pass }) }
-    ensures ends { (node : Authority) → IsOpenedFrom node opened.now → EndsOn
+    ensures ends { (node : Authority) → IsOpenedFrom node opened.now → EndsServing
         (service_views (λ peer. peer_at (N.Peer.left peer) (N.Peer.held peer) (N.Peer.read_faults peer) (N.Peer.write_faults peer))
         (λ clock. clock_at (C.readings clock) (C.last clock) (C.told clock)) N.exchanges N.faults)
         node connections
@@ -171,15 +174,29 @@ where
     part.commons.is_history(&pass);
     match served {
         Ok(()) => ResolverEnd::Served(pass),
-        Err(Stop::Worn) => ResolverEnd::Worn(pass),
-        Err(Stop::Memory) => {
+        Err(stop) => stopped(stop, pass, alloc, notes),
+    }
+}
+
+// How it ended, where not all were served.
+fn stopped(stop: Stop, pass: FedPass, alloc: Global, notes: &mut Notes) -> ResolverEnd
+    ensures { IsEndOf stop (known pass) result }
+{
+    match stop {
+        Stop::Worn => ResolverEnd::Worn(pass),
+        Stop::Memory => {
             drop(pass);
             ResolverEnd::Memory
         }
-        Err(Stop::Network) => {
+        Stop::Network => {
             drop(pass);
             explain_accept(alloc, notes);
             ResolverEnd::NetworkFailed
+        }
+        Stop::Unsettled => {
+            drop(pass);
+            explain_accept(alloc, notes);
+            ResolverEnd::Unsettled
         }
     }
 }

@@ -25,6 +25,12 @@ returns-in-NetworkFailed-clause-joins g c = joins_none _ c.requires.joined c.arg
 pub returns-in-NetworkFailed-clause-worn : goal.returns-in-NetworkFailed-clause-worn
 returns-in-NetworkFailed-clause-worn g c = holds-none _ _ c.requires.worn (λ eight. absurd (omega (arith, eight)))
 
+pub returns-in-Unsettled-clause-joins : goal.returns-in-Unsettled-clause-joins
+returns-in-Unsettled-clause-joins g c = joins_none _ c.requires.joined c.args.end 7 (λ zero. absurd (omega (arith, zero)))
+
+pub returns-in-Unsettled-clause-worn : goal.returns-in-Unsettled-clause-worn
+returns-in-Unsettled-clause-worn g c = holds-none _ _ c.requires.worn (λ eight. absurd (omega (arith, eight)))
+
 pub returns-in-Memory-clause-joins : goal.returns-in-Memory-clause-joins
 returns-in-Memory-clause-joins g c = joins_none _ c.requires.joined c.args.end 5 (λ zero. absurd (omega (arith, zero)))
 

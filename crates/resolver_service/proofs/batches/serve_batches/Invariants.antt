@@ -5,7 +5,7 @@ use Rattle.statement_shelf.specs.Passes.{IsPassOfAll}
 use Rattle.fed_serve.specs.Desks.{network_at}
 use Rattle.fed_serve.specs.Moments.{clock_at, peer_at}
 use Rattle.resolver_service.specs.Batches.{service_views, setup, standing}
-use Rattle.resolver_service.specs.Steps.{ServesSome}
+use Rattle.resolver_service.specs.Stopped.{ServesSome}
 use Rattle.resolver_service.proofs.batches.serve_batches.Given as goal
 
 abbrev pub invariant-batches : goal.invariant-batches

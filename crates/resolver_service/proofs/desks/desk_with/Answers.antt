@@ -4,8 +4,10 @@ use Rattle.resolver_service.proofs.desks.desk_with.Goals as goal
 
 pub returns-in-Ok-clause-new : goal.returns-in-Ok-clause-new
 returns-in-Ok-clause-new g c = record {
+  free = refl;
   pass = c.in-Ok.ensures.untaken;
   routed = refl;
+  silent = c.requires.silent;
   uncalled = uncalled_at _ _ _ _ c.requires.calls c.requires.faults c.new.ensures;
   unread = c.requires.readings;
 }

@@ -2,6 +2,9 @@ use Rattle.turn_log.specs.Groups.{known}
 use Rattle.resolver_service.proofs.DeskLaws.{routes_as, same_none}
 use Rattle.resolver_service.proofs.desks.new_desk.Goals as goal
 
+pub desk_with-requires-clause-silent : goal.desk_with-requires-clause-silent
+desk_with-requires-clause-silent g c = λ lives within. c.in_ok-link.ensures.silent
+
 pub returns-in-Ok-clause-new : goal.returns-in-Ok-clause-new
 returns-in-Ok-clause-new g c = routes_as _ _ _ (known c.args.pass.now) c.desk_with.result c.in_ok-link.ensures.routes c.desk_with.ensures.new
 
