@@ -61,11 +61,12 @@ fn is_logged<R: Env + AllocGlobal>(rt: &R) -> bool {
 }
 
 // The four numbers of the address on which a service listens, or `None` where the environment names another.
-fn address<R: Env + AllocGlobal>(rt: &R) -> Option<[u8; 4]> {
+fn address<R: Env + AllocGlobal>(rt: &R) -> Result<Option<[u8; 4]>, Memory> {
     match env::var(rt, "FED_LISTEN") {
-        Ok(value) => listen_address(value.as_bytes()),
-        Err(VarError::NotPresent) => Some([127, 0, 0, 1]),
-        Err(_) => None,
+        Ok(value) => Ok(listen_address(value.as_bytes())),
+        Err(VarError::NotPresent) => Ok(Some([127, 0, 0, 1])),
+        Err(VarError::NotUnicode) => Ok(None),
+        Err(VarError::OutOfMemory) => Err(Memory),
     }
 }
 
@@ -131,7 +132,9 @@ fn main(rt: HostRuntime) -> ExitCode {
     let Ok(words) = words(&rt) else {
         return ExitCode::from(5);
     };
-    let address = address(&rt);
+    let Ok(address) = address(&rt) else {
+        return ExitCode::from(5);
+    };
     if address.is_none() && serves(alloc, words.as_slice()) {
         tell_of_address(&rt, alloc);
         return ExitCode::from(FAULTY);
