@@ -62,11 +62,18 @@ __attribute__((destructor)) static void tell(void) {
     const char *name = getenv("FAIL_TOLD");
     char text[80];
     int file, length;
+    if (!started) return;
     started = 0;
     if (!name || (file = syscall(SYS_openat, AT_FDCWD, name, O_WRONLY | O_CREAT | O_TRUNC, 0600)) < 0) return;
     length = snprintf(text, sizeof text, "%lu %lu %lu\n", allocations, calls, failed);
-    if (syscall(SYS_write, file, text, length) < 0) _exit(99);
+    if (syscall(SYS_write, file, text, length) < 0) syscall(SYS_exit_group, 99);
     syscall(SYS_close, file);
+}
+
+/* a program that ends at once runs no destructors */
+void _exit(int status) {
+    tell();
+    for (;;) syscall(SYS_exit_group, status);
 }
 
 /* ---- allocations */
