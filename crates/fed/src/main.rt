@@ -17,7 +17,7 @@ use fed_ports::{
 use fed_run::{run, run_with_notes};
 use fed_words::{Service, explain_waiting, read_service};
 use named_file::{explain_fault, value_of, warn_of_open_file};
-use plain_notes::{Notes, Sentence};
+use plain_notes::{Notes, Sentence, explain_sink};
 use std::alloc::Global;
 use std::env::{Env, VarError};
 use std::io::{Eprint, ErrorKind, IsTerminal};
@@ -112,7 +112,7 @@ fn tell_of_file<R: Files + Eprint>(rt: &R, alloc: Global, words: &[Text], status
         _ => {}
     }
     match value_of(words, b"--ring") {
-        Some(path) if status != FAULTY => warn_of_open_file(rt, alloc, path, &mut notes),
+        Some(path) if status == 0 => warn_of_open_file(rt, alloc, path, &mut notes),
         _ => {}
     }
     tell(rt, &notes);
@@ -127,6 +127,24 @@ fn with_build<R: Files, K: Sink>(rt: &R, words: &[Text], out: &mut K, status: u8
     }
 }
 
+// Says what the system tells of files, writes what the program was built from, and gives the status.
+fn ended<R: Files + Eprint, K: Sink>(
+    rt: &R,
+    alloc: Global,
+    words: &[Text],
+    out: &mut K,
+    status: u8,
+) -> u8 {
+    tell_of_file(rt, alloc, words, status);
+    let shown = with_build(rt, words, out, status);
+    if shown != status {
+        let mut notes = Notes::new(alloc, None);
+        explain_sink(alloc, &mut notes);
+        tell(rt, &notes);
+    }
+    shown
+}
+
 fn main(rt: HostRuntime) -> ExitCode {
     let alloc = rt.alloc();
     let Ok(words) = words(&rt) else {
@@ -136,7 +154,9 @@ fn main(rt: HostRuntime) -> ExitCode {
         return ExitCode::from(5);
     };
     if address.is_none() && serves(alloc, words.as_slice()) {
-        tell_of_address(&rt, alloc);
+        if !is_quiet(&rt) {
+            tell_of_address(&rt, alloc);
+        }
         return ExitCode::from(FAULTY);
     }
     let mut net = RealNetwork::new(&rt, address.unwrap_or([127, 0, 0, 1]), is_logged(&rt));
@@ -178,6 +198,5 @@ fn main(rt: HostRuntime) -> ExitCode {
         &mut joined,
         &mut said,
     );
-    tell_of_file(&rt, alloc, words.as_slice(), status);
-    ExitCode::from(with_build(&rt, words.as_slice(), &mut out, status))
+    ExitCode::from(ended(&rt, alloc, words.as_slice(), &mut out, status))
 }

@@ -83,20 +83,18 @@ fn explain_reason(
             entity_type,
             parameter,
             operator,
-        } => {
-            drop(about);
-            notes.say(policy_sentence(alloc, entity_type, parameter, *operator));
-        }
+        } => notes.say(policy_sentence(about, entity_type, parameter, *operator)),
     }
 }
 
 fn policy_sentence(
-    alloc: Global,
+    about: Sentence,
     entity_type: &Text,
     parameter: &Text,
     operator: Operator,
 ) -> Sentence {
-    Sentence::of(alloc, b"the leaf's metadata ")
+    about
+        .and(b": its metadata ")
         .and(entity_type.as_slice())
         .and(b" ")
         .and(parameter.as_slice())

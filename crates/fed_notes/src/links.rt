@@ -107,8 +107,20 @@ pub(crate) fn explain_signature(
             .and(b" is signed by the key ")
             .and(kid.as_slice())
             .and(b", which isn't in its own jwks"),
+        Some(kid) if place == 0 && superior_key(entries, kid) => about
+            .and(b": the signature doesn't verify under the key ")
+            .and(kid.as_slice())
+            .and(b" both of its own jwks and of the jwks of the next text"),
         Some(kid) => signer_sentence(about, kid, entries, place, keys),
     });
+}
+
+// The text above the leaf's has a key of that name too.
+fn superior_key(entries: &[SignedStatement], kid: &Text) -> bool {
+    match entries.get(1) {
+        Some(above) => above.statement.jwks.key_of(kid).is_some(),
+        None => false,
+    }
 }
 
 // What became of the key of that name, which is looked for above the place.

@@ -9,24 +9,30 @@ use std::alloc::Global;
 pub(crate) fn explain_ring(alloc: Global, about: Sentence, tree: &Json, notes: &mut Notes) {
     let members = object_members(tree);
     match find(members, b"keys") {
-        Some(Json::List(keys)) => explain_keys(alloc, about, keys.as_slice(), notes),
+        Some(Json::List(keys)) => explain_keys(alloc, about, members, keys.as_slice(), notes),
         _ => notes.say(about.and(b" isn't a ring's file, {\"keys\":[..],\"version\":1}")),
     }
 }
 
-fn explain_keys(alloc: Global, about: Sentence, keys: &[Json], notes: &mut Notes) {
+fn explain_keys(
+    alloc: Global,
+    about: Sentence,
+    members: &[Member],
+    keys: &[Json],
+    notes: &mut Notes,
+) {
     notes.say(if keys.is_empty() || keys.len() > 16 {
         about
             .and(b" has ")
             .and_number(alloc, keys.len() as u64)
             .and(b" keys; a ring has 1 to 16")
     } else {
-        keys_sentence(alloc, about, keys)
+        keys_sentence(alloc, about, members, keys)
     });
 }
 
-// What is wrong with the first faulty one of the keys, or with them all.
-fn keys_sentence(alloc: Global, about: Sentence, keys: &[Json]) -> Sentence {
+// What is wrong with the first faulty one of the keys, or with the file as a whole.
+fn keys_sentence(alloc: Global, about: Sentence, members: &[Member], keys: &[Json]) -> Sentence {
     let fault = keys
         .iter()
         .enumerate()
@@ -36,9 +42,27 @@ fn keys_sentence(alloc: Global, about: Sentence, keys: &[Json]) -> Sentence {
             .and(b": key ")
             .and_number(alloc, place as u64)
             .and(key_fault(object_members(key))),
-        None => about.and(
-            b" has no live key, one key twice, a member that isn't a ring's, or a version that isn't 1",
-        ),
+        None => about.and(whole_fault(members, keys)),
+    }
+}
+
+// What is wrong with a file whose keys have their members.
+fn whole_fault(members: &[Member], keys: &[Json]) -> &'static [u8] {
+    if has_version(members) {
+        if keys.iter().any(|key| is_live(object_members(key))) {
+            b" has one key twice, or a member that isn't a ring's"
+        } else {
+            b" has no live key"
+        }
+    } else {
+        b" has a version that isn't 1"
+    }
+}
+
+fn has_version(members: &[Member]) -> bool {
+    match find(members, b"version") {
+        Some(tree) => count_below(tree, 2) == Some(1),
+        None => false,
     }
 }
 

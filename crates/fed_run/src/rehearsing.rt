@@ -6,7 +6,7 @@ ghost use Rattle.fed_run.specs.Resolving.{HoldsBy};
 
 use fed_inspect::write_line;
 use fed_ports::Sink;
-use plain_notes::{Notes, explain_memory};
+use plain_notes::{Notes, explain_memory, explain_worn};
 use rehearsal::{RehearsalFault, Summary};
 use statement_shelf::FedPass;
 use std::alloc::Global;
@@ -28,7 +28,10 @@ pub(crate) fn rehearse<R: Wait, K: Sink>(
 {
     match rehearsal::rehearse(rt, alloc, params, worn) {
         Ok(summary) => tell(alloc, summary, out, notes),
-        Err(RehearsalFault::Worn) => 8,
+        Err(RehearsalFault::Worn) => {
+            explain_worn(alloc, notes);
+            8
+        }
         Err(RehearsalFault::Memory) => {
             explain_memory(alloc, notes);
             5

@@ -13,7 +13,7 @@ ghost use Rattle.resolver_service.specs.declared.ending.ResolverEnd.TheVariants 
 use crate::authority::served_line;
 use fed_inspect::write_line;
 use fed_ports::{Clock, Network, Sink, Store, Text};
-use plain_notes::{Notes, explain_memory};
+use plain_notes::{Notes, explain_memory, explain_worn};
 use resolver_service::{ResolverEnd, serve_resolver};
 use statement_shelf::FedPass;
 use std::alloc::Global;
@@ -105,6 +105,7 @@ fn tell_end<K: Sink>(
             5
         }
         ResolverEnd::Worn(pass) => {
+            explain_worn(alloc, notes);
             *worn = Some(pass);
             8
         }

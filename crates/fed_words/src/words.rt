@@ -50,8 +50,7 @@ fn explain_verify(alloc: Global, rest: &[Text], notes: &mut Notes) {
         [] => notes.say(Sentence::of(alloc, b"verify needs a public key: 43 base64url characters")),
         [key] => if decode_32(key.as_slice()).is_none() {
             notes.say(
-                Sentence::of(alloc, key.as_slice())
-                    .and(b" isn't a public key: it has ")
+                Sentence::of(alloc, b"the word behind verify isn't a public key: it has ")
                     .and_number(alloc, key.len() as u64)
                     .and(b" bytes; a public key is 43 base64url characters"),
             );

@@ -4,7 +4,6 @@
 //! crates above add what is said of command lines, files, inputs and chains.
 #![tactic(auto)]
 
-mod dates;
 mod likeness;
 mod moments;
 mod notes;
@@ -16,5 +15,6 @@ pub use moments::warn_of_moment;
 pub use notes::Notes;
 pub use outside::{
     explain_memory, explain_sink, explain_source, explain_unkept_file, explain_unread_file,
+    explain_worn,
 };
 pub use sentence::Sentence;

@@ -32,3 +32,8 @@ pub fn explain_unkept_file(alloc: Global, name: &Text, notes: &mut Notes) {
 pub fn explain_memory(alloc: Global, notes: &mut Notes) {
     notes.say(Sentence::of(alloc, b"memory was wanting"));
 }
+
+/// Says that a counter of calls is at its end.
+pub fn explain_worn(alloc: Global, notes: &mut Notes) {
+    notes.say(Sentence::of(alloc, b"a counter of calls is at its end"));
+}

@@ -4,10 +4,10 @@ ghost use Rattle.std.specs.Prelude.{◌≡◌, ◌<◌, ◌++◌, ◌∷◌, [],
 ghost use Rattle.std.specs.List.{list_all};
 ghost use Rattle.plain_notes.specs.Notes.{IsLonger, IsPlain, digit, is_printable, piece, shown, shown_byte};
 
-use crate::dates::date_of;
 use fed_base::{Memory, Text};
 use std::alloc::Global;
 use std::marker::Model;
+use utc_dates::append_date;
 
 // How many bytes of a piece are shown at most.
 const MOST: usize = 400;
@@ -66,13 +66,13 @@ impl Sentence {
 
     /// The sentence with a moment behind it, which is in seconds since 1970, and then its date.
     pub fn and_moment(self, alloc: Global, moment: u64) -> Sentence {
-        let date = date_of(moment);
-        let (year, month, day) = (date.year, date.month, date.day);
-        let (hour, minute, second) = (moment / 3_600 % 24, moment / 60 % 60, moment % 60);
-        match format!(in alloc;
-            "{moment} ({year:04}-{month:02}-{day:02} {hour:02}:{minute:02}:{second:02} UTC)"
-        ) {
-            Ok(text) => self.and(text.as_bytes()),
+        let mut date = Text::new(alloc);
+        match append_date(alloc, &mut date, moment) {
+            Ok(()) => self
+                .and_number(alloc, moment)
+                .and(b" (")
+                .and(date.as_slice())
+                .and(b")"),
             Err(_) => Sentence { text: None },
         }
     }

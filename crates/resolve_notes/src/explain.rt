@@ -3,7 +3,7 @@
 use crate::pages::explain_pages;
 use crate::path::explain_last_path;
 use fed_resolver::{Outcome, Refusal, ResolveRequest};
-use plain_notes::{Notes, Sentence, explain_memory};
+use plain_notes::{Notes, Sentence, explain_memory, explain_worn};
 use std::alloc::Global;
 
 /// Says why there is no reply: first the answer in words, then each page of the last round that wasn't good, and what failed on the path
@@ -56,7 +56,7 @@ fn explain_refusal(alloc: Global, refusal: &Refusal, notes: &mut Notes) {
                 .and_number(alloc, *paths)
                 .and(b" paths of at most 4,096"),
         ),
-        Refusal::Worn(_) => notes.say(Sentence::of(alloc, b"a counter of calls is at its end")),
+        Refusal::Worn(_) => explain_worn(alloc, notes),
         Refusal::Memory => explain_memory(alloc, notes),
     }
 }
