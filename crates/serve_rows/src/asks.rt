@@ -126,7 +126,7 @@ pub(crate) fn ask<R: Wait>(
     served_in_memory(rt, alloc, node, number(t), &mut peer)
 }
 
-/// `pieces MOST BYTES`: the same where each reading gives at most so many bytes.
+/// `pieces MOST BYTES`: the same where each reading gives, and each writing takes, at most so many bytes.
 pub(crate) fn pieces<R: Wait>(
     rt: &R,
     alloc: Global,
@@ -135,7 +135,8 @@ pub(crate) fn pieces<R: Wait>(
 ) -> Result<Text, Memory> {
     let (most, parts) = cut(given);
     let sent = bytes(alloc, parts)?;
-    let mut peer = Pieces::new(alloc, sent, number(most) as usize, ROOM)?;
+    let most = number(most) as usize;
+    let mut peer = Pieces::new(alloc, sent.as_slice(), most, ROOM, &[], &[])?;
     let mut out = served(rt, alloc, node, MOMENT, &mut peer)?;
     add_written(alloc, &mut out, node, peer.as_slice())?;
     Ok(out)
@@ -191,9 +192,86 @@ pub(crate) fn cut_short<R: Wait>(
             ended = ended.saturating_add(1);
         }
     }
-    let mut out = Text::of(alloc, b"Ended")?;
-    add_number(alloc, &mut out, ended)?;
+    counted(alloc, b"Ended", ended, whole.len())
+}
+
+// A word, and how many there are of how many.
+fn counted(alloc: Global, word: &[u8], n: u64, all: usize) -> Result<Text, Memory> {
+    let mut out = Text::of(alloc, word)?;
+    add_number(alloc, &mut out, n)?;
     add_word(&mut out, b"of")?;
-    add_number(alloc, &mut out, whole.len() as u64)?;
+    add_number(alloc, &mut out, all as u64)?;
     Ok(out)
+}
+
+// Whether a reading that fails, behind so many that give one byte each, is told as that, with nothing written and no reading of the clock.
+fn reading_fails<R: Wait>(
+    rt: &R,
+    alloc: Global,
+    node: &Node,
+    sent: &[u8],
+    before: usize,
+) -> Result<bool, Memory> {
+    let mut peer = Pieces::new(alloc, sent, 1, ROOM, &[before as u64], &[])?;
+    let told = served(rt, alloc, node, MOMENT, &mut peer)?;
+    Ok(told.as_slice() == b"ReadFault clock 0 tests 0".as_slice() && peer.as_slice().is_empty())
+}
+
+/// `each-reading BYTES`: how often a fault of reading is told, with nothing written and no reading of the clock, where the bytes are read
+/// one by one and the reading of each of them in turn fails, and how many they are.
+pub(crate) fn each_reading<R: Wait>(
+    rt: &R,
+    alloc: Global,
+    node: &Node,
+    given: &str,
+) -> Result<Text, Memory> {
+    let sent = bytes(alloc, given)?;
+    let sent = sent.as_slice();
+    let mut failed: u64 = 0;
+    for before in 0..sent.len() {
+        if reading_fails(rt, alloc, node, sent, before)? {
+            failed = failed.saturating_add(1);
+        }
+    }
+    counted(alloc, b"ReadFault", failed, sent.len())
+}
+
+// What is written where each writing takes one byte.
+fn answer_of<R: Wait>(rt: &R, alloc: Global, node: &Node, sent: &[u8]) -> Result<Text, Memory> {
+    let mut peer = Pieces::new(alloc, sent, 1, ROOM, &[], &[])?;
+    drop(served(rt, alloc, node, MOMENT, &mut peer)?);
+    Text::of(alloc, peer.as_slice())
+}
+
+// Whether a writing that fails, behind those that take these first bytes of the answer one by one, is told as that, with these written.
+fn writing_fails<R: Wait>(
+    rt: &R,
+    alloc: Global,
+    node: &Node,
+    sent: &[u8],
+    first: &[u8],
+) -> Result<bool, Memory> {
+    let mut peer = Pieces::new(alloc, sent, 1, ROOM, &[], &[first.len() as u64])?;
+    let told = served(rt, alloc, node, MOMENT, &mut peer)?;
+    Ok(told.as_slice() == b"WriteFault clock 1 tests 0".as_slice() && peer.as_slice() == first)
+}
+
+/// `each-writing BYTES`: how often a fault of writing is told, with the answer's bytes before it written, where the answer is taken byte by
+/// byte and the writing of each of them in turn fails, and how many it has.
+pub(crate) fn each_writing<R: Wait>(
+    rt: &R,
+    alloc: Global,
+    node: &Node,
+    given: &str,
+) -> Result<Text, Memory> {
+    let sent = bytes(alloc, given)?;
+    let answer = answer_of(rt, alloc, node, sent.as_slice())?;
+    let answer = answer.as_slice();
+    let mut failed: u64 = 0;
+    for len in 0..answer.len() {
+        if writing_fails(rt, alloc, node, sent.as_slice(), &answer[..len])? {
+            failed = failed.saturating_add(1);
+        }
+    }
+    counted(alloc, b"WriteFault", failed, answer.len())
 }

@@ -33,6 +33,8 @@ fn ask<R: Wait>(
         "cut" => asks::cut_short(rt, alloc, node, given),
         "reads" => asks::reads(rt, alloc, node, given),
         "writes" => asks::writes(rt, alloc, node, given),
+        "each-reading" => asks::each_reading(rt, alloc, node, given),
+        "each-writing" => asks::each_writing(rt, alloc, node, given),
         _ => Text::of(alloc, b"no such row"),
     }
 }

@@ -1,34 +1,76 @@
-// A connection whose bytes come a few at a time.
+// A connection whose bytes go a few at a time.
 
 ghost use Rattle.std.specs.Prelude.{Some, drop};
 ghost use Rattle.std.proofs.Common.{refl};
 
-use fed_base::{Failed, Memory, Text};
-use fed_ports::{MemorySink, Peer, Sink, Source};
+use fed_base::{Failed, Memory};
+use fed_ports::{CallPlan, MemorySink, Peer, Sink, Source};
 use std::alloc::Global;
 
-/// One end of a connection: a source of given bytes, of which each call gives at most so many, and a sink that keeps what it is given.
+// For how many readings and writings there is room.
+const CALLS: u64 = 1000;
+
+// A source of given bytes, of which each reading gives at most so many.
 #[derive(Drop)]
-pub(crate) struct Pieces {
+struct Few {
     bytes: Vec<u8>,
     taken: usize,
     most: usize,
+}
+
+impl Source for Few {
+    ghost use Rattle.std.specs.Prelude.{Some, [], drop};
+
+    ghost left = { λ source. Some (drop source.taken source.bytes.items) };
+
+    ghost source_side = { λ _. (Some [], 0) };
+
+    ghost read_faults = { λ _. 0 };
+
+    fn take(&mut self, into: &mut [u8]) -> Result<usize, Failed> {
+        let rest = self.bytes.get(self.taken..).unwrap_or(&[]);
+        let n = rest.len().min(into.len()).min(self.most.max(1));
+        into[..n].copy_from_slice(&rest[..n]);
+        self.taken += n;
+        Ok(n)
+    }
+}
+
+/// One end of a connection: a source of given bytes, of which each reading gives at most so many, and a sink that keeps what it is given,
+/// of which each writing takes at most so many.
+#[derive(Drop)]
+pub(crate) struct Pieces {
+    source: Few,
+    most: usize,
+    reads: CallPlan,
+    faults: u64,
     sink: MemorySink,
 }
 
 impl Pieces {
-    /// All the bytes are left, and there is that room.
+    /// All the bytes are left, and there is that room. The readings and the writings whose numbers are listed fail, each first one having
+    /// the number 0.
     pub(crate) fn new(
         alloc: Global,
-        bytes: Text,
+        bytes: &[u8],
         most: usize,
         room: usize,
+        failing_reads: &[u64],
+        failing_writes: &[u64],
     ) -> Result<Pieces, Memory> {
+        let bytes = Vec::from_slice(alloc, bytes)?;
+        let reads = CallPlan::new(alloc, failing_reads, CALLS)?;
+        let sink = MemorySink::new(alloc, room, failing_writes, CALLS)?;
         Ok(Pieces {
-            bytes: bytes.into_vec(),
-            taken: 0,
+            source: Few {
+                bytes,
+                taken: 0,
+                most,
+            },
             most,
-            sink: MemorySink::new(alloc, room, &[], 1000)?,
+            reads,
+            faults: 0,
+            sink,
         })
     }
 
@@ -42,18 +84,18 @@ impl Source for Pieces {
     ghost use Rattle.std.specs.Prelude.{Some, drop};
     ghost use Rattle.fed_ports.specs.MemoryStreams.{sink_faults, sink_held};
 
-    ghost left = { λ peer. Some (drop peer.taken peer.bytes.items) };
+    ghost left = { λ peer. Some (drop peer.source.taken peer.source.bytes.items) };
 
     ghost source_side = { λ peer. (Some (sink_held peer.sink), sink_faults peer.sink) };
 
-    ghost read_faults = { λ _. 0 };
+    ghost read_faults = { λ peer. peer.faults };
 
     fn take(&mut self, into: &mut [u8]) -> Result<usize, Failed> {
-        let rest = self.bytes.get(self.taken..).unwrap_or(&[]);
-        let n = rest.len().min(into.len()).min(self.most.max(1));
-        into[..n].copy_from_slice(&rest[..n]);
-        self.taken += n;
-        Ok(n)
+        if self.reads.next_fails() {
+            self.faults = self.faults.saturating_add(1);
+            return Err(Failed);
+        }
+        self.source.take(into)
     }
 }
 
@@ -63,12 +105,13 @@ impl Sink for Pieces {
 
     ghost held = { λ peer. Some (sink_held peer.sink) };
 
-    ghost sink_side = { λ peer. (Some (drop peer.taken peer.bytes.items), 0) };
+    ghost sink_side = { λ peer. (Some (drop peer.source.taken peer.source.bytes.items), peer.faults) };
 
     ghost write_faults = { λ peer. sink_faults peer.sink };
 
     fn give(&mut self, piece: &[u8]) -> Result<usize, Failed> {
-        self.sink.give(piece)
+        let most = piece.len().min(self.most.max(1));
+        self.sink.give(&piece[..most])
     }
 }
 
