@@ -9,9 +9,9 @@ import socket
 import sys
 import time
 
-from . import callers, files, programs, texts, webs
+from . import callers, files, lines, programs, texts, webs
 
-ONE_RUN = {**texts.KINDS, **files.KINDS, **webs.KINDS}
+ONE_RUN = {**texts.KINDS, **files.KINDS, **lines.KINDS, **webs.KINDS}
 KINDS = [*ONE_RUN, *callers.KINDS]
 TESTS = os.path.dirname(os.path.dirname(os.path.abspath(__file__)))
 RUN = '''#!/usr/bin/env python3
