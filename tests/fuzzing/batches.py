@@ -9,10 +9,10 @@ import socket
 import sys
 import time
 
-from . import callers, files, programs, texts, webs
+from . import askers, callers, files, lines, programs, texts, webs
 
-ONE_RUN = {**texts.KINDS, **files.KINDS, **webs.KINDS}
-KINDS = [*ONE_RUN, *callers.KINDS]
+ONE_RUN = {**texts.KINDS, **files.KINDS, **lines.KINDS, **webs.KINDS}
+KINDS = [*ONE_RUN, *callers.KINDS, *askers.KINDS]
 TESTS = os.path.dirname(os.path.dirname(os.path.abspath(__file__)))
 RUN = '''#!/usr/bin/env python3
 """Runs the program once more, as tests/fuzz did."""
@@ -164,7 +164,7 @@ class Worker:
             while report.tried < size:
                 ONE_RUN[kind](Case(self, rng, report))
         else:
-            callers.batch(kind, self, rng, size, report)
+            (callers if kind in callers.KINDS else askers).batch(kind, self, rng, size, report)
         report.seconds = time.monotonic() - began
         report.memory, report.slowest = self.runner.memory, self.runner.slowest
         return report

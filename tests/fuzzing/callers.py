@@ -40,12 +40,12 @@ class Told(Exception):
 
 
 class Server:
-    """An authority for so many connections, each of which is one case of the batch."""
+    """An authority or a resolver for so many connections, each of which is one case of the batch."""
 
-    def __init__(self, pool, port, connections, log):
+    def __init__(self, pool, port, connections, log, command="authority", config="node.json"):
         self.pool, self.port, self.log = pool, port, log
         self.node = messages.Node(pool.configuration())
-        words = ["authority", "--config", "node.json", "--port", str(port), "--connections", str(connections)]
+        words = [command, "--config", config, "--port", str(port), "--connections", str(connections)]
         with open(log, "wb") as err:
             self.running = subprocess.Popen([pool.program, *words], cwd=pool.folder, stdin=subprocess.DEVNULL, stdout=subprocess.PIPE, stderr=err,
                                             env=ENVIRONMENT)
@@ -158,6 +158,21 @@ def signed(server, wanted, body, began):
 
 # ---- requests
 
+def form(rng, given):
+    """Parameters as a web form, written in one of the ways in which it may be, or with more of them."""
+    made = urlencode(given, errors="surrogatepass").encode()
+    kind = rng.randrange(8)
+    if kind == 0:
+        made = made.replace(b"+", b"%20")
+    elif kind == 1:
+        made = b"&" + made + b"&&"
+    elif kind == 2:
+        made = b"".join(b"%%%02x" % byte if rng.random() < .2 and byte not in b"&=%+" else bytes([byte]) for byte in made[:2000]) + made[2000:]
+    elif kind == 3:
+        made += rng.choice([b"&a=%", b"&%zz", b"&a=%e9", b"&=", b"&a=b=c", b"&a=%00", quote_plus("&sub=x").encode()])
+    return made
+
+
 class Asked:
     """A good request, as its parts."""
 
@@ -178,7 +193,7 @@ class Asked:
             self.posted(pool)
             return
         if given:
-            self.target += b"?" + self.form(given)
+            self.target += b"?" + form(self.rng, given)
 
     def posted(self, pool):
         self.method, self.target = b"POST", b"/fed/trust-mark-status"
@@ -188,20 +203,7 @@ class Asked:
             given = [("trust_mark", changed)]
         else:
             given = self.rng.choice([[("trust_mark", mark)] * 2, [("Trust_mark", mark)], [], [("x", "y" * 200000)], [("x", mark)], self.rng.sample(PARAMETERS, 3)])
-        self.body = self.form(given)
-
-    def form(self, given):
-        made = urlencode(given).encode()
-        kind = self.rng.randrange(8)
-        if kind == 0:
-            made = made.replace(b"+", b"%20")
-        elif kind == 1:
-            made = b"&" + made + b"&&"
-        elif kind == 2:
-            made = b"".join(b"%%%02x" % byte if self.rng.random() < .2 and byte not in b"&=%+" else bytes([byte]) for byte in made[:2000]) + made[2000:]
-        elif kind == 3:
-            made += self.rng.choice([b"&a=%", b"&%zz", b"&a=%e9", b"&=", b"&a=b=c", b"&a=%00", quote_plus("&sub=x").encode()])
-        return made
+        self.body = form(self.rng, given)
 
     def changed(self):
         """One part of the head is another."""
@@ -221,7 +223,7 @@ class Asked:
         elif kind == 6:
             self.fields = []
         elif kind == 7:
-            self.target += b"?" + b"a" * self.rng.randrange(16200, 16400) if self.rng.random() < .3 else b"&" + self.form(self.rng.sample(PARAMETERS, 2))
+            self.target += b"?" + b"a" * self.rng.randrange(16200, 16400) if self.rng.random() < .3 else b"&" + form(self.rng, self.rng.sample(PARAMETERS, 2))
         else:
             self.body = self.rng.choice([None, b"", b"x" * 5, b"x" * 300000, b"x" * 300001]) if self.rng.random() < .3 else b"abc"
 

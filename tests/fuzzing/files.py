@@ -1,10 +1,12 @@
-"""Changed configurations, ring files, claims to be signed, and command lines. What they have to answer is what rules.py says."""
+"""Changed configurations, ring files and claims to be signed. What they have to answer is what rules.py says."""
 
 import json
+import re
 
 from . import changes, rules
 from .changes import decoded, written
-from .pool import AT, BEGIN, END, IM, MARK, NODE, RP, STATEMENT, TA
+from .texts import LOUD
+from .pool import AT, BEGIN, END, MARK, RP, STATEMENT, TA
 
 NOWHERE = "https://nowhere.example"
 UNLISTED = b'{"error":"invalid_trust_anchor","error_description":"no such trust anchor"}\n'
@@ -19,26 +21,30 @@ def is_one_of(*answers):
 # ---- configurations
 
 def configurations(case):
-    """A node's configuration. It's seen to be taken by `resolve`, for an anchor that it doesn't list, or by `authority`, on a port that is
-    taken."""
+    """A node's configuration. It's seen to be taken by `resolve`, for an anchor that it doesn't list, by `authority` and `resolver`, on a port that
+    is taken, or by what `check-config` says."""
     rng, pool = case.rng, case.pool
-    good = pool.configuration()
+    good, told = pool.configuration(), rng.random() < .25
     if rng.random() < .5:
         good["resolver"] = pool.resolver({"a.example": 80})["resolver"]
+    if told and rng.random() < .7:
+        good["trust_marks"] = [{"trust_mark_type": "t", "trust_mark": pool.texts["mark of node"]}]
     kind = rng.randrange(10)
     if kind < 7:
         node = changes.some_of_tree(rng, good) if kind < 5 else {**good, **deeper(rng, good)}
         data = written(node, rng if rng.random() < .2 else None)
     else:
         data = changes.of_bytes(rng, written(good))
-    resolves = "resolver" in good if rng.random() < .9 else "resolver" not in good
     name = case.file("changed.json", data)
-    if resolves:
-        words = ["resolve", "--config", name, "--sub", RP, "--anchor", NOWHERE]
-    else:
-        words = ["authority", "--config", name, "--port", str(case.taken), "--connections", "1"]
-    wanted = answers_of(case, data, resolves)
-    case.runs(words, b"", 1, is_one_of(*wanted), wanted)
+    if told:
+        wanted, tree = shown_of(case, data)
+        case.runs(["check-config", "--config", name, "--at", str(AT)], b"", 1, lambda done: is_told(done, wanted, tree), wanted)
+        return
+    resolves = "resolver" in good if rng.random() < .9 else "resolver" not in good
+    command = rng.choice(["resolve", "resolver"]) if resolves else "authority"
+    words = ["--sub", RP, "--anchor", NOWHERE] if command == "resolve" else ["--port", str(case.taken), "--connections", "1"]
+    wanted = answers_of(case, data, command)
+    case.runs([command, "--config", name, *words], b"", 1, is_one_of(*wanted), wanted)
 
 
 def deeper(rng, good):
@@ -47,18 +53,66 @@ def deeper(rng, good):
     return {name: changes.some_of_tree(rng, good[name])}
 
 
-def answers_of(case, data, resolves):
+def answers_of(case, data, command):
     refused = (2, b"input\n")
     try:
         tree, doubted = rules.configuration(data)
     except rules.Fault:
         return [refused]
-    if ("resolver" in tree) != resolves:
+    if ("resolver" in tree) != (command != "authority"):
         return [refused]
-    # a name of another file may be that of a folder, or too long
-    ring = tree["ring"] in [key.ring for key in case.pool.keys.values()]
-    taken = ((1, UNLISTED) if resolves else (7, b"")) if ring else (6, b"")
+    ring = has_ring(case, tree)
+    taken = ((1, UNLISTED) if command == "resolve" else (7, b"")) if ring else (6, b"")
     return [taken, refused] if doubted or not ring else [taken]
+
+
+def has_ring(case, tree):
+    """Whether its ring is there. A name of another file may be that of a folder, or too long."""
+    return tree["ring"] in [key.ring for key in case.pool.keys.values()]
+
+
+def shown_of(case, data):
+    """The forms of the refusals with which `check-config` may answer, and the configuration, where it may be shown."""
+    try:
+        tree, doubted = rules.configuration(data)
+    except rules.Fault as fault:
+        member, doubted = fault.args or ("", False)
+        return ["refused [a-z_]+ Shape\n" if doubted else f"refused {member} Shape\n" if member else "input\n"], None
+    forms = ["refused [a-z_]+ (Shape|TooLong)\n"] if doubted else []
+    if not has_ring(case, tree):
+        return [*forms, "refused ring (Absent|TooLong|Shape|Known)\n", ""], None
+    for place, held in enumerate(tree.get("trust_marks", [])):
+        fault, mark_doubted = mark_fault(held, tree["entity_id"])
+        forms += [f"refused trust_marks {place} Form\n"] if mark_doubted else []
+        if fault:
+            return [*forms, f"refused trust_marks {place} {fault}\n"], None
+    return forms, tree
+
+
+def mark_fault(held, node):
+    """Why this isn't a trust mark of the node, or nothing; and whether it is in doubt."""
+    doubts = rules.Doubts()
+    try:
+        text = rules.Text(held["trust_mark"].encode())
+        rules.asks(text.typ == MARK)
+        claims = rules.tree_of(text.payload)
+        rules.asks(rules.is_object(claims))
+        claims_of_mark(claims, doubts)
+    except (rules.Fault, rules.Unreadable):
+        return "Form", False
+    return "" if (claims["sub"], claims["trust_mark_type"]) == (node, held["trust_mark_type"]) else "Names", doubts.any
+
+
+def is_told(done, forms, tree):
+    """Whether the refusal has one of the forms, or what is shown are the node's names, and all of it is for a terminal."""
+    text = done.out.decode()
+    if done.status:
+        return done.status == (2 if text == "input\n" else 1 if text else 6) and any(re.fullmatch(form, text) for form in forms)
+    lines = text.split("\n")
+    below, anchors = ([it["entity_id"] for it in held] for held in (tree.get("subordinates", []), tree.get("resolver", {}).get("anchors", [])))
+    so = lines[:2] == [f"entity {tree['entity_id']}", f"lifetime {tree['lifetime']}"] and not LOUD.search(done.out)
+    return so and all([line.split(" ")[1] for line in lines if line.startswith(f"{word} ")] == names for word, names in
+                      (("subordinate", below), ("anchor", anchors)))
 
 
 # ---- rings
@@ -79,9 +133,21 @@ def rings(case):
     name = case.file("changed.ring", data)
     words, given, so = rng.choice([
         (["rotate", "--ring", name, "--act", "retire", "--kid", "none"], b"", b"refused Unknown\n"),
-        (["issue", "--ring", name, "--typ", STATEMENT], b"{}", b"refused Form\n")])
+        (["issue", "--ring", name, "--typ", STATEMENT], b"{}", b"refused Form\n"),
+        (["public", "--ring", name, "--kid", "none"], b"", b"refused Unknown\n"),
+        (["public", "--ring", name], b"", None)])
     wanted = [(1, so) if rules.is_ring(data) else (2, b"input\n")]
+    if so is None and rules.is_ring(data):
+        case.runs(words, given, 1, lambda done: is_published(done, json.loads(data)) and case.holds(name, data), "the live keys")
+        return
     case.runs(words, given, 1, lambda done: (done.status, done.out) in wanted and case.holds(name, data), wanted)
+
+
+def is_published(done, ring):
+    """Whether the live keys are told, with the middle of their public keys, and no seed."""
+    keys, live = json.loads(done.out)["keys"], [key["seeds"] for key in ring["keys"] if key["state"] == "live"]
+    so = done.status == 0 and all(set(key) == {"alg", "kid", "kty", "pub"} for key in keys)
+    return so and [decoded(key["pub"].encode())[:16].hex() for key in keys] == [seeds[64:] for seeds in live]
 
 
 # ---- claims
@@ -144,37 +210,4 @@ def is_sealed(done, payload, typ, kid):
     return payload is not None and decoded(header).decode() == wanted and decoded(claims_part).decode() == payload and len(decoded(signature)) == 7856
 
 
-# ---- words
-
-VALUES = ["", "0", "00", "-1", "+1", "1e3", "4611686018427387904", "18446744073709551616", "9" * 400, "a" * 100000, "--at", "--", "-", "\n", "'", "none",
-          "https://ta.example?", "http://", b"\xff", b"a\xffb", "\u00e9", "\x1b[31m", "65536", "80", "1000001", "entity-statement+jwt", "retire", "add",
-          "revoke", "unspecified", "help", "-h", "--help", "--version", "verify", "check", NODE, " ", "\u202e"]
-
-
-def words(case):
-    """A command line with a word that is gone, twice, exchanged or another."""
-    rng, pool = case.rng, case.pool
-    line = list(rng.choice([
-        ["verify", pool.keys["rp"].pub], ["check", "--anchor", TA, "--keys", "ta.keys", "--at", str(AT)],
-        ["keygen", "--ring", "never.ring", "--at", "1", "--exp", "2"], ["issue", "--ring", "rp.ring", "--typ", STATEMENT],
-        ["rotate", "--ring", "never.ring", "--act", "revoke", "--kid", "none", "--at", "1", "--reason", "superseded"],
-        ["resolve", "--config", "never.json", "--sub", IM, "--anchor", TA], ["authority", "--config", "never.json", "--port", "1", "--connections", "1"],
-        ["public", "--ring", "rp.ring", "--kid", "none"], ["check-config", "--config", "never.json", "--at", "1"], ["show"], ["help", "check"],
-        ["--help"], ["--version"], []]))
-    for _ in range(rng.choice([1, 1, 2, 3])):
-        at, kind = rng.randrange(len(line) + 1), rng.randrange(5)
-        if kind == 0:
-            del line[at:at + 1]
-        elif kind == 1:
-            line.insert(at, rng.choice(line or VALUES))
-        elif kind == 2:
-            line.insert(at, rng.choice(VALUES))
-        elif kind == 3 and at < len(line):
-            line[at] = rng.choice(VALUES)
-        else:
-            other = rng.randrange(len(line) + 1)
-            line[at:at + 1], line[other:other + 1] = line[other:other + 1], line[at:at + 1]
-    case.runs(line, rng.choice([b"", b"\n", b"x", b"[]"]), 1, lambda done: done.status in (0, 1, 2, 6), "a status of 0, 1, 2 or 6")
-
-
-KINDS = {"configurations": configurations, "rings": rings, "claims": claims, "words": words}
+KINDS = {"configurations": configurations, "rings": rings, "claims": claims}

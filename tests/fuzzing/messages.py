@@ -11,13 +11,15 @@ REQUEST = re.compile(rb"(?:\r?\n)*(" + TOKEN + rb") ([!-~\x80-\xff]+) HTTP/1\.[0
 RESPONSE = re.compile(rb"(?:\r?\n)*HTTP/1\.[01] ([0-9]{3})(?: [\t -~\x80-\xff]*)?\r?\n((?:" + FIELD + rb")*)\r?\n")
 CHUNK = re.compile(rb"([0-9A-Fa-f]{1,16})[ \t]*(?:;[^\r\n]*)?\r\n")
 HEAD, LINES, BODY, PAGE, CHUNKS = 16384, 64, 300000, 262144, 1048576
-REASONS = {200: b"OK", 400: b"Bad Request", 404: b"Not Found"}
+REASONS = {200: b"OK", 400: b"Bad Request", 403: b"Forbidden", 404: b"Not Found", 409: b"Conflict", 500: b"Internal Server Error",
+           503: b"Service Unavailable"}
 REFUSALS = {
-    "request": (400, b'{"error":"invalid_request","error_description":"not a request of this node"}'),
-    "entity": (404, b'{"error":"not_found","error_description":"no such entity"}'),
+    "request": (400, b"invalid_request", b"not a request of this node"), "entity": (404, b"not_found", b"no such entity"),
+    "anchor": (404, b"invalid_trust_anchor", b"no such trust anchor"), "policy": (400, b"invalid_metadata", b"policies refuse the metadata"),
+    "chain": (400, b"invalid_trust_chain", b"no valid trust chain"), "fault": (503, b"temporarily_unavailable", b"a fetch failed"),
+    "budget": (500, b"server_error", b"search budget ended"), "stranger": (403, b"invalid_client", b"not sealed by a control key"),
 }
-MEDIA = {"entity-statement+jwt": b"application/entity-statement+jwt", "jwk-set+jwt": b"application/jwk-set+jwt",
-         "trust-mark-status-response+jwt": b"application/trust-mark-status-response+jwt"}
+MEDIA = {f"{typ}+jwt": b"application/%s+jwt" % typ.encode() for typ in ("entity-statement", "jwk-set", "trust-mark-status-response", "resolve-response")}
 
 
 def fields(lines):
@@ -95,8 +97,8 @@ def answer(status, media, body):
 
 
 def refusal(word):
-    status, body = REFUSALS[word]
-    return answer(status, b"application/json", body)
+    status, error, description = REFUSALS[word]
+    return answer(status, b"application/json", b'{"error":"%s","error_description":"%s"}' % (error, description))
 
 
 class Node:
@@ -124,7 +126,11 @@ class Node:
             return ("jwk-set+jwt", None), length
         if path == b"/fetch":
             return self.fetched([value for name, value in given if name == "sub"]), length
-        return (self.listed(given) if path == b"/list" else refusal("request")), length
+        return (self.listed(given) if path == b"/list" else self.resolved(path, given)), length
+
+    def resolved(self, path, given):
+        """What it answers at a path that isn't one of an authority's."""
+        return refusal("request")
 
     def posted(self, path, read):
         marks = [value for name, value in parameters(read.body) if name == "trust_mark"]

@@ -4,12 +4,13 @@ import json
 import os
 import random
 import subprocess
+import sys
 from concurrent.futures import ThreadPoolExecutor
 
-from . import policies, rules
+from . import drawn, rules
 
 BEGIN, AT, END = 1700000000, 1800000000, 4000000000
-STATEMENT, MARK = "entity-statement+jwt", "trust-mark+jwt"
+STATEMENT, MARK, CHANGE = "entity-statement+jwt", "trust-mark+jwt", "anchor-keys+jwt"
 TA, IM, RP, RESOLVER = "https://ta.example", "https://im.example/fed", "https://rp.example", "https://resolver.example"
 NODE = "http://127.0.0.1/fed"
 # entities of which each has a configuration that is served, statements about the leaf and hints
@@ -17,7 +18,16 @@ WIDTH = 20
 SUPERIORS = [f"https://h{number}.example" for number in range(WIDTH)]
 ABOVE = [f"https://g{number}.example/x" for number in range(WIDTH)]
 LONG = [f"https://e{number}.example" for number in range(9)]
-RELYING = "openid_relying_party"
+# a leaf and its superior that hint more entities than a search asks for, none of which is there
+FAR, HUB = "https://far.example", "https://hub.example"
+GONE = [[f"https://{letter}{number}.example" for number in range(31)] for letter in "xy"]
+TESTS = os.path.dirname(os.path.dirname(os.path.abspath(__file__)))
+SEAL = """import json, sys
+sys.dont_write_bytecode = True
+sys.path.insert(0, sys.argv[1])
+import sealing
+print(sealing.sealed(*json.load(sys.stdin)))"""
+RELYING = drawn.RELYING
 
 
 def endpoint(entity):
@@ -25,8 +35,8 @@ def endpoint(entity):
 
 
 class Key:
-    def __init__(self, ring, jwk):
-        self.ring, self.jwk = ring, jwk
+    def __init__(self, ring, seeds, jwk):
+        self.ring, self.seeds, self.jwk = ring, seeds, jwk
         self.kid, self.pub = jwk["kid"], jwk["pub"]
 
 
@@ -36,18 +46,23 @@ class Pool:
     def __init__(self, program, folder, seed):
         self.program, self.folder = program, folder
         self.rng = random.Random(f"pool {seed}")
-        self.keys, self.claims, self.texts, self.signers = {}, {}, {}, {}
-        with ThreadPoolExecutor(os.cpu_count()) as self.workers:
+        self.keys, self.claims, self.texts, self.signers, self.changes = {}, {}, {}, {}, {}
+        with ThreadPoolExecutor(len(os.sched_getaffinity(0))) as self.workers:
             names = ["ta", "im", "rp", "resolver", "node", "other"]
             for name, key in zip(names, self.workers.map(self.key, names, [self.rng.getrandbits(384) for _ in names])):
                 self.keys[name] = key
             self.state_chains()
             self.state_policies()
             self.state_web()
+            changes = self.state_changes()
+            made = {name: self.workers.submit(self.sealed_otherwise, *it) for name, it in changes.items()}
             wanted = [(name, *it) for name, it in self.claims.items()]
             for (name, _, by, _), text in zip(wanted, self.workers.map(lambda it: self.sealed(*it[1:]), wanted)):
                 self.texts[name] = text
                 self.signers[text] = self.keys[by].pub
+            for name, text in made.items():
+                self.changes[name] = text.result()
+                self.signers[self.changes[name]] = self.keys[changes[name][1]].pub
         self.write_files()
         self.known = {text: rules.statement(text.encode()) for text in self.texts.values()}
         self.judge = rules.Judge(self.signers)
@@ -60,10 +75,16 @@ class Pool:
 
     def key(self, name, seeds):
         made = self.fed(["keygen", "--ring", f"{name}.ring", "--at", "1", "--exp", str(END)], b"%096x\n" % seeds)
-        return Key(f"{name}.ring", json.loads(made))
+        return Key(f"{name}.ring", "%096x" % seeds, json.loads(made))
 
     def sealed(self, claims, by, typ):
         return self.fed(["issue", "--ring", self.keys[by].ring, "--typ", typ], json.dumps(claims).encode()).decode().strip()
+
+    def sealed_otherwise(self, claims, by):
+        """Other keys for an anchor, a text of a type that the program signs with none of its commands."""
+        words, key = [sys.executable, "-c", SEAL, TESTS], self.keys[by]
+        done = subprocess.run(words, input=json.dumps([claims, CHANGE, key.seeds, key.jwk]), capture_output=True, text=True, check=True)
+        return done.stdout.strip()
 
     def state(self, name, claims, by, typ=STATEMENT):
         """Adds claims that are to be signed, under a name of their own."""
@@ -102,53 +123,20 @@ class Pool:
 
     # ---- leaves, and policies of two superiors, of which each fits each
 
-    VALUES = ["a", "b", "c", "a b", "", 1, True, {"a": 1}, ["a"], None]
-    PARAMETERS = ["scope", "list", "text", "x"]
-
-    def values(self):
-        return [self.rng.choice(self.VALUES[:-1]) for _ in range(self.rng.choice([0, 1, 2, 3, 4, 6]))]
-
-    def fitting(self, name):
-        """Operators that mostly stand together."""
-        while True:
-            found = self.operators()
-            if policies.operators_merged(found, {}, name)[0] is None or self.rng.random() < .02:
-                return found
-
-    def operators(self):
-        found = {}
-        for name in self.rng.sample(["value", "add", "default", "one_of", "subset_of", "superset_of", "essential"], self.rng.choice([1, 1, 1, 2, 2, 3])):
-            if name == "value":
-                found[name] = self.rng.choice([*self.VALUES, self.values(), self.values()])
-            elif name == "default":
-                found[name] = self.rng.choice([*self.VALUES[:-1], self.values(), self.values()])
-            else:
-                found[name] = self.rng.random() < .5 if name == "essential" else self.values()
-        return found
-
-    def policy(self):
-        policy = {}
-        for typ in self.rng.sample([RELYING, "other"], self.rng.choice([1, 1, 2])):
-            policy[typ] = {name: self.fitting(name) for name in self.rng.sample(self.PARAMETERS, self.rng.choice([1, 2, 2, 3]))}
-        return policy
-
-    def metadata(self):
-        types = self.rng.sample([RELYING, "other", "third"], self.rng.choice([1, 2, 2, 3]))
-        return {typ: {name: self.rng.choice([*self.VALUES[:-1], self.values(), self.values(), "a b a"])
-                      for name in self.rng.sample(self.PARAMETERS, self.rng.randrange(4))} for typ in types}
-
-    def state_policies(self, each=24):
-        self.leaves = [f"policy leaf {number}" for number in range(each)]
-        self.lower = [f"lower policy {number}" for number in range(each)]
-        self.upper = [f"upper policy {number}" for number in range(each)]
+    def state_policies(self):
+        self.leaves = [f"policy leaf {number}" for number in range(40)]
+        self.lower = [f"lower policy {number}" for number in range(60)]
+        self.upper = [f"upper policy {number}" for number in range(60)]
+        draws = drawn.Draws(self.rng)
         for name in self.leaves:
-            self.state(name, self.own(RP, "rp", metadata=self.metadata()), "rp")
+            self.state(name, self.own(RP, "rp", authority_hints=[IM], metadata=draws.metadata()), "rp")
         for name in self.lower:
-            more = {"metadata": self.metadata()} if self.rng.random() < .3 else {}
-            self.state(name, self.about(IM, RP, "rp", metadata_policy=self.policy(), **more), "im")
+            more = {"metadata": draws.metadata()} if self.rng.random() < .3 else {}
+            more |= {"constraints": draws.constraints()} if self.rng.random() < .2 else {}
+            self.state(name, self.about(IM, RP, "rp", metadata_policy=draws.policy(), **more), "im")
         for name in self.upper:
-            types = {"constraints": {"allowed_entity_types": self.rng.sample([RELYING, "other", "third"], 2)}} if self.rng.random() < .3 else {}
-            self.state(name, self.about(TA, IM, "im", metadata_policy=self.policy(), **types), "ta")
+            more = {"constraints": draws.constraints()} if self.rng.random() < .5 else {}
+            self.state(name, self.about(TA, IM, "im", metadata_policy=draws.policy(), **more), "ta")
 
     # ---- a web: a leaf with many superiors, each with one above it
 
@@ -158,9 +146,21 @@ class Pool:
             self.state(f"superior {number}", self.own(superior, "im", authority_hints=[ABOVE[number]], metadata=endpoint(superior)), "im")
             self.state(f"statement {number}", self.about(superior, RP, "rp", metadata_policy={RELYING: {"contacts": {"add": ["a"]}}}), "im")
         self.state("im", self.own(IM, "im", authority_hints=[TA], metadata=endpoint(IM)), "im")
+        self.state("far", self.own(FAR, "rp", authority_hints=[HUB, *GONE[0]]), "rp")
+        self.state("hub", self.own(HUB, "im", authority_hints=GONE[1], metadata=endpoint(HUB)), "im")
+        self.state("hub about far", self.about(HUB, FAR, "rp"), "im")
+        self.state("mark of node", {"iss": TA, "sub": NODE, "trust_mark_type": "t", "iat": BEGIN, "exp": END}, "ta", MARK)
         for typ in ("open", "t"):
             self.state(f"mark {typ}", {"iss": NODE, "sub": RP, "trust_mark_type": typ, "iat": BEGIN}, "node", MARK)
             self.state(f"mark of ta {typ}", {"iss": TA, "sub": RP, "trust_mark_type": typ, "iat": BEGIN, "exp": END, "logo": "x"}, "ta", MARK)
+
+    # ---- other keys for an anchor
+
+    def state_changes(self):
+        """Those of the first epoch and of the next, of an anchor that isn't listed, and some that a stranger signed."""
+        first, second = ({"anchor": TA, "epoch": epoch, "jwks": {"keys": [self.keys[name].jwk]}} for epoch, name in enumerate(["other", "ta"]))
+        unlisted = {**first, "anchor": IM, "note": [1]}
+        return {"first": (first, "other"), "second": (second, "other"), "unlisted": (unlisted, "other"), "strange": (first, "rp")}
 
     # ---- files
 

@@ -21,7 +21,7 @@ class Unreadable(Exception):
 
 
 class Fault(Exception):
-    """Something isn't of its form."""
+    """Something isn't of its form: of a configuration, this member, and whether identifiers before it are in doubt."""
 
 
 def asks(so):
@@ -413,19 +413,21 @@ def is_ring(data):
     return True
 
 
-def subordinate(tree, node, seen, doubts):
-    asks(is_object(tree))
-    doubts.identifier(tree.get("entity_id"))
-    asks(tree["entity_id"] != node and tree["entity_id"] not in seen)
-    seen.add(tree["entity_id"])
-    key_set(tree.get("jwks"))
-    readers = {"metadata": metadata, "metadata_policy": policy, "metadata_policy_crit": critical, "constraints": constraints}
-    for name, reader in readers.items():
-        if name in tree:
-            reader(tree[name])
-            asks(is_whole(tree[name]))
-    asks(all(is_texts(tree[name]) for name in ("entity_types", "mark_types") if name in tree))
-    asks(isinstance(tree.get("intermediate", False), bool))
+def subordinates(below, node, doubts):
+    asks(isinstance(below, list) and len(below) <= 10000)
+    readers, seen = {"metadata": metadata, "metadata_policy": policy, "metadata_policy_crit": critical, "constraints": constraints}, set()
+    for tree in below:
+        asks(is_object(tree))
+        doubts.identifier(tree.get("entity_id"))
+        asks(tree["entity_id"] != node and tree["entity_id"] not in seen)
+        seen.add(tree["entity_id"])
+        key_set(tree.get("jwks"))
+        for name, reader in readers.items():
+            if name in tree:
+                reader(tree[name])
+                asks(is_whole(tree[name]))
+        asks(all(is_texts(tree[name]) for name in ("entity_types", "mark_types") if name in tree))
+        asks(isinstance(tree.get("intermediate", False), bool))
 
 
 def resolver(tree, doubts):
@@ -453,20 +455,19 @@ def configuration(data):
         tree = tree_of(data)
     except Unreadable:
         raise Fault from None
-    asks(is_object(tree) and len(data) <= FILE_LIMIT)
-    doubts.identifier(tree.get("entity_id"))
-    asks(isinstance(tree.get("ring"), str) and is_number(tree.get("lifetime"), 60, 31536000))
-    readers = {"metadata": metadata, "authority_hints": lambda held: hints(held, doubts), "trust_marks": marks, "trust_mark_issuers": issuers,
-               "trust_mark_owners": lambda held: owners(held, doubts)}
+    asks(len(data) <= FILE_LIMIT)
+    claims = {"metadata": metadata, "authority_hints": lambda held: hints(held, doubts), "trust_marks": marks, "trust_mark_issuers": issuers,
+              "trust_mark_owners": lambda held: owners(held, doubts)}
+    readers = {"entity_id": doubts.identifier, "ring": lambda held: asks(isinstance(held, str)),
+               "lifetime": lambda held: asks(is_number(held, 60, 31536000)), **claims,
+               "subordinates": lambda held: subordinates(held, tree["entity_id"], doubts),
+               "revoked_marks": lambda held: asks(is_texts(held)), "resolver": lambda held: resolver(held, doubts)}
     for name, reader in readers.items():
-        if name in tree:
-            reader(tree[name])
-            asks(is_whole(tree[name]))
-    below, seen = tree.get("subordinates", []), set()
-    asks(isinstance(below, list) and len(below) <= 10000)
-    for held in below:
-        subordinate(held, tree["entity_id"], seen, doubts)
-    asks(is_texts(tree.get("revoked_marks", [])))
-    if "resolver" in tree:
-        resolver(tree["resolver"], doubts)
+        try:
+            asks(is_object(tree) and (name in tree or name not in ("entity_id", "ring", "lifetime")))
+            if name in tree:
+                reader(tree[name])
+                asks(name not in claims or is_whole(tree[name]))
+        except Fault:
+            raise Fault(name, doubts.any) from None
     return tree, doubts.any or len(data) > 150000

@@ -299,62 +299,90 @@ def policies(case):
 
 # what a terminal acts on: control characters but the line end, and marks of direction
 LOUD = re.compile(rb"[\x00-\x09\x0b-\x1f\x7f]|\xc2[\x80-\x9f]|\xe2[\x80-\x81]")
-LAST = b"nothing was verified\n"
+LAST, WRONG = b"nothing was verified\n", re.compile(rb"^refused ", re.M)
 
 
 def shown(case):
-    """A changed text, a list with one, or a changed key set, handed to `show`."""
+    """A changed key set, a changed text, or a list of up to 200 of these, handed to `show`."""
     rng, pool = case.rng, case.pool
-    kind = rng.randrange(4)
-    if kind == 3:
+    names, kind, looked = list(pool.texts), rng.randrange(8), 1
+    if kind == 0:
         given = changed_keys(rng, pool)
+    elif kind == 1:
+        given = some_text(rng, pool.texts[rng.choice(names)])
     else:
-        names = list(pool.texts)
-        parts = Parts(rng, pool.texts[rng.choice(names)])
-        given = parts.changed_hard() if rng.random() < .5 else parts.changed_softly()
-        if kind == 2:
-            made = [given.decode("latin-1"), *(pool.texts[rng.choice(names)] for _ in range(rng.randrange(3)))]
-            rng.shuffle(made)
-            given = written(made, rng if rng.random() < .3 else None)
-    statuses, ending = view_of(given)
+        looked = rng.choice([1, 2, 10, 50, 100, 200, 200])
+        made = [some_text(rng, pool.texts[rng.choice(names)]).decode("latin-1") for _ in range(looked)]
+        made += [pool.texts[rng.choice(names)] for _ in range(rng.randrange(3))]
+        rng.shuffle(made)
+        given = written(made, rng if rng.random() < .3 else None)
+        given = changes.of_bytes(rng, given) if rng.random() < .02 else given
+    wanted = view_of(given)
     given += rng.choice([b"", b"\n", b"\r\n"]) if len(given) < rules.FILE_LIMIT - 2 else b""
-    case.runs(["show"], given, 1, lambda done: done.status in statuses and is_shown(done, ending), (statuses, ending))
+    case.runs(["show"], given, looked, lambda done: is_shown(done, wanted), wanted)
 
 
-def is_shown(done, ending):
-    """Whether the answer ends as it has to, and is one that a terminal can be given."""
-    if done.status == 2:
-        return done.out == b"input\n"
-    return done.out.endswith(ending + LAST) and not LOUD.search(done.out) and (b"refused " in done.out or done.status == 0)
+def some_text(rng, good):
+    parts = Parts(rng, good)
+    return parts.changed_hard() if rng.random() < .6 else parts.changed_softly()
+
+
+class View:
+    """What has to be shown: the statuses, the last line before that which says that nothing was verified, and what a text is, or each of a list,
+    where that is sure."""
+
+    def __init__(self, statuses, line=b"", each=None, one=None):
+        self.statuses, self.line, self.each, self.one = statuses, line, each, one
+
+    def __str__(self):
+        return f"{self.statuses} {self.line} {self.each} {self.one}"
+
+
+def is_shown(done, view):
+    """Whether the answer says what it has to, and is one that a terminal can be given. No other text than a statement is called one."""
+    if done.status == 2 or done.status not in view.statuses:
+        return 2 in view.statuses and (done.status, done.out) == (2, b"input\n")
+    if not done.out.endswith(view.line + LAST) or LOUD.search(done.out) or (done.status == 0) == (WRONG.search(done.out) is not None):
+        return False
+    if view.each is None:
+        return is_called(done.out.removesuffix(b"\n" + LAST).rpartition(b"\n")[2], view.one)
+    parts = re.split(rb"^text ([0-9]+)\n", done.out.removesuffix(view.line + LAST), flags=re.M)
+    if parts[0] != b"" or parts[1::2] != [b"%d" % place for place in range(len(view.each))]:
+        return False
+    return all(is_called(part[:-1].rpartition(b"\n")[2], wanted) for part, wanted in zip(parts[2::2], view.each))
+
+
+def is_called(line, wanted):
+    """Whether this is said of a text: `wanted`, or nothing of a statement where it is none."""
+    return line == wanted if wanted else wanted is None or not line.startswith((b"configuration of ", b"statement of "))
 
 
 def view_of(given):
-    """The statuses with which the input may be shown, and what stands before the last line."""
     if len(given) > rules.FILE_LIMIT:
-        return {2}, b""
+        return View({2})
     try:
         tree = rules.tree_of(given)
     except rules.Unreadable:
-        return found_in(given)
+        line = found_in(given)
+        return View({0} if line else {0, 1}, (line or b"") + b"\n", one=line)
     if rules.is_object(tree):
         try:
             rules.key_set(tree)
-            return {0}, b"key set of %d\n" % len(tree["keys"])
+            return View({0}, b"key set of %d\n" % len(tree["keys"]))
         except rules.Fault:
-            return {1}, b"\n"
+            return View({1}, b"\n")
     if not rules.is_texts(tree):
-        return {2}, b""
-    each = [found_in(text.encode())[0] for text in tree]
-    statuses = {1} if {1} in each else {0, 1} if {0, 1} in each else {0}
-    return statuses, b"chain of %d\n" % len(tree)
+        return View({2})
+    each = [found_in(text.encode()) for text in tree]
+    return View({0} if all(each) else {0, 1}, b"chain of %d\n" % len(tree), each)
 
 
 def found_in(text):
-    """The same of a text: one of another type may be shown, whatever its claims, or be no text at all."""
+    """What is said of a statement, nothing of another text, and None where it is in doubt."""
     it = rules.statement(text)
     if it is None or it.doubted:
-        return {0, 1}, b"\n"
-    return {0}, f"configuration of {it.sub}\n".encode() if it.own else f"statement of {it.iss} about {it.sub}\n".encode()
+        return None if it else b""
+    return f"configuration of {it.sub}".encode() if it.own else f"statement of {it.iss} about {it.sub}".encode()
 
 
 KINDS = {"texts": texts, "chains": chains, "keys": keys, "policies": policies, "shown": shown}

@@ -5,13 +5,11 @@ import json
 import socket
 import threading
 
-from . import changes, messages, rules, texts
+from . import changes, rules, searches, texts
 from .callers import reset
-from .changes import decoded
-from .pool import ABOVE, IM, RESOLVER, RP, STATEMENT, SUPERIORS, TA
+from .pool import ABOVE, FAR, GONE, HUB, IM, RP, STATEMENT, SUPERIORS, TA
+from .searches import NOT_FOUND, RESET, document, fetch_of, page_of
 
-RESET = object()
-NOT_FOUND = b"HTTP/1.1 404 Not Found\r\nContent-Length: 0\r\n\r\n"
 NO_ENTITY = b'{"error":"not_found","error_description":"no such entity"}\n'
 NO_CHAIN = b'{"error":"invalid_trust_chain","error_description":"no valid trust chain"}\n'
 FIELDS = [b"Content-Encoding: identity", b"Content-Encoding: gzip", b"content-encoding: IDENTITY", b"Content-Encoding:", b"Transfer-Encoding: chunked",
@@ -22,14 +20,6 @@ LINES = [b"HTTP/1.1 200 OK", b"HTTP/1.0 200 OK", b"HTTP/1.1 200", b"HTTP/1.1 200
          b"HTTP/1.1 20 OK", b"HTTP/1.1 204 No Content", b"HTTP/1.1 206 Partial Content", b"HTTP/1.1 301 Moved", b"HTTP/1.1 404 Not Found", b"HTTP/1.1 500 X",
          b"HTTP/1.1 100 Continue", b"HTTP/1.1 999 X", b"HTTP/2 200 OK", b"ICY 200 OK", b"http/1.1 200 OK", b"HTTP/1.1\t200 OK", b"HTTP/1.1 -20 OK", b"", b"\r\nHTTP/1.1 200 OK",
          b"HTTP/1.1 200OK"]
-
-
-def page_of(entity):
-    return f"{entity.removeprefix('https://')}/.well-known/openid-federation"
-
-
-def fetch_of(superior, subject):
-    return f"{superior.removeprefix('https://')}/fetch?sub={subject.replace(':', '%3A').replace('/', '%2F')}"
 
 
 class Web:
@@ -135,12 +125,6 @@ def changed_page(rng, good, others):
 
 # ---- what is good
 
-def document(page):
-    """The document of the page, or None."""
-    found = None if page is RESET else messages.page(page)
-    return found if isinstance(found, bytes) else None
-
-
 def is_configuration(pool, page, entity):
     """Whether the page is a configuration of the entity, sealed by its own key and current. Only texts that were signed are."""
     found = document(page)
@@ -209,16 +193,8 @@ def whole(case, web):
 
 
 def is_reply(pool, done, leaf=None, marks=()):
-    if done.status != 0:
-        return False
-    header, payload, signature = done.out.rstrip(b"\n").split(b".")
-    claims, chain = json.loads(decoded(payload)), [leaf or pool.texts["leaf"], *(pool.texts[name] for name in ("im about leaf", "ta about im", "ta"))]
-    verdict = pool.judge.answers(chain, TA, rules.key_set(pool.anchor_keys), claims["iat"])[0].split("\n")
-    wanted = {"exp": int(verdict[0].split(" ")[2]), "iat": claims["iat"], "iss": RESOLVER, "metadata": json.loads(verdict[1]), "sub": RP, "trust_chain": chain}
-    wanted |= {"trust_marks": marks} if marks else {}
-    kid = pool.keys["resolver"].kid
-    so = decoded(header).decode() == rules.compact({"alg": rules.ALGORITHM, "kid": kid, "typ": "resolve-response+jwt"})
-    return so and decoded(payload).decode() == rules.compact(wanted) and len(decoded(signature)) == texts.SIGNATURE
+    chain = [leaf or pool.texts["leaf"], *(pool.texts[name] for name in ("im about leaf", "ta about im", "ta"))]
+    return done.status == 0 and searches.is_reply(pool, done.out.rstrip(b"\n"), chain, rules.key_set(pool.anchor_keys), marks=marks)
 
 
 def marks(case):
@@ -247,14 +223,17 @@ def marks(case):
     pool.judge.known.pop(leaf, None)
 
 
+def configuration(pool, web):
+    """The name of a resolver's file whose routes lead to the web."""
+    if not hasattr(web, "file"):
+        hosts = [entity.split("/")[2] for entity in (RP, IM, TA, FAR, HUB, *SUPERIORS, *ABOVE, *GONE[0], *GONE[1])]
+        web.file, web.config = f"web-{web.port}.json", pool.resolver({host: web.port for host in hosts})
+        pool.write(web.file, json.dumps(web.config).encode())
+    return web.file
+
+
 def words(case, web):
-    """The command, with a configuration whose routes lead to the web."""
-    if not hasattr(web, "words"):
-        hosts = [entity.split("/")[2] for entity in (RP, IM, TA, *SUPERIORS, *ABOVE)]
-        name = f"web-{web.port}.json"
-        case.pool.write(name, json.dumps(case.pool.resolver({host: web.port for host in hosts})).encode())
-        web.words = ["resolve", "--config", name, "--sub", RP, "--anchor", TA]
-    return web.words
+    return ["resolve", "--config", configuration(case.pool, web), "--sub", RP, "--anchor", TA]
 
 
 def searched(case, web, pages, wanted, changed, answers):
