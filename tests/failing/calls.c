@@ -1,7 +1,7 @@
 /* Stands before the C library under the program, and lets calls fail. The environment says which:
  *
  *   FAIL_HOW   `memory`: allocations; `fail`: calls of the outside, which do nothing; `late`: these, which do it and tell a failure all the
- *              same; `short`: reads and writes, of which one byte is moved
+ *              same, but that no thread is started; `short`: reads and writes, of which one byte is moved
  *   FAIL_FROM, FAIL_TO   the first and the last of those calls that fails, counted from 1
  *   FAIL_NOW   the moment that the clock tells, in seconds since 1970
  *   FAIL_TOLD  the file in which is told how many allocations and how many calls there were, and the sum of what failed (`of` below)
@@ -11,6 +11,7 @@
 #include <errno.h>
 #include <fcntl.h>
 #include <poll.h>
+#include <pthread.h>
 #include <stdarg.h>
 #include <stdio.h>
 #include <stdlib.h>
@@ -24,20 +25,21 @@
 #include <unistd.h>
 
 enum how { NOT, FAIL, LATE, SHORT };
-/* what a call is of: the three streams, files, files that are taken away, the network, and a caller's connection */
-enum of { INPUT = 1, OUTPUT = 2, NOTES = 4, FILES = 8, AWAY = 16, NETWORK = 32, CALLER = 64 };
+/* what a call is of: the three streams, files, files that are taken away, the network, a caller's connection, the clock that tells the
+ * moment, the one that tells how long something took, and threads */
+enum of { INPUT = 1, OUTPUT = 2, NOTES = 4, FILES = 8, AWAY = 16, NETWORK = 32, CALLER = 64, CLOCK = 128, TIMER = 256, THREADS = 512 };
 
 void *__libc_malloc(size_t), *__libc_calloc(size_t, size_t), *__libc_realloc(void *, size_t);
 
 static unsigned long from, to, allocations, calls, failed;
-static long now;
+static long now = -1;
 static int started, memory;
 static enum how how;
 static unsigned char sockets[1024];
 
 #define EACH(X) X(read) X(write) X(writev) X(sendmsg) X(open) X(openat) X(fsync) X(fdatasync) X(rename) X(unlink) X(statx) X(fcntl) X(ioctl) \
-    X(socket) X(setsockopt) X(getsockopt) X(getsockname) X(bind) X(listen) X(accept4) X(connect) X(send) X(recv) X(shutdown) X(poll) X(clock_gettime) \
-    X(close)
+    X(socket) X(setsockopt) X(getsockopt) X(getsockname) X(bind) X(listen) X(accept4) X(connect) X(send) X(recv) X(shutdown) X(poll) \
+    X(clock_gettime) X(pthread_create) X(close)
 #define KEPT(name) static __typeof__(&name) real_##name;
 EACH(KEPT)
 
@@ -52,7 +54,7 @@ __attribute__((constructor)) static void start(void) {
     EACH(FOUND)
     from = number("FAIL_FROM");
     to = number("FAIL_TO");
-    now = number("FAIL_NOW");
+    if (getenv("FAIL_NOW")) now = number("FAIL_NOW");
     memory = word && !strcmp(word, "memory");
     how = !word || memory ? NOT : !strcmp(word, "short") ? SHORT : !strcmp(word, "late") ? LATE : FAIL;
     started = 1;
@@ -214,8 +216,14 @@ int close(int fd) {
     return real_close(fd);
 }
 
-int clock_gettime(clockid_t clock, struct timespec *found) {
+static int time_of(clockid_t clock, struct timespec *found) {
     int answer = real_clock_gettime(clock, found);
-    if (now && clock == CLOCK_REALTIME) *found = (struct timespec){now, 0};
+    if (now >= 0 && clock == CLOCK_REALTIME) *found = (struct timespec){now, 0};
     return answer;
+}
+int clock_gettime(clockid_t clock, struct timespec *found) { DOES(clock == CLOCK_REALTIME ? CLOCK : TIMER, EINVAL, time_of(clock, found)); }
+
+/* a thread that runs is never told as failed, and so none is started here in either way */
+int pthread_create(pthread_t *thread, const pthread_attr_t *attributes, void *(*runs)(void *), void *given) {
+    return due(THREADS, 0) == NOT ? real_pthread_create(thread, attributes, runs, given) : EAGAIN;
 }
