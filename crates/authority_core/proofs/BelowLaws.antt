@@ -46,7 +46,7 @@ below-found id (Some tree) subs e =
 
 -- ---- the parts of a configuration
 
-further-by : (a : Option (List Subordinate)) (b : Option (List (List ℕ))) (c : Option (Option Resolver)) (f : Further)
+pub further-by : (a : Option (List Subordinate)) (b : Option (List (List ℕ))) (c : Option (Option Resolver)) (f : Further)
     → (member (codes "subordinates") a >>= λ s. member (codes "revoked_marks") b >>= λ r. member (codes "resolver") c >>= λ p. Ok (record { subordinates = s; revoked = r; resolver = p })) ≡ Ok f
     → a ≡ Some f.subordinates
 further-by None b c f e = cc e

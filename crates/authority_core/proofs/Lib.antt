@@ -1,10 +1,12 @@
 mod BelowLaws
 mod ConfigurationLaws
+mod Depths
 mod IssueLaws
 mod LengthLaws
 mod ListLaws
 mod Members
 mod MetadataLaws
+mod NestingLaws
 mod ReadLaws
 mod Responses
 mod StatementLengths

@@ -4,6 +4,7 @@ pub mod Endpoints
 pub mod Issued
 pub mod Issues
 pub mod Lengths
+pub mod Nestings
 pub mod Nodes
 pub mod ReadBack
 pub mod Stages

@@ -1,5 +1,6 @@
-//! What follows for chains of what authorities issue, whoever they are and whenever they issued it.
+//! What follows of what authorities issue, whoever they are and whenever they issued it.
 ghost use Rattle.authority_core.specs.Issues.{IssuesAreRead, IssuesAreRefusedOnly};
+ghost use Rattle.authority_core.specs.Nestings.{StatesAsConfigured, StatesAsRead};
 
 /// The statements of a chain of issues are those that were issued. It does nothing.
 pub fn issues_are_read()
@@ -10,4 +11,11 @@ pub fn issues_are_read()
 /// the signer. It does nothing.
 pub fn issues_are_refused_only()
     ensures { IssuesAreRefusedOnly }
+{}
+
+/// What a node states is nested at most 127 deep where its configuration is, as it is where that was read from a text. So what it issues
+/// is read again. It does nothing.
+pub fn nodes_state_shallowly()
+    ensures configured { StatesAsConfigured }
+    ensures read { StatesAsRead }
 {}

@@ -19,6 +19,7 @@ ghost use Rattle.authority_core.specs.Answers.{configuration_response, fetch_res
 ghost use Rattle.authority_core.specs.Configurations.{node_in};
 ghost use Rattle.authority_core.specs.Issued.{configuration_claims, ids_of, statement_claims};
 ghost use Rattle.authority_core.specs.Issues.{IsIssue, issue_by};
+ghost use Rattle.authority_core.specs.Nestings.{IsShallow, StatesShallowly};
 ghost use Rattle.authority_core.specs.Nodes.{is_for, registered};
 ghost use Rattle.authority_core.specs.ReadBack.{ReadsAs, claims_about, own_claims};
 ghost use Rattle.authority_core.specs.Statuses.{status_tests};
@@ -74,7 +75,9 @@ impl Registry {
     #[tactic(auto, unfolding(crate::specs::Configurations::node_in))]
     pub fn read(alloc: Global, config: &Json, ring: KeyRing) -> Result<Registry, ConfigFault>
         requires { IsWellFormed config.now }
-        ensures { Gives result (node_in config.now ring) }
+        ensures node { Gives result (node_in config.now ring) }
+        // Where the configuration is nested no deeper than a text may be that is read, so is what the node states.
+        ensures shallow { IfOk result (λ node. IsShallow config.now → StatesShallowly node) }
     {
         let config = match NodeConfig::read(alloc, config) {
             Ok(config) => config,
