@@ -6,6 +6,7 @@ pub mod PartLaws
 pub mod PartSteps
 pub mod PlainLaws
 pub mod PlainSteps
+pub mod PurgeEnds
 pub mod Purges
 pub mod Purging
 pub mod PutLaws

@@ -1,9 +1,9 @@
 -- What a pass knows of the parts of the cache and of the book, and what calls add to it.
-use Rattle.std.specs.Prelude.{◌≡◌, ◌<◌, ℕ, zero, suc, List, [], ◌∷◌, length, sum}
+use Rattle.std.specs.Prelude.{◌≡◌, ◌<◌, ℕ, zero, suc, List, [], ◌∷◌, length, sum, slice_get, Some, ⊤}
 use Rattle.std.specs.declared.snapshot.Snapshot.{Snapshot}
 use Rattle.turn_log.specs.Runs.{Adds, call_limit}
 use Rattle.turn_log.specs.Gains.{Known}
-use Rattle.turn_log.specs.Groups.{AddsOnPart, AreOf, known, opened}
+use Rattle.turn_log.specs.Groups.{AddsOnPart, AreOf, EndsOnPart, known, opened}
 use Rattle.turn_log.specs.declared.kept.KeptTable.{KeptTable}
 use Rattle.turn_log.specs.declared.pass.PassSeat.{PassSeat}
 use Rattle.turn_log.specs.declared.group.Group.{Group}
@@ -75,3 +75,25 @@ IsWornCall (Look url moment) old new = IsWornPart (part_of url) old new
 IsWornCall (Put url text until) old new = IsWornPart (part_of url) old new
 IsWornCall (Prove url seal) old new = IsWornPart (part_of url) old new
 IsWornCall (Purge moment) old new = IsPurgeOfSome moment old new
+
+-- what a caller holds of the nine objects
+abbrev pub CommonsPass : Type 0 → Type 0 → Type 0
+CommonsPass S T = Group (PassSeat S Part ShelfCall ShelfReply) (PassSeat T Book BookCall BookReply)
+
+module _ {S T : Type 0} where
+  -- of each of the first parts the Purge is the last call that was seen, and dropped so many
+  abbrev pub PurgesEnd : ℕ → List ℕ → CommonsPass S T → CommonsPass S T → Type 0
+  PurgesEnd moment counts old new = (p n : ℕ) → slice_get counts p ≡ Some n → EndsOnPart old p (Purge moment, Dropped n) new
+
+  -- a call on the cache is the last call that was seen: of the part of its URL, or a Purge of each part
+  abbrev pub EndsShelfCall : ShelfCall → ShelfReply → CommonsPass S T → CommonsPass S T → Type 0
+  EndsShelfCall (Look url moment) reply old new = EndsOnPart old (part_of url) (Look url moment, reply) new
+  EndsShelfCall (Put url text until) reply old new = EndsOnPart old (part_of url) (Put url text until, reply) new
+  EndsShelfCall (Prove url seal) reply old new = EndsOnPart old (part_of url) (Prove url seal, reply) new
+  EndsShelfCall (Purge moment) (Dropped n) old new = (counts : List ℕ) × (length counts ≡ part_count) × (sum counts ≡ n) × PurgesEnd moment counts old new
+  EndsShelfCall (Purge moment) reply old new = ⊥
+
+  -- a Purge that met a worn part is the last call that was seen of each part before it, none of which was worn
+  abbrev pub EndsWornCall : ShelfCall → CommonsPass S T → CommonsPass S T → Type 0
+  EndsWornCall (Purge moment) old new = (counts : List ℕ) × (length counts < part_count) × PurgesEnd moment counts old new × (length (seen_of_part (length counts) new) ≡ call_limit)
+  EndsWornCall call old new = ⊤

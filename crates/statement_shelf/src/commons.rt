@@ -42,12 +42,12 @@ fn part_of(url: &Text) -> usize
 impl Commons {
     ghost use Rattle.std.specs.Prelude.{◌≡◌, ◌<◌, ◌≤◌, ◌∷◌, [], length, IfOk, IfErr};
     ghost use Rattle.turn_log.specs.Runs.{call_limit};
-    ghost use Rattle.turn_log.specs.Groups.{AddsOnBook, AddsOnPart, AreJoined, IsHistory, IsSame, IsUntaken, IsUnused, OwnsEach, known};
+    ghost use Rattle.turn_log.specs.Groups.{AddsOnBook, AddsOnPart, AreJoined, EndsOnBook, EndsOnPart, IsHistory, IsSame, IsUntaken, IsUnused, OwnsEach, StaysAlone, known};
     ghost use Rattle.statement_shelf.specs.Book.{BookStep, opened_with};
     ghost use Rattle.statement_shelf.specs.Shelf.{ShelfStep};
     ghost use Rattle.statement_shelf.specs.declared.calls.ShelfCall.TheVariants.{Purge};
     ghost use Rattle.statement_shelf.specs.declared.calls.ShelfReply.TheVariants.{Dropped};
-    ghost use Rattle.statement_shelf.specs.Passes.{ArePurged, IsPassOfAll, IsPurgeOfSome, IsPurgeOfAll, IsShelfCall, IsWornCall, IsWornPart, opened_book};
+    ghost use Rattle.statement_shelf.specs.Passes.{ArePurged, EndsShelfCall, EndsWornCall, IsPassOfAll, IsPurgeOfSome, IsPurgeOfAll, IsShelfCall, IsWornCall, IsWornPart, opened_book};
 
     /// Empty parts and the book of these anchors at epoch 0, with a pass that has seen nothing and is alone.
     pub fn new(alloc: Global, anchors: Seq<AnchorKeys>) -> Result<(Commons, FedPass), Memory>
@@ -73,7 +73,9 @@ impl Commons {
         requires at { at < 8 }
         ensures of { IsPassOfAll self.now pass.new }
         ensures whole { OwnsEach pass.old → OwnsEach pass.new }
+        ensures alone { StaysAlone pass.old pass.new }
         ensures told { IfOk result (λ n. AddsOnPart (known pass.old) at ((Purge moment, Dropped n) ∷ []) (known pass.new)) }
+        ensures ends { IfOk result (λ n. EndsOnPart pass.old at (Purge moment, Dropped n) pass.new) }
         ensures few { IfOk result (λ n. n ≤ 32) }
         ensures worn { IfErr result (λ e. (e.count ≡ call_limit) × IsWornPart at (known pass.old) (known pass.new)) }
     {
@@ -98,8 +100,11 @@ impl Commons {
         requires { IsPassOfAll self.now pass.old }
         ensures of { IsPassOfAll self.now pass.new }
         ensures whole { OwnsEach pass.old → OwnsEach pass.new }
+        ensures alone { StaysAlone pass.old pass.new }
         ensures told { IfOk result (λ r. IsShelfCall (Purge moment) r (known pass.old) (known pass.new)) }
+        ensures ends { IfOk result (λ r. EndsShelfCall (Purge moment) r pass.old pass.new) }
         ensures worn { IfErr result (λ e. (e.count ≡ call_limit) × IsPurgeOfSome moment (known pass.old) (known pass.new)) }
+        ensures first_worn { IfErr result (λ _. EndsWornCall (Purge moment) pass.old pass.new) }
     {
         let mut dropped = 0;
         for at in 0..PARTS {
@@ -121,8 +126,11 @@ impl Commons {
         requires { IsPassOfAll self.now pass.old }
         ensures of { IsPassOfAll self.now pass.new }
         ensures whole { OwnsEach pass.old → OwnsEach pass.new }
+        ensures alone { StaysAlone pass.old pass.new }
         ensures told { IfOk result (λ r. IsShelfCall call r (known pass.old) (known pass.new)) }
+        ensures ends { IfOk result (λ r. EndsShelfCall call r pass.old pass.new) }
         ensures worn { IfErr result (λ e. (e.count ≡ call_limit) × IsWornCall call (known pass.old) (known pass.new)) }
+        ensures first_worn { IfErr result (λ _. EndsWornCall call pass.old pass.new) }
     {
         let at = match &call {
             ShelfCall::Look { url, moment: _ } => part_of(url),
@@ -148,7 +156,9 @@ impl Commons {
         requires { IsPassOfAll self.now pass.old }
         ensures of { IsPassOfAll self.now pass.new }
         ensures whole { OwnsEach pass.old → OwnsEach pass.new }
+        ensures alone { StaysAlone pass.old pass.new }
         ensures told { IfOk result (λ r. AddsOnBook (known pass.old) ((call, r) ∷ []) (known pass.new)) }
+        ensures ends { IfOk result (λ r. EndsOnBook pass.old (call, r) pass.new) }
         ensures worn { IfErr result (λ e. (e.count ≡ call_limit) × AddsOnBook (known pass.old) [] (known pass.new) × (length (known pass.new).book.seen ≡ call_limit)) }
     {
         self.nine.book(rt, alloc, pass, call)

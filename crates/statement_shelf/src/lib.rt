@@ -11,6 +11,8 @@
 //! - A Read tells the keys of the last Rotate of its anchor, or those that the book was opened with, and the book's epoch, which never
 //!   falls.
 //! - A part keeps at most 32 entries of at most four keys.
+//! - What a pass has seen of a part or of the book ends with its own call right after that call. [`turn_log::Worn`] is answered exactly
+//!   where the part or the book has counted 2^62 calls.
 //!
 //! # What isn't promised
 //!

@@ -5,7 +5,7 @@ use Rattle.std.proofs.lemmas.List.{map-append}
 use Rattle.std.proofs.lemmas.List.Elements.{All-append}
 use Rattle.turn_log.specs.Runs.{Account, Adds}
 use Rattle.turn_log.specs.Gains.{Known, Gains, calls_of}
-use Rattle.turn_log.specs.Passes.{account, Extends, IsWorn}
+use Rattle.turn_log.specs.Passes.{account, EndsInCall, Extends, IsWorn}
 use Rattle.turn_log.specs.declared.pass.PassSeat.{PassSeat}
 
 module _ {X : Type 0} where
@@ -78,6 +78,10 @@ module _ {C R : Type 0} where
   -- a call that was told adds itself
   pub extends-adds : {S X : Type 0} (old : PassSeat S X C R) (call : C) (reply : R) (new : PassSeat S X C R) → Extends old call reply new → Adds (account old) (account new) ((call, reply) ∷ [])
   extends-adds {S} {X} old call reply new h = adds-one (account old) (account new) h.between (call, reply) h.seen h.mine
+
+  -- and is the last that was seen
+  pub extends-ends : {S X : Type 0} (old : PassSeat S X C R) (call : C) (reply : R) (new : PassSeat S X C R) → Extends old call reply new → EndsInCall (account old) (account new) (call, reply)
+  extends-ends {S} {X} old call reply new h = record { between = h.between; room = h.room; seen = h.seen; mine = h.mine }
 
   -- a call that found the object worn adds none
   pub wears-adds : {S X : Type 0} (old : PassSeat S X C R) (n : ℕ) (new : PassSeat S X C R) → IsWorn old n new → Adds (account old) (account new) []

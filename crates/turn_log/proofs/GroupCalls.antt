@@ -4,15 +4,15 @@ use mathlib.Core.Logic.{dite}
 use native.Mathlib.Decide.{ℕ_discrete}
 use Rattle.turn_log.specs.Runs.{Account, Adds, IsAccount, IsLegal, call_limit}
 use Rattle.turn_log.specs.Gains.{Known, Gains}
-use Rattle.turn_log.specs.Passes.{account, Extends, IsWorn}
+use Rattle.turn_log.specs.Passes.{account, EndsInCall, Extends, IsWorn, OwnsSeen}
 use Rattle.turn_log.specs.Parts.{account_at, ChangesAt}
-use Rattle.turn_log.specs.Groups.{AddsOnPart, AddsOnBook, AreOf, IsHistory, known, opened}
+use Rattle.turn_log.specs.Groups.{AddsOnPart, AddsOnBook, AreOf, EndsOnPart, EndsOnBook, IsHistory, known, opened}
 use Rattle.turn_log.specs.declared.pass.PassSeat.{PassSeat}
 use Rattle.turn_log.specs.declared.kept.KeptTable.{KeptTable}
 use Rattle.std.specs.declared.snapshot.Snapshot.{Snapshot}
 use Rattle.turn_log.specs.declared.group.Group.{Group}
-use Rattle.turn_log.proofs.Gains.{extends-adds, wears-adds, adds-none, gains-one}
-use Rattle.turn_log.proofs.PartLists.{account_get, changed_at, changed_else, some_of}
+use Rattle.turn_log.proofs.Gains.{extends-adds, extends-ends, wears-adds, adds-none, gains-one}
+use Rattle.turn_log.proofs.PartLists.{account_get, changed_at, changed_else, changed_whole, some_of}
 
 module _ {S X C R T Y D Q : Type 0} where
   -- what is known of the nine
@@ -25,6 +25,13 @@ module _ {S X C R T Y D Q : Type 0} where
     here = changed_at old new at (λ a b. Extends a call reply b) less change (λ a b. Adds a b ((call, reply) ∷ [])) (λ a b h. extends-adds a call reply b h);
     elsewhere = changed_else old new at (λ a b. Extends a call reply b) change;
     book = refl;
+  }
+
+  -- the call is the last that was seen of the part
+  pub part_ends : (old new : Group (PassSeat S X C R) (PassSeat T Y D Q)) (at : ℕ) (call : C) (reply : R) → at < length old.parts.items → ChangesAt old.parts.items at (λ a b. Extends a call reply b) new.parts.items → EndsOnPart old at (call, reply) new
+  part_ends old new at call reply less change = record {
+    here = changed_at old.parts.items new.parts.items at (λ a b. Extends a call reply b) less change (λ a b. EndsInCall a b (call, reply)) (λ a b h. extends-ends a call reply b h);
+    whole = changed_whole old.parts.items new.parts.items at (λ a b. Extends a call reply b) less change OwnsSeen (λ a b h. h.whole);
   }
 
   -- no call, since the part is worn
@@ -42,6 +49,10 @@ module _ {S X C R T Y D Q : Type 0} where
   -- one call on the book
   pub book_told : (parts : List (PassSeat S X C R)) (old new : PassSeat T Y D Q) (call : D) (reply : Q) → Extends old call reply new → AddsOnBook (known_of parts old) ((call, reply) ∷ []) (known_of parts new)
   book_told parts old new call reply h = record { here = extends-adds old call reply new h; parts = λ p. refl }
+
+  -- the call is the last that was seen of the book
+  pub book_ends : (old new : Group (PassSeat S X C R) (PassSeat T Y D Q)) (call : D) (reply : Q) → Extends old.book call reply new.book → EndsOnBook old (call, reply) new
+  book_ends old new call reply h = record { here = extends-ends old.book call reply new.book h; whole = h.whole }
 
   -- no call, since the book is worn
   pub book_worn : (parts : List (PassSeat S X C R)) (old new : PassSeat T Y D Q) (n : ℕ) → IsWorn old n new → (n ≡ call_limit) × AddsOnBook (known_of parts old) [] (known_of parts new) × (length (account new).seen ≡ call_limit)

@@ -1,16 +1,16 @@
 -- Lists of passes, one of which changes.
 use Rattle.std.proofs.Common.{◌≡◌, ◌≢◌, ℕ, ◌+◌, ◌<◌, zero, suc, List, [], ◌∷◌, ◌++◌, length, get_or, set, refl, sym, ap, ◌∙◌, subst, arith, length-append}
-use Rattle.std.specs.Prelude.{Result, Ok, Err, IfOk, IfErr}
+use Rattle.std.specs.Prelude.{Result, Ok, Err, IfOk, IfErr, true}
 use mathlib.Core.Logic.{dite}
 use native.Mathlib.Decide.{ℕ_discrete}
 use Rattle.std.proofs.lemmas.List.{append_assoc}
 use Rattle.turn_log.specs.Runs.{Account, IsPrefix}
 use Rattle.std.specs.declared.snapshot.Snapshot.{Snapshot}
-use Rattle.turn_log.specs.Passes.{account, untaken, unused, OwnsAll, IsJoined}
+use Rattle.turn_log.specs.Passes.{account, is_alone, untaken, unused, OwnsAll, IsJoined}
 use Rattle.turn_log.specs.Objects.{first_state, IsOf}
 use Rattle.turn_log.specs.declared.kept.KeptTable.{KeptTable}
 use Rattle.turn_log.specs.declared.pass.PassSeat.{PassSeat}
-use Rattle.turn_log.specs.Parts.{account_at, AllOwned, ChangesAt, ArePasses, AreSplit, AreTaken}
+use Rattle.turn_log.specs.Parts.{account_at, alone_at, AllOwned, ChangesAt, ArePasses, AreSplit, AreTaken}
 
 pub get_same : {A : Type 0} (xs : List A) (i : ℕ) (d e : A) → i < length xs → get_or xs i d ≡ get_or xs i e
 get_same {A} [] i d e h = absurd (omega arith)
@@ -39,6 +39,10 @@ some_of {A} (x ∷ xs) h = x
 pub if_ok : {A B : Type 0} (r : Result A B) (P Q : A → Type 0) → ((x : A) → P x → Q x) → IfOk r P → IfOk r Q
 if_ok {A} {B} (Ok x) P Q f h = f x h
 if_ok {A} {B} (Err e) P Q f h = tt
+
+pub in_both : {A B : Type 0} (r : Result A B) (P : A → Type 0) (Q : B → Type 0) (G : Type 0) → ((x : A) → P x → G) → ((e : B) → Q e → G) → IfOk r P → IfErr r Q → G
+in_both {A} {B} (Ok x) P Q G f g h k = f x h
+in_both {A} {B} (Err e) P Q G f g h k = g e k
 
 pub if_err : {A B : Type 0} (r : Result A B) (P Q : B → Type 0) → ((x : B) → P x → Q x) → IfErr r P → IfErr r Q
 if_err {A} {B} (Ok x) P Q f h = tt
@@ -83,6 +87,39 @@ module _ {S X C R : Type 0} where
       subst (λ l. Rel (account_at xs at) (account_at l at)) (sym h.1)
       (subst (λ a. Rel (account_at xs at) a) (sym (account_here xs at p less))
       (subst (λ a. Rel a (account p)) (sym (account_get xs at p less)) (f (get_or xs at p) p (h.2 p))))
+
+  alone_get : (xs : List (PassSeat S X C R)) (i : ℕ) (d : PassSeat S X C R) → i < length xs → alone_at xs i ≡ is_alone (get_or xs i d)
+  alone_get [] i d h = absurd (omega arith)
+  alone_get (x ∷ xs) zero d h = refl
+  alone_get (x ∷ xs) (suc i) d h = alone_get xs i d (omega arith)
+
+  alone_here : (xs : List (PassSeat S X C R)) (i : ℕ) (p : PassSeat S X C R) → i < length xs → alone_at (set xs i p) i ≡ is_alone p
+  alone_here [] i p h = absurd (omega arith)
+  alone_here (x ∷ xs) zero p h = refl
+  alone_here (x ∷ xs) (suc i) p h = alone_here xs i p (omega arith)
+
+  alone_else : (xs : List (PassSeat S X C R)) (i n : ℕ) (p : PassSeat S X C R) → n ≢ i → alone_at (set xs i p) n ≡ alone_at xs n
+  alone_else [] i n p apart = refl
+  alone_else (x ∷ xs) zero zero p apart = absurd (apart refl)
+  alone_else (x ∷ xs) zero (suc n) p apart = refl
+  alone_else (x ∷ xs) (suc i) zero p apart = refl
+  alone_else (x ∷ xs) (suc i) (suc n) p apart = alone_else xs i n p (λ e. apart (ap suc e))
+
+  -- where the pass that changed is the only one as before, so are all
+  pub changed_alone : (xs new : List (PassSeat S X C R)) (at : ℕ) (how : PassSeat S X C R → PassSeat S X C R → Type 0) → at < length xs → ChangesAt xs at how new → ((p q : PassSeat S X C R) → how p q → is_alone q ≡ is_alone p) → (n : ℕ) → alone_at new n ≡ alone_at xs n
+  changed_alone xs new at how less h f n =
+      let p = h.0 in
+      ap (λ l. alone_at l n) h.1
+      ∙ dite (ℕ_discrete n at)
+      (λ same. subst (λ (m : ℕ). alone_at (set xs at p) m ≡ alone_at xs m) (sym same) (alone_here xs at p less ∙ f (get_or xs at p) p (h.2 p) ∙ sym (alone_get xs at p less)))
+      (λ apart. alone_else xs at n p apart)
+
+  -- a pass that is the only one of its object, and what is then known of it
+  pub changed_whole : (xs new : List (PassSeat S X C R)) (at : ℕ) (how : PassSeat S X C R → PassSeat S X C R → Type 0) → at < length xs → ChangesAt xs at how new → (Is : Account C R → Type 0) → ((p q : PassSeat S X C R) → how p q → is_alone p ≡ true → Is (account q)) → alone_at xs at ≡ true → Is (account_at new at)
+  changed_whole xs new at how less h Is f only =
+      let p = h.0 in
+      subst (λ l. Is (account_at l at)) (sym h.1)
+      (subst Is (sym (account_here xs at p less)) (f (get_or xs at p) p (h.2 p) (sym (alone_get xs at p less) ∙ only)))
 
   pub changed_else : (xs new : List (PassSeat S X C R)) (at : ℕ) (how : PassSeat S X C R → PassSeat S X C R → Type 0) → ChangesAt xs at how new → (n : ℕ) → n ≢ at → account_at new n ≡ account_at xs n
   changed_else xs new at how h n apart = ap (λ l. account_at l n) h.1 ∙ account_else xs at n h.0 apart

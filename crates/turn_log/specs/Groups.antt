@@ -1,11 +1,11 @@
 -- What a caller knows of eight objects of one kind and one of another, and what its calls add.
-use Rattle.std.specs.Prelude.{◌≡◌, ◌≢◌, ◌<◌, ℕ, List}
+use Rattle.std.specs.Prelude.{◌≡◌, ◌≢◌, ◌<◌, ℕ, Bool, true, List}
 use Rattle.std.specs.declared.snapshot.Snapshot.{Snapshot}
 use Rattle.turn_log.specs.Runs.{Adds, IsAccount, IsLegal}
 use Rattle.turn_log.specs.Gains.{Known}
-use Rattle.turn_log.specs.Passes.{account, untaken, unused, IsJoined, OwnsAll}
+use Rattle.turn_log.specs.Passes.{account, is_alone, untaken, unused, EndsInCall, IsJoined, OwnsAll, OwnsSeen}
 use Rattle.turn_log.specs.Objects.{first_state, IsOf}
-use Rattle.turn_log.specs.Parts.{AllOwned, ArePasses, account_at}
+use Rattle.turn_log.specs.Parts.{AllOwned, ArePasses, account_at, alone_at}
 use Rattle.turn_log.specs.declared.kept.KeptTable.{KeptTable}
 use Rattle.turn_log.specs.declared.pass.PassSeat.{PassSeat}
 use Rattle.turn_log.specs.declared.group.Group.{Group}
@@ -53,6 +53,25 @@ module _ {S X C R T Y D Q : Type 0} where
   -- what was seen of each object, and which calls were the caller's own
   abbrev pub known : Group (PassSeat S X C R) (PassSeat T Y D Q) → Known C R D Q
   known pass = record { part = account_at pass.parts.items; book = account pass.book }
+
+  -- the caller's pass on this part is the only one
+  abbrev pub is_alone_on : Group (PassSeat S X C R) (PassSeat T Y D Q) → ℕ → Bool
+  is_alone_on pass = alone_at pass.parts.items
+
+  -- of each object the pass is the only one where it was before
+  pub record StaysAlone (old new : Group (PassSeat S X C R) (PassSeat T Y D Q)) : Type 0 where
+    pub parts : (p : ℕ) → is_alone_on new p ≡ is_alone_on old p
+    pub book : is_alone new.book ≡ is_alone old.book
+
+  -- this call is the last that was seen of this part; a caller who is alone there has seen its own calls only
+  pub record EndsOnPart (old : Group (PassSeat S X C R) (PassSeat T Y D Q)) (at : ℕ) (call : C × R) (new : Group (PassSeat S X C R) (PassSeat T Y D Q)) : Type 0 where
+    pub here : EndsInCall ((known old).part at) ((known new).part at) call
+    pub whole : is_alone_on old at ≡ true → OwnsSeen ((known new).part at)
+
+  -- the same of the book
+  pub record EndsOnBook (old : Group (PassSeat S X C R) (PassSeat T Y D Q)) (call : D × Q) (new : Group (PassSeat S X C R) (PassSeat T Y D Q)) : Type 0 where
+    pub here : EndsInCall (known old).book (known new).book call
+    pub whole : is_alone old.book ≡ true → OwnsSeen (known new).book
 
   -- the caller is the only one, and each call on the nine is its own
   pub record OwnsEach (pass : Group (PassSeat S X C R) (PassSeat T Y D Q)) : Type 0 where

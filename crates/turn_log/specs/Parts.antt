@@ -1,8 +1,8 @@
 -- Objects of one kind in a list, and the passes on them.
-use Rattle.std.specs.Prelude.{◌≡◌, ◌<◌, ◌≤◌, ℕ, zero, suc, List, [], ◌∷◌, length, slice_index_or, slice_set}
+use Rattle.std.specs.Prelude.{◌≡◌, ◌<◌, ◌≤◌, ℕ, zero, suc, Bool, false, List, [], ◌∷◌, length, slice_index_or, slice_set}
 use Rattle.std.specs.declared.snapshot.Snapshot.{Snapshot}
 use Rattle.turn_log.specs.Runs.{Account}
-use Rattle.turn_log.specs.Passes.{account, untaken, unused, IsJoined, OwnsAll}
+use Rattle.turn_log.specs.Passes.{account, is_alone, untaken, unused, IsJoined, OwnsAll}
 use Rattle.turn_log.specs.Objects.{first_state, IsOf}
 use Rattle.turn_log.specs.declared.pass.PassSeat.{PassSeat}
 use Rattle.turn_log.specs.declared.kept.KeptTable.{KeptTable}
@@ -13,6 +13,12 @@ module _ {S X C R : Type 0} where
   account_at [] n = unused
   account_at (p ∷ ps) zero = account p
   account_at (p ∷ ps) (suc n) = account_at ps n
+
+  -- whether the pass on the object of a number is the only one
+  abbrev pub alone_at : List (PassSeat S X C R) → ℕ → Bool
+  alone_at [] n = false
+  alone_at (p ∷ ps) zero = is_alone p
+  alone_at (p ∷ ps) (suc n) = alone_at ps n
 
   -- each pass is the only one of its object, and each call is its own
   abbrev pub AllOwned : List (PassSeat S X C R) → Type 0

@@ -50,6 +50,17 @@ module _ {S X C R : Type 0} where
     pub alone : is_alone new ≡ is_alone old
 
 module _ {C R : Type 0} where
+  -- each call that was seen is the caller's own
+  abbrev pub OwnsSeen : Account C R → Type 0
+  OwnsSeen a = a.mine ≡ places_below (length a.seen)
+
+  -- one call more: what is seen now is all that was seen before, then calls of others, and last this call, whose place is the caller's own; there was room for it
+  pub record EndsInCall (old new : Account C R) (call : C × R) : Type 0 where
+    pub between : List (C × R)
+    pub room : length (old.seen ++ between) < call_limit
+    pub seen : new.seen ≡ (old.seen ++ between) ++ call ∷ []
+    pub mine : new.mine ≡ old.mine ++ length (old.seen ++ between) ∷ []
+
   -- the longer of what two had seen, and the places of both, which had none in common
   pub record IsJoined (old other new : Account C R) : Type 0 where
     pub seen : new.seen ≡ longer old.seen other.seen

@@ -29,7 +29,7 @@ pub type GroupPass<T, B> = Group<Pass<T>, Pass<B>>;
 impl<T: Opening, B: Sequential> KeptGroup<T, B> {
     ghost use Rattle.std.specs.Prelude.{◌≡◌, ◌<◌, [], ◌∷◌, length, IfOk, IfErr};
     ghost use Rattle.turn_log.specs.Runs.{call_limit};
-    ghost use Rattle.turn_log.specs.Groups.{AddsOnPart, AddsOnBook, AreOf, IsUnused, IsSame, IsUntaken, AreJoined, IsHistory, OwnsEach, known, opened};
+    ghost use Rattle.turn_log.specs.Groups.{AddsOnPart, AddsOnBook, AreOf, EndsOnPart, EndsOnBook, IsUnused, IsSame, IsUntaken, AreJoined, IsHistory, OwnsEach, StaysAlone, known, opened};
 
     /// The parts, each in the state in which it begins, and the book in this one, with a pass that has seen nothing and is alone.
     pub fn new(alloc: Global, book: B) -> Result<(KeptGroup<T, B>, GroupPass<T, B>), Memory>
@@ -64,7 +64,9 @@ impl<T: Opening, B: Sequential> KeptGroup<T, B> {
         requires at { at < 8 }
         ensures of { AreOf T.steps T.opening B.steps self.now pass.new }
         ensures whole { OwnsEach pass.old → OwnsEach pass.new }
+        ensures alone { StaysAlone pass.old pass.new }
         ensures told { IfOk result (λ r. AddsOnPart (known pass.old) at ((call, r) ∷ []) (known pass.new)) }
+        ensures ends { IfOk result (λ r. EndsOnPart pass.old at (call, r) pass.new) }
         ensures worn { IfErr result (λ e. (e.count ≡ call_limit) × AddsOnPart (known pass.old) at [] (known pass.new) × (length ((known pass.new).part at).seen ≡ call_limit)) }
     {
         act_at(rt, alloc, &self.parts, &mut pass.parts, at, call)
@@ -81,7 +83,9 @@ impl<T: Opening, B: Sequential> KeptGroup<T, B> {
         requires { AreOf T.steps T.opening B.steps self.now pass.old }
         ensures of { AreOf T.steps T.opening B.steps self.now pass.new }
         ensures whole { OwnsEach pass.old → OwnsEach pass.new }
+        ensures alone { StaysAlone pass.old pass.new }
         ensures told { IfOk result (λ r. AddsOnBook (known pass.old) ((call, r) ∷ []) (known pass.new)) }
+        ensures ends { IfOk result (λ r. EndsOnBook pass.old (call, r) pass.new) }
         ensures worn { IfErr result (λ e. (e.count ≡ call_limit) × AddsOnBook (known pass.old) [] (known pass.new) × (length (known pass.new).book.seen ≡ call_limit)) }
     {
         self.book.act(rt, alloc, &mut pass.book, call)

@@ -7,7 +7,7 @@
 //!
 //! - All calls on an object stand in one list, in which each was answered as the object of one thread answers it there. A call by
 //!   [`Kept::act`] extends what its pass has seen: the pass's list then begins with all that it had seen before and ends with this
-//!   call, whose place, and no other, is added to the pass's own.
+//!   call, whose place, and no other, is added to the pass's own. A call on an object of a [`KeptGroup`] does so to the pass on it.
 //! - A pass that was split has seen what the first has seen, and no call is its own. A pass that joins another has seen what either
 //!   had, and has the calls of both.
 //! - The pass that `new` gave and that was never split owns every call on its object.
