@@ -95,3 +95,46 @@ def tried(name, rows):
         thread.join()
     print(f"{name}: {passed} passed, {len(faults)} failed")
     return 1 if faults else 0
+
+
+class Host:
+    """Takes connections on a port of loopback, each in a thread of its own, reads the head of what is asked, and does with both what it is made
+    for. Its port is free again behind it."""
+
+    def __init__(self, serve, patience=300):
+        self.over = threading.Event()
+        self.serve, self.patience = serve, patience
+        self.port = free_port()
+        self.listener = socket.socket()
+        self.listener.setsockopt(socket.SOL_SOCKET, socket.SO_REUSEADDR, 1)
+        self.listener.bind(("127.0.0.1", self.port))
+        self.listener.listen(64)
+        threading.Thread(target=self.accept, daemon=True).start()
+
+    def __enter__(self):
+        return self
+
+    def __exit__(self, *_):
+        self.over.set()
+        self.listener.shutdown(socket.SHUT_RDWR)
+        self.listener.close()
+
+    def accept(self):
+        try:
+            while True:
+                peer = self.listener.accept()[0]
+                threading.Thread(target=self.handle, args=(peer,), daemon=True).start()
+        except OSError:
+            return
+
+    def handle(self, peer):
+        try:
+            peer.settimeout(self.patience)
+            asked = b""
+            while b"\r\n\r\n" not in asked and (more := peer.recv(65536)):
+                asked += more
+            self.serve(self, peer, asked)
+        except OSError:
+            pass                                         # the other side may leave early; what it tells is looked at
+        finally:
+            peer.close()

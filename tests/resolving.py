@@ -9,11 +9,10 @@ import struct
 import subprocess
 import sys
 import tempfile
-import threading
 import time
 
 sys.dont_write_bytecode = True
-from laid import TOP, free_port  # noqa: E402
+from laid import TOP, Host  # noqa: E402
 
 FED = f"{TOP}/fed"
 PATIENCE = 100
@@ -96,50 +95,19 @@ def endpoint(entity):
 
 # ---- a web of fixed texts, whatever the host
 
-class Web:
+class Web(Host):
     """Serves pages on one port, and keeps the calls in their order. A page is a text, a status, bytes that are sent as they are, or one of the
     words `reset`, an end of the connection in place of an answer, and `silent`, no answer at all."""
 
     def __init__(self, pages):
         self.pages, self.calls = pages, []
-        self.over = threading.Event()
-        self.listener = socket.socket()
-        self.port = free_port()
-        self.listener.setsockopt(socket.SOL_SOCKET, socket.SO_REUSEADDR, 1)
-        self.listener.bind(("127.0.0.1", self.port))
-        self.listener.listen(64)
-        threading.Thread(target=self.accept, daemon=True).start()
+        super().__init__(Web.called, PATIENCE)
 
-    def __enter__(self):
-        return self
-
-    def __exit__(self, *_):
-        self.over.set()
-        self.listener.shutdown(socket.SHUT_RDWR)
-        self.listener.close()
-
-    def accept(self):
-        try:
-            while True:
-                peer = self.listener.accept()[0]
-                threading.Thread(target=self.serve, args=(peer,), daemon=True).start()
-        except OSError:
-            return
-
-    def serve(self, peer):
-        try:
-            peer.settimeout(PATIENCE)
-            asked = b""
-            while b"\r\n\r\n" not in asked and (more := peer.recv(65536)):
-                asked += more
-            form = GET.fullmatch(asked)
-            call = (form[2] + form[1]).decode("latin-1") if form else f"not a request of the client's form: {asked[:200]}"
-            self.calls.append(call)
-            self.answer(peer, self.pages.get(call, 404))
-        except OSError:
-            pass                                         # the client may leave early; the calls tell
-        finally:
-            peer.close()
+    def called(self, peer, asked):
+        form = GET.fullmatch(asked)
+        call = (form[2] + form[1]).decode("latin-1") if form else f"not a request of the client's form: {asked[:200]}"
+        self.calls.append(call)
+        self.answer(peer, self.pages.get(call, 404))
 
     def answer(self, peer, page):
         if page == "reset":
