@@ -44,7 +44,7 @@ class Parts:
 
     def another_moment(self):
         self.claims["iat"] = self.rng.choice([0, BEGIN, AT, AT + 60, AT + 61, (1 << 62) - 1, self.claims["iat"] + 1])
-        self.claims["exp"] = self.rng.choice([0, AT, AT + 1, END, (1 << 62) - 1, self.claims["exp"] - 1])
+        self.claims["exp"] = self.rng.choice([0, AT, AT + 1, END, (1 << 62) - 1, self.claims.get("exp", END) - 1])
 
     def another_name(self):
         for name in self.rng.choice([["iss", "sub"], ["iss"], ["sub"]]):
@@ -324,6 +324,8 @@ def shown(case):
 
 def some_text(rng, good):
     parts = Parts(rng, good)
+    if "jwks" not in parts.claims:
+        return parts.changed_mark()
     return parts.changed_hard() if rng.random() < .6 else parts.changed_softly()
 
 
