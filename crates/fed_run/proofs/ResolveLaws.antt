@@ -113,6 +113,7 @@ unresolved question o = record {
   result = Err fault.Memory;
   resolves = record { calls = record { input = λ is. cc is; unasked = refl }; files = refl; store = refl };
   told = (refl, refl);
+  still = refl;
 }
 
 unrehearsed : {P : Type 0} (params : ℕ) (o : Outside P) → RunsRehearsal params o o 5

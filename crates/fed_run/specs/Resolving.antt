@@ -1,5 +1,6 @@
 -- What `resolve` does: the outside before and after, and the status.
 use Rattle.std.specs.Prelude.{◌≡◌, ◌≢◌, ◌⊎◌, ℕ, List, [], ◌∷◌, ◌++◌, codes, Option, Some, None, Result, Ok, Err}
+use Rattle.http_plain.specs.Links.{Listening, listening}
 use Rattle.resolve_reply.specs.declared.reply.Reply.{Reply}
 use Rattle.fed_resolver.specs.declared.outcome.Outcome.{Outcome}
 use Rattle.fed_resolver.specs.declared.outcome.Refusal.{Refusal}
@@ -72,11 +73,17 @@ seen_by_call o = at_moment o.node.files o.node.store_faults (around o.node.servi
 abbrev pub written_in : {P : Type 0} → Outside P → Written
 written_in o = record { held = o.held; faults = o.write_faults }
 
--- one call of the node was made, or there is no such node, and its result is written and told by the status
+-- the network as others reach it
+abbrev pub listening_in : {P : Type 0} → Outside P → Listening P
+listening_in o = listening o.node.service.port o.node.service.callers o.node.service.settled
+
+-- one call of the node was made, or there is no such node, and its result is written and told by the status; the network listens as before,
+-- and nobody was accepted or settled
 pub record RunsResolve {P : Type 0} (question : Question) (before now : Outside P) (status : ℕ) : Type 0 where
   pub result : Result Outcome NodeFault
   pub resolves : ResolvesOnce question (seen_by_call before) (seen_by_call now) result
   pub told : IsTold result (written_in before) (written_in now) status
+  pub still : listening_in now ≡ listening_in before
 
 module _ {S T : Type 0} where
   -- a pass is held exactly after status 8: it has seen all the 2^62 calls on one shared object

@@ -2,6 +2,7 @@
 
 ghost use Rattle.std.specs.Prelude.{◌≡◌, ℕ, None};
 ghost use Rattle.fed_serve.specs.Moments.{clock_at, peer_at};
+ghost use Rattle.http_plain.specs.Links.{listening};
 ghost use Rattle.fed_run.specs.Authorities.{outside, served_line};
 ghost use Rattle.fed_run.specs.Resolvers.{HasCountedAt, IsEndTold, JoinsBy, RunsResolver};
 ghost use Rattle.fed_run.specs.Resolving.{HoldsBy, Writes};
@@ -47,7 +48,8 @@ where
     requires joined { joined.old ≡ None }
     ensures runs { RunsResolver
         (service_views (λ peer. peer_at (N.Peer.left peer) (N.Peer.held peer) (N.Peer.read_faults peer) (N.Peer.write_faults peer))
-        (λ clock. clock_at (C.readings clock) (C.last clock) (C.told clock)) N.exchanges N.faults)
+        (λ clock. clock_at (C.readings clock) (C.last clock) (C.told clock)) N.exchanges N.faults
+        (λ net. listening (N.port net) (N.callers net) (N.settled net)))
         (record { config = config.now; post = record { port = port; connections = connections } })
         (outside (K.held out.old) (K.write_faults out.old) (at_moment (D.files store.old)
         (service_at (N.port net.old) (N.callers net.old) (N.settled net.old) (clock_at (C.readings clock.old) (C.last clock.old) (C.told clock.old)))

@@ -6,6 +6,7 @@ ghost use Rattle.fed_words.specs.Commands.{command_of};
 ghost use Rattle.fed_words.specs.Inspections.{inspection_of};
 ghost use Rattle.fed_words.specs.Services.{service_of};
 ghost use Rattle.fed_serve.specs.Moments.{clock_at, peer_at};
+ghost use Rattle.http_plain.specs.Links.{listening};
 ghost use Rattle.fed_run.specs.Authorities.{outside};
 ghost use Rattle.fed_run.specs.Commands.{DoesAs};
 ghost use Rattle.fed_run.specs.Resolving.{HoldsBy};
@@ -109,7 +110,8 @@ where
         }) result }
     ensures service { IfSome (service_of words.now) (λ service. (input.new ≡ input.old) × RunsService
         (service_views (λ peer. peer_at (N.Peer.left peer) (N.Peer.held peer) (N.Peer.read_faults peer) (N.Peer.write_faults peer))
-        (λ clock. clock_at (C.readings clock) (C.last clock) (C.told clock)) N.exchanges N.faults) service
+        (λ clock. clock_at (C.readings clock) (C.last clock) (C.told clock)) N.exchanges N.faults
+        (λ net. listening (N.port net) (N.callers net) (N.settled net))) service
         (outside (K.held out.old) (K.write_faults out.old) (at_moment (D.files store.old)
         (service_at (N.port net.old) (N.callers net.old) (N.settled net.old) (clock_at (C.readings clock.old) (C.last clock.old) (C.told clock.old)))
         (D.store_faults store.old) (N.faults net.old)) (N.exchanges net.old))
@@ -185,7 +187,8 @@ where
         }) result }
     ensures service { IfSome (service_of words.now) (λ service. (input.new ≡ input.old) × RunsService
         (service_views (λ peer. peer_at (N.Peer.left peer) (N.Peer.held peer) (N.Peer.read_faults peer) (N.Peer.write_faults peer))
-        (λ clock. clock_at (C.readings clock) (C.last clock) (C.told clock)) N.exchanges N.faults) service
+        (λ clock. clock_at (C.readings clock) (C.last clock) (C.told clock)) N.exchanges N.faults
+        (λ net. listening (N.port net) (N.callers net) (N.settled net))) service
         (outside (K.held out.old) (K.write_faults out.old) (at_moment (D.files store.old)
         (service_at (N.port net.old) (N.callers net.old) (N.settled net.old) (clock_at (C.readings clock.old) (C.last clock.old) (C.told clock.old)))
         (D.store_faults store.old) (N.faults net.old)) (N.exchanges net.old))
@@ -337,7 +340,8 @@ where
     requires joined { joined.old ≡ None }
     ensures runs { RunsService
         (service_views (λ peer. peer_at (N.Peer.left peer) (N.Peer.held peer) (N.Peer.read_faults peer) (N.Peer.write_faults peer))
-        (λ clock. clock_at (C.readings clock) (C.last clock) (C.told clock)) N.exchanges N.faults) service
+        (λ clock. clock_at (C.readings clock) (C.last clock) (C.told clock)) N.exchanges N.faults
+        (λ net. listening (N.port net) (N.callers net) (N.settled net))) service
         (outside (K.held out.old) (K.write_faults out.old) (at_moment (D.files store.old)
         (service_at (N.port net.old) (N.callers net.old) (N.settled net.old) (clock_at (C.readings clock.old) (C.last clock.old) (C.told clock.old)))
         (D.store_faults store.old) (N.faults net.old)) (N.exchanges net.old))

@@ -46,6 +46,15 @@ abbrev pub GotOrLeft : List Route → List ℕ → Option (List Exchange) → Op
 GotOrLeft routes text old new (Ok p) = Gets routes text old new p
 GotOrLeft routes text old new (Err fault) = Leaves routes text old new
 
+-- a network as others reach it: the port that it listens on, the callers to come and those that were settled, where it tells them
+pub record Listening (P : Type 0) : Type 0 where
+  pub port : Option ℕ
+  pub callers : Option (List P)
+  pub settled : Option (List P)
+
+abbrev pub listening : {P : Type 0} → Option ℕ → Option (List P) → Option (List P) → Listening P
+listening port callers settled = record { port = port; callers = callers; settled = settled }
+
 -- the network that a link holds
 abbrev pub link_network : {N : Type 0} → HttpLink N → N
 link_network link = link.net

@@ -19,6 +19,7 @@ fn send_all<T, W: Wire<T>>(net: &mut T, message: &[u8]) -> Result<(), Failed>
     ensures open { W.ready net.new }
     ensures told { OnOk result (Changed (W.told net.old) (with_sent message.now) (W.told net.new)) }
     ensures part { OnErr result (SentPart (W.told net.old) message.now (W.told net.new)) }
+    ensures still { W.fixed_of net.new ≡ W.fixed_of net.old }
     ensures cause { HasCause (W.in_faults net.old) (W.in_faults net.new) result }
 {
     let mut at = 0;
@@ -38,6 +39,7 @@ pub(crate) fn exchange<T, W: Wire<T>>(
     ensures page { IfOk result (λ page. AddsExchange (W.told net.old) (W.told net.new) (λ x. Answers x to.now message.now page)) }
     ensures left { OnErr result (AsksPart (W.told net.old) (W.told net.new) to.now message.now) }
     ensures shut { W.ready net.new → ⊥ }
+    ensures still { W.fixed_of net.new ≡ W.fixed_of net.old }
     ensures cause { BreakCause (W.in_faults net.old) (W.in_faults net.new) result }
 {
     if W::open(net, to).is_err() {

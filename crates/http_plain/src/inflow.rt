@@ -25,6 +25,11 @@ pub(crate) trait Inflow<T> {
     // The exchanges that it tells.
     ghost told: { T → Option (List Exchange) };
 
+    // What is told of it that no call changes.
+    ghost fixed: { Type 0 };
+
+    ghost fixed_of: { T → fixed };
+
     // It can be asked for more.
     ghost ready: { T → Type 0 };
 
@@ -45,6 +50,7 @@ pub(crate) trait Inflow<T> {
         ensures came { IfOk result (λ n. came from.old from.new (take n into.new) (n == 0)) }
         ensures few { OnErr result (few from.old from.new 0) }
         ensures asked { asked_of (told from.new) ≡ asked_of (told from.old) }
+        ensures still { fixed_of from.new ≡ fixed_of from.old }
         ensures cause { HasCause (in_faults from.old) (in_faults from.new) result };
 }
 
@@ -72,6 +78,7 @@ pub(crate) fn pour<T, I: Inflow<T>>(
     ensures grows { IfOk result (λ e. e ≡ false → length text.old.items < length text.new.items) }
     ensures few { OnErr result (I.few from.old from.new most) }
     ensures asked { asked_of (I.told from.new) ≡ asked_of (I.told from.old) }
+    ensures still { I.fixed_of from.new ≡ I.fixed_of from.old }
     ensures cause { BreakCause (I.in_faults from.old) (I.in_faults from.new) result }
 {
     let room = most.min(buffer.len());
@@ -100,6 +107,7 @@ pub(crate) fn pour_to<T, I: Inflow<T>>(
     ensures count { IfOk result (λ e. length text.new.items ≤ max until (length text.old.items)) }
     ensures few { OnErr result (I.few from.old from.new (until - length text.old.items)) }
     ensures asked { asked_of (I.told from.new) ≡ asked_of (I.told from.old) }
+    ensures still { I.fixed_of from.new ≡ I.fixed_of from.old }
     ensures cause { BreakCause (I.in_faults from.old) (I.in_faults from.new) result }
 {
     while text.len() < until {
@@ -124,6 +132,7 @@ pub(crate) fn pour_head<T, I: Inflow<T>>(
     ensures comes { IfOk result (λ end. HeadComes (I.came from.old from.new) text.new.items end) }
     ensures few { OnErr result (I.few from.old from.new head_limit) }
     ensures asked { asked_of (I.told from.new) ≡ asked_of (I.told from.old) }
+    ensures still { I.fixed_of from.new ≡ I.fixed_of from.old }
     ensures cause { BreakCause (I.in_faults from.old) (I.in_faults from.new) result }
 {
     while text.len() < HEAD_LIMIT {

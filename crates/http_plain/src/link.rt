@@ -3,7 +3,7 @@
 ghost use Rattle.std.specs.Prelude.{◌≡◌, ◌⊎◌, None, IfOk, OnErr};
 ghost use Rattle.fed_base.specs.Counts.{next_count};
 ghost use Rattle.fed_ports.specs.Webs.{HasLinkCause, Serves};
-ghost use Rattle.http_plain.specs.Links.{GotOrLeft, Gets, Leaves, link_calls, link_network, link_routes};
+ghost use Rattle.http_plain.specs.Links.{GotOrLeft, Gets, Leaves, link_calls, link_network, link_routes, listening};
 
 use crate::exchange::exchange;
 use crate::inflow::Break;
@@ -51,9 +51,11 @@ impl<N: Network> Link for HttpLink<N> {
 
     ghost web = { λ _. None };
 
-    // The routes stay, and what was answered is by the one exchange of the call, at most.
+    // The routes stay, what was answered is by the one exchange of the call, at most, and the network listens as before.
     ghost gave = { λ old new url result. (link_routes new ≡ link_routes old)
-        × GotOrLeft (link_routes old) url (N.exchanges (link_network old)) (N.exchanges (link_network new)) result };
+        × GotOrLeft (link_routes old) url (N.exchanges (link_network old)) (N.exchanges (link_network new)) result
+        × (listening (N.port (link_network new)) (N.callers (link_network new)) (N.settled (link_network new))
+        ≡ listening (N.port (link_network old)) (N.callers (link_network old)) (N.settled (link_network old))) };
 
     /// The page of a URL. The connection is shut before every answer that follows an open.
     fn get(&mut self, alloc: Global, url: &Text) -> Result<Page, LinkFault>
@@ -64,6 +66,9 @@ impl<N: Network> Link for HttpLink<N> {
         ensures page { IfOk result (λ page. Gets (link_routes self.old) url.now (N.exchanges (link_network self.old)) (N.exchanges (link_network self.new)) page) }
         // After a fault at most one exchange was added: of the URL's address, in which a part of its message, and nothing else, was sent.
         ensures left { OnErr result (Leaves (link_routes self.old) url.now (N.exchanges (link_network self.old)) (N.exchanges (link_network self.new))) }
+        // The network listens as before, and nobody was accepted or settled.
+        ensures still { listening (N.port (link_network self.new)) (N.callers (link_network self.new)) (N.settled (link_network self.new))
+            ≡ listening (N.port (link_network self.old)) (N.callers (link_network self.old)) (N.settled (link_network self.old)) }
         // No connection is open afterwards, or the network is as it was.
         ensures shut { (N.is_open (link_network self.new) → ⊥) ⊎ (link_network self.new ≡ link_network self.old) }
     {

@@ -5,6 +5,7 @@ ghost use Rattle.fed_ports.specs.Causes.{HasCause};
 ghost use Rattle.fed_ports.specs.Exchanges.{Exchange, Changed, fresh, with_received, with_sent};
 ghost use Rattle.fed_ports.specs.Lists.{Added};
 ghost use Rattle.http_plain.specs.Asked.{asked_of, AsksPart};
+ghost use Rattle.http_plain.specs.Links.{Listening, listening};
 
 use crate::inflow::Inflow;
 use fed_ports::{Address, Failed, Network};
@@ -16,6 +17,7 @@ pub(crate) trait Wire<T>: Inflow<T> {
         ensures none { OnErr result (Self.ready net.new → ⊥) }
         ensures added { OnOk result (Added (Self.told net.old) (fresh to.now ∷ []) (Self.told net.new)) }
         ensures refused { OnErr result (AsksPart (Self.told net.old) (Self.told net.new) to.now []) }
+        ensures still { Self.fixed_of net.new ≡ Self.fixed_of net.old }
         ensures cause { HasCause (Self.in_faults net.old) (Self.in_faults net.new) result };
 
     fn send(net: &mut T, piece: &[u8]) -> Result<usize, Failed>
@@ -25,12 +27,14 @@ pub(crate) trait Wire<T>: Inflow<T> {
         ensures within { IfOk result (λ n. (1 ≤ n) × (n ≤ length piece.now)) }
         ensures sent { IfOk result (λ n. Changed (Self.told net.old) (with_sent (take n piece.now)) (Self.told net.new)) }
         ensures none { OnErr result (asked_of (Self.told net.new) ≡ asked_of (Self.told net.old)) }
+        ensures still { Self.fixed_of net.new ≡ Self.fixed_of net.old }
         ensures cause { HasCause (Self.in_faults net.old) (Self.in_faults net.new) result };
 
     fn shut(net: &mut T)
         requires { Self.ready net.old }
         ensures none { Self.ready net.new → ⊥ }
         ensures told { Self.told net.new ≡ Self.told net.old }
+        ensures still { Self.fixed_of net.new ≡ Self.fixed_of net.old }
         ensures faults { Self.in_faults net.new ≡ Self.in_faults net.old };
 
     // What comes is received.
@@ -50,6 +54,10 @@ impl<N: Network> Inflow<N> for Connection {
     ghost in_faults = { λ a. N.faults a };
 
     ghost told = { λ net. N.exchanges net };
+
+    ghost fixed = { Listening N.Peer };
+
+    ghost fixed_of = { λ net. listening (N.port net) (N.callers net) (N.settled net) };
 
     ghost ready = { λ a. N.is_open a };
 

@@ -20,6 +20,7 @@ pub(crate) fn read_page<T, I: Inflow<T>>(alloc: Global, from: &mut T) -> Result<
     ensures ready { I.ready from.new }
     ensures page { IfOk result (λ page. Shows (I.came from.old from.new) page) }
     ensures asked { asked_of (I.told from.new) ≡ asked_of (I.told from.old) }
+    ensures still { I.fixed_of from.new ≡ I.fixed_of from.old }
     ensures cause { BreakCause (I.in_faults from.old) (I.in_faults from.new) result }
 {
     let mut buffer = [0u8; 4096];
@@ -46,6 +47,7 @@ fn read_body<T, I: Inflow<T>>(
     ensures ready { I.ready from.new }
     ensures page { IfOk result (λ page. ShowsBody (I.came from.old from.new) text.old.items len form page) }
     ensures asked { asked_of (I.told from.new) ≡ asked_of (I.told from.old) }
+    ensures still { I.fixed_of from.new ≡ I.fixed_of from.old }
     ensures cause { BreakCause (I.in_faults from.old) (I.in_faults from.new) result }
 {
     match form {
@@ -81,6 +83,7 @@ fn read_sized<T, I: Inflow<T>>(
     ensures ready { I.ready from.new }
     ensures page { IfOk result (λ page. ShowsBody (I.came from.old from.new) text.old.items len (Form.Sized n) page) }
     ensures asked { asked_of (I.told from.new) ≡ asked_of (I.told from.old) }
+    ensures still { I.fixed_of from.new ≡ I.fixed_of from.old }
     ensures cause { BreakCause (I.in_faults from.old) (I.in_faults from.new) result }
 {
     if n > PAGE_LIMIT {
@@ -107,6 +110,7 @@ fn read_to_end<T, I: Inflow<T>>(
     ensures ready { I.ready from.new }
     ensures page { IfOk result (λ page. ShowsBody (I.came from.old from.new) text.old.items len Form.ToEnd page) }
     ensures asked { asked_of (I.told from.new) ≡ asked_of (I.told from.old) }
+    ensures still { I.fixed_of from.new ≡ I.fixed_of from.old }
     ensures cause { BreakCause (I.in_faults from.old) (I.in_faults from.new) result }
 {
     let until = len + PAGE_LIMIT as usize + 1;
@@ -141,6 +145,7 @@ fn pour_chunks<T, I: Inflow<T>>(
     ensures turns { IfOk result (λ e. e ≡ false → TakesRoom chunks.old chunks.new) }
     ensures buffer { length buffer.new ≡ length buffer.old }
     ensures asked { asked_of (I.told from.new) ≡ asked_of (I.told from.old) }
+    ensures still { I.fixed_of from.new ≡ I.fixed_of from.old }
     ensures cause { BreakCause (I.in_faults from.old) (I.in_faults from.new) result }
 {
     let n = match I::more(from, buffer) {
@@ -165,6 +170,7 @@ fn read_chunks<T, I: Inflow<T>>(
     ensures ready { I.ready from.new }
     ensures page { IfOk result (λ page. ShowsRest (I.came from.old from.new) text.now page) }
     ensures asked { asked_of (I.told from.new) ≡ asked_of (I.told from.old) }
+    ensures still { I.fixed_of from.new ≡ I.fixed_of from.old }
     ensures cause { BreakCause (I.in_faults from.old) (I.in_faults from.new) result }
 {
     let mut chunks = ChunkReader::new(alloc);

@@ -21,6 +21,10 @@ impl<P: Source> Inflow<P> for Taking {
 
     ghost told = { λ _. None };
 
+    ghost fixed = { Unit {0} };
+
+    ghost fixed_of = { λ _. tt };
+
     ghost ready = { λ _. Unit {0} };
 
     ghost came_none = { λ a. (given_none (P.left a), refl) };

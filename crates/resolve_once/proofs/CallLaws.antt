@@ -1,10 +1,10 @@
 -- One call, from its parts to the node.
-use Rattle.std.proofs.Common.{◌≡◌, ◌≤◌, ℕ, List, length, true, false, Option, Some, None, IfOk, Result, Ok, Err, sym, ap, subst}
+use Rattle.std.proofs.Common.{◌≡◌, ◌≤◌, ℕ, List, length, true, false, Option, Some, None, IfOk, Result, Ok, Err, sym, ap, ◌∙◌, subst}
 use Rattle.std.proofs.lemmas.Result.{IfOk-weaker}
 use Rattle.fed_ports.specs.Exchanges.{Exchange}
 use Rattle.http_plain.specs.declared.link.HttpLink.{HttpLink}
 use Rattle.http_plain.specs.declared.route.Route.{Route}
-use Rattle.http_plain.specs.Links.{link_network, link_routes}
+use Rattle.http_plain.specs.Links.{Listening, link_network, link_routes}
 use Rattle.jws_form.specs.Compact.{max_bytes}
 use Rattle.sealed.specs.Seals.{IsSealedBy}
 use Rattle.sealed.specs.Sealing.{IsSealedFor}
@@ -51,6 +51,10 @@ put-back exchanges routes asks result before now first last held taken back is =
     subst (λ r. ExchangedBy r asks (exchanges before) (exchanges now) result) taken
     (subst (λ n. ExchangedBy (link_routes first) asks (exchanges n) (exchanges now) result) held
     (subst (λ n. ExchangedBy (link_routes first) asks (exchanges (link_network first)) (exchanges n) result) (sym back) is))
+
+pub listens-back : {N P : Type 0} (listens : N → Listening P) (before now : N) (first last : HttpLink N) → link_network first ≡ before → now ≡ link_network last
+    → listens (link_network last) ≡ listens (link_network first) → listens now ≡ listens before
+listens-back listens before now first last held back is = ap listens back ∙ is ∙ ap listens held
 
 -- ---- a worn object
 

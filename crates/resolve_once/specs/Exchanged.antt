@@ -3,7 +3,7 @@ use Rattle.std.specs.Prelude.{◌≡◌, ◌⊎◌, ℕ, List, [], ◌∷◌, Op
 use Rattle.fed_ports.specs.Exchanges.{Exchange}
 use Rattle.http_plain.specs.declared.link.HttpLink.{HttpLink}
 use Rattle.http_plain.specs.declared.route.Route.{Route}
-use Rattle.http_plain.specs.Links.{Gets, GotOrLeft, Leaves, link_network, link_routes}
+use Rattle.http_plain.specs.Links.{Gets, GotOrLeft, Leaves, Listening, link_network, link_routes}
 use Rattle.resolve_reply.specs.declared.reply.Reply.{Reply}
 use Rattle.resolve_round.specs.declared.trace.Ask.{Ask}
 use Rattle.resolve_round.specs.declared.trace.Got.{Got}
@@ -37,7 +37,8 @@ ExchangedBy routes asks old new (Err Memory) = BrokeOff routes asks old new
 ExchangedBy routes asks old new (Err (Worn count)) = BrokeOff routes asks old new
 ExchangedBy routes asks old new result = Exchanged routes asks old new
 
--- what a link over a network, whose exchanges are told so, says of one call
-abbrev pub link_gave : {N : Type 0} → (N → Option (List Exchange)) → Giving (HttpLink N)
-link_gave exchanges old new url result =
+-- what a link over a network, whose exchanges are told so and which listens so, says of one call
+abbrev pub link_gave : {N P : Type 0} → (N → Option (List Exchange)) → (N → Listening P) → Giving (HttpLink N)
+link_gave exchanges listens old new url result =
     (link_routes new ≡ link_routes old) × GotOrLeft (link_routes old) url (exchanges (link_network old)) (exchanges (link_network new)) result
+    × (listens (link_network new) ≡ listens (link_network old))

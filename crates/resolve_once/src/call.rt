@@ -2,6 +2,7 @@
 
 ghost use Rattle.std.specs.Prelude.{◌≡◌, IfOk, List, None, OnErr};
 ghost use Rattle.fed_serve.specs.Moments.{clock_at};
+ghost use Rattle.http_plain.specs.Links.{listening};
 ghost use Rattle.turn_log.specs.Groups.{known};
 ghost use Rattle.statement_shelf.specs.declared.calls.AnchorKeys.{AnchorKeys};
 ghost use Rattle.resolve_round.specs.Traces.{asks_in};
@@ -42,6 +43,8 @@ pub fn resolve_once<R: Wait, D: Store, N: Network + Drop, C: Clock>(
         (at_moment (D.files store.new) (D.store_faults store.new) (around (clock_at (C.readings clock.new) (C.last clock.new) (C.told clock.new)) (N.exchanges net.new) (N.faults net.new)))
         result }
     ensures worn { WornBy result worn.new }
+    // The network listens as before, and nobody was accepted or settled.
+    ensures still { listening (N.port net.new) (N.callers net.new) (N.settled net.new) ≡ listening (N.port net.old) (N.callers net.old) (N.settled net.old) }
 {
     let registry = open_resolver(alloc, config, store, notes)?;
     let parts = parts_of(alloc, &registry);
@@ -67,6 +70,7 @@ fn call_with<R: Wait, N: Network + Drop, C: Clock>(
         (around (clock_at (C.readings clock.new) (C.last clock.new) (C.told clock.new)) (N.exchanges net.new) (N.faults net.new))) }
     ensures worn { IfOk result (λ outcome. HoldsWorn outcome.result worn.new) }
     ensures unasked { OnErr result ((net.new ≡ net.old) × (clock.new ≡ clock.old) × (worn.new ≡ worn.old)) }
+    ensures still { listening (N.port net.new) (N.callers net.new) (N.settled net.new) ≡ listening (N.port net.old) (N.callers net.old) (N.settled net.old) }
 {
     let Parts {
         signer,
@@ -118,6 +122,7 @@ fn call_over<R: Wait, N: Network + Drop>(
     ensures worn { WornOnly (known pass.new) result.result }
     ensures exchanges { ExchangedBy routes (asks_in result.trace.searches) (N.exchanges net.old) (N.exchanges net.new) result.result }
     ensures fails { FailsBy result (N.faults net.old) (N.faults net.new) }
+    ensures still { listening (N.port net.new) (N.callers net.new) (N.settled net.new) ≡ listening (N.port net.old) (N.callers net.old) (N.settled net.old) }
 {
     let network = replace(net, another);
     let mut link = HttpLink::new(network, routes);

@@ -6,7 +6,7 @@ use Rattle.fed_ports.specs.Exchanges.{Exchange}
 use Rattle.fed_ports.specs.Lists.{Added, Gave}
 use Rattle.http_plain.specs.declared.link.HttpLink.{HttpLink}
 use Rattle.http_plain.specs.declared.route.Route.{Route}
-use Rattle.http_plain.specs.Links.{link_calls, link_network, link_routes}
+use Rattle.http_plain.specs.Links.{Listening, link_calls, link_network, link_routes}
 use Rattle.turn_log.specs.Groups.{AreJoined, IsSame, IsUntaken, known}
 use Rattle.statement_shelf.specs.Passes.{CommonsKnown, IsShelfCall}
 use Rattle.statement_shelf.specs.declared.calls.ShelfCall.TheVariants.{Purge}
@@ -89,20 +89,21 @@ module _ {P L C G : Type 0} where
 
 -- ---- batches
 
--- how peers, clocks and networks are seen: a network's exchanges, where it tells them, and how often a call of it has failed
+-- how peers, clocks and networks are seen: a network's exchanges, where it tells them, how often a call of it has failed, and how it listens
 pub record ServiceViews (P N C : Type 0) : Type 0 where
   pub peer : P → PeerAt
   pub clock : C → ClockAt
   pub exchanges : N → Option (List Exchange)
   pub faults : N → ℕ
+  pub listens : N → Listening P
 
-abbrev pub service_views : {P N C : Type 0} → (P → PeerAt) → (C → ClockAt) → (N → Option (List Exchange)) → (N → ℕ) → ServiceViews P N C
-service_views peer clock exchanges faults = record { peer = peer; clock = clock; exchanges = exchanges; faults = faults }
+abbrev pub service_views : {P N C : Type 0} → (P → PeerAt) → (C → ClockAt) → (N → Option (List Exchange)) → (N → ℕ) → (N → Listening P) → ServiceViews P N C
+service_views peer clock exchanges faults listens = record { peer = peer; clock = clock; exchanges = exchanges; faults = faults; listens = listens }
 
 -- the same at desks that get pages over a network of their own
 abbrev pub at_desks : {P N C : Type 0} → ServiceViews P N C → Views P (HttpLink N) C Plain
 at_desks views =
-    views_of views.peer views.clock (λ known link ledger. call_at known None (link_calls link) (views.faults (link_network link)) (plain_count ledger)) (link_gave views.exchanges)
+    views_of views.peer views.clock (λ known link ledger. call_at known None (link_calls link) (views.faults (link_network link)) (plain_count ledger)) (link_gave views.exchanges views.listens)
 
 -- what a resolver serves with: the node, and where it reaches hosts
 pub record Setup (P N C : Type 0) : Type 0 where

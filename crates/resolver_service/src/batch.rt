@@ -4,6 +4,7 @@ ghost use Rattle.std.specs.Prelude.{◌≡◌, All, OnErr, OnOk, Some, Ok, true,
 ghost use Rattle.fed_ports.specs.Lists.{Added};
 ghost use Rattle.fed_serve.specs.Desks.{network_at, views_of};
 ghost use Rattle.fed_serve.specs.Moments.{clock_at, peer_at};
+ghost use Rattle.http_plain.specs.Links.{listening};
 ghost use Rattle.resolver_answers.specs.Resolutions.{call_at};
 ghost use Rattle.statement_shelf.specs.Passes.{IsPassOfAll};
 ghost use Rattle.turn_log.specs.Groups.{known};
@@ -284,7 +285,8 @@ where
     ensures of { IsPassOfAll part.now.commons pass.new }
     ensures batch { OnOk result (IsServedBatch count (setup
         (service_views (λ peer. peer_at (N.Peer.left peer) (N.Peer.held peer) (N.Peer.read_faults peer) (N.Peer.write_faults peer))
-        (λ clock. clock_at (C.readings clock) (C.last clock) (C.told clock)) N.exchanges N.faults)
+        (λ clock. clock_at (C.readings clock) (C.last clock) (C.told clock)) N.exchanges N.faults
+        (λ net. listening (N.port net) (N.callers net) (N.settled net)))
         opened.now.node opened.now.routes)
         (standing (network_at (N.port net.old) (N.exchanges net.old) (N.callers net.old) (N.settled net.old) (N.faults net.old)) (known pass.old)
         (clock_at (C.readings clock.old) (C.last clock.old) (C.told clock.old)))
@@ -293,7 +295,8 @@ where
     ensures stops { StopsBy (N.faults net.old) (N.faults net.new) (known pass.new) result }
     ensures stopped { StopsBatch (setup
         (service_views (λ peer. peer_at (N.Peer.left peer) (N.Peer.held peer) (N.Peer.read_faults peer) (N.Peer.write_faults peer))
-        (λ clock. clock_at (C.readings clock) (C.last clock) (C.told clock)) N.exchanges N.faults)
+        (λ clock. clock_at (C.readings clock) (C.last clock) (C.told clock)) N.exchanges N.faults
+        (λ net. listening (N.port net) (N.callers net) (N.settled net)))
         opened.now.node opened.now.routes) count
         (standing (network_at (N.port net.old) (N.exchanges net.old) (N.callers net.old) (N.settled net.old) (N.faults net.old)) (known pass.old)
         (clock_at (C.readings clock.old) (C.last clock.old) (C.told clock.old)))

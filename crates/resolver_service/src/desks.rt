@@ -2,7 +2,7 @@
 
 ghost use Rattle.std.specs.Prelude.{◌≡◌, [], length, IfOk, IfSome, OnOk};
 ghost use Rattle.fed_serve.specs.Moments.{clock_at, peer_at};
-ghost use Rattle.http_plain.specs.Links.{link_calls, link_network, link_routes};
+ghost use Rattle.http_plain.specs.Links.{link_calls, link_network, link_routes, listening};
 ghost use Rattle.statement_shelf.specs.Passes.{IsPassOfAll};
 ghost use Rattle.turn_log.specs.Groups.{IsSame, known};
 ghost use Rattle.resolver_service.specs.Batches.{IsNewDesk, service_views};
@@ -55,7 +55,8 @@ fn desk_with<R, N: Network + Drop, C: Clock + Drop>(
     ensures ready { IfOk result (IsReady part.now) }
     ensures new { IfOk result (IsNewDesk
         (service_views (λ peer. peer_at (N.Peer.left peer) (N.Peer.held peer) (N.Peer.read_faults peer) (N.Peer.write_faults peer))
-        (λ clock. clock_at (C.readings clock) (C.last clock) (C.told clock)) N.exchanges N.faults)
+        (λ clock. clock_at (C.readings clock) (C.last clock) (C.told clock)) N.exchanges N.faults
+        (λ net. listening (N.port net) (N.callers net) (N.settled net)))
         (link_routes link) (known pass.old)) }
 {
     match part.commons.split(rt, alloc, pass) {
@@ -93,7 +94,8 @@ fn new_desk<R, N: Network + Drop, C: Clock + Drop>(
     ensures ready { IfOk result (IsReady part.now) }
     ensures new { IfOk result (IsNewDesk
         (service_views (λ peer. peer_at (N.Peer.left peer) (N.Peer.held peer) (N.Peer.read_faults peer) (N.Peer.write_faults peer))
-        (λ clock. clock_at (C.readings clock) (C.last clock) (C.told clock)) N.exchanges N.faults)
+        (λ clock. clock_at (C.readings clock) (C.last clock) (C.told clock)) N.exchanges N.faults
+        (λ net. listening (N.port net) (N.callers net) (N.settled net)))
         routes.now (known pass.old)) }
 {
     let link = new_link(alloc, net, routes)?;
@@ -127,7 +129,8 @@ where
     ensures many { OnOk result (length desks.new.items ≡ count) }
     ensures made { OnOk result (AreMade
         (service_views (λ peer. peer_at (N.Peer.left peer) (N.Peer.held peer) (N.Peer.read_faults peer) (N.Peer.write_faults peer))
-        (λ clock. clock_at (C.readings clock) (C.last clock) (C.told clock)) N.exchanges N.faults)
+        (λ clock. clock_at (C.readings clock) (C.last clock) (C.told clock)) N.exchanges N.faults
+        (λ net. listening (N.port net) (N.callers net) (N.settled net)))
         part.now routes.now (known pass.old) desks.new.items) }
 {
     for _ in 0..count {

@@ -4,6 +4,7 @@ ghost use Rattle.std.specs.Prelude.{◌≡◌, ◌≤◌, true, is_some};
 ghost use Rattle.authority_core.specs.Nodes.{Node as Authority};
 ghost use Rattle.fed_serve.specs.Desks.{network_at};
 ghost use Rattle.fed_serve.specs.Moments.{clock_at, peer_at};
+ghost use Rattle.http_plain.specs.Links.{listening};
 ghost use Rattle.node_service.specs.NodeFiles.{IsResolver};
 ghost use Rattle.resolver_service.specs.Batches.{service_views};
 ghost use Rattle.resolver_service.specs.Ends.{Ends, around, at_moment};
@@ -41,7 +42,8 @@ where
     N::Peer: Drop,
     ensures ends { Ends
         (service_views (λ peer. peer_at (N.Peer.left peer) (N.Peer.held peer) (N.Peer.read_faults peer) (N.Peer.write_faults peer))
-        (λ clock. clock_at (C.readings clock) (C.last clock) (C.told clock)) N.exchanges N.faults)
+        (λ clock. clock_at (C.readings clock) (C.last clock) (C.told clock)) N.exchanges N.faults
+        (λ net. listening (N.port net) (N.callers net) (N.settled net)))
         (record { config = config.now; post = record { port = port; connections = connections } })
         (at_moment (D.files store.old) (D.store_faults store.old) (around
         (network_at (N.port net.old) (N.exchanges net.old) (N.callers net.old) (N.settled net.old) (N.faults net.old))
@@ -74,7 +76,8 @@ where
     requires workers { HasWorkers registry }
     ensures ends { EndsOn
         (service_views (λ peer. peer_at (N.Peer.left peer) (N.Peer.held peer) (N.Peer.read_faults peer) (N.Peer.write_faults peer))
-        (λ clock. clock_at (C.readings clock) (C.last clock) (C.told clock)) N.exchanges N.faults)
+        (λ clock. clock_at (C.readings clock) (C.last clock) (C.told clock)) N.exchanges N.faults
+        (λ net. listening (N.port net) (N.callers net) (N.settled net)))
         registry (record { port = port; connections = connections })
         (around (network_at (N.port net.old) (N.exchanges net.old) (N.callers net.old) (N.settled net.old) (N.faults net.old))
         (clock_at (C.readings clock.old) (C.last clock.old) (C.told clock.old)))
@@ -121,7 +124,8 @@ where
     requires start { IsNewStart (record { opened = opened.now; pass = pass }) }
     ensures ends { (node : Authority) → IsOpenedFrom node opened.now → EndsOn
         (service_views (λ peer. peer_at (N.Peer.left peer) (N.Peer.held peer) (N.Peer.read_faults peer) (N.Peer.write_faults peer))
-        (λ clock. clock_at (C.readings clock) (C.last clock) (C.told clock)) N.exchanges N.faults)
+        (λ clock. clock_at (C.readings clock) (C.last clock) (C.told clock)) N.exchanges N.faults
+        (λ net. listening (N.port net) (N.callers net) (N.settled net)))
         node (record { port = port; connections = connections })
         (around (network_at (N.port net.old) (N.exchanges net.old) (N.callers net.old) (N.settled net.old) (N.faults net.old))
         (clock_at (C.readings clock.old) (C.last clock.old) (C.told clock.old)))
@@ -158,7 +162,8 @@ where
     requires start { IsNewStart (record { opened = opened.now; pass = pass }) }
     ensures ends { (node : Authority) → IsOpenedFrom node opened.now → EndsServing
         (service_views (λ peer. peer_at (N.Peer.left peer) (N.Peer.held peer) (N.Peer.read_faults peer) (N.Peer.write_faults peer))
-        (λ clock. clock_at (C.readings clock) (C.last clock) (C.told clock)) N.exchanges N.faults)
+        (λ clock. clock_at (C.readings clock) (C.last clock) (C.told clock)) N.exchanges N.faults
+        (λ net. listening (N.port net) (N.callers net) (N.settled net)))
         node connections
         (around (network_at (N.port net.old) (N.exchanges net.old) (N.callers net.old) (N.settled net.old) (N.faults net.old))
         (clock_at (C.readings clock.old) (C.last clock.old) (C.told clock.old)))

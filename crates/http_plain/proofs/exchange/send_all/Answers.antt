@@ -12,6 +12,7 @@ loop-at-init g c = record {
   open_still = c.requires;
   sent = sent_none _;
   count = refl;
+  still = refl;
 }
 
 pub loop-at-preserved : goal.loop-at-preserved
@@ -20,4 +21,5 @@ loop-at-preserved g c = record {
   open_still = c.send.ensures.open;
   sent = sent_on _ _ _ c.args.message.now _ c.loop-at.at c.in_ok-at.field-0 (whole c.args.message.now c.loop-at.at) c.loop-at.invariant.sent c.in_ok-at.ensures.sent;
   count = search rules;
+  still = search rules;
 }

@@ -8,6 +8,7 @@ invariant-loop-at g l = let flow = g.W.Inflow in record {
   open_still : flow.ready l.net;
   sent : Changed (flow.told l.fn.net) (with_sent (take l.at l.message)) (flow.told l.net);
   count : flow.in_faults l.net ≡ flow.in_faults l.fn.net;
+  still : flow.fixed_of l.net ≡ flow.fixed_of l.fn.net;
 }
 
 abbrev pub decreases-loop-at : goal.decreases-loop-at

@@ -11,6 +11,7 @@ invariant-loop-text g l = let flow = g.I.Inflow in record {
   bound : length l.text.items ≤ head_limit;
   none : head_end l.text.items ≡ None;
   asked : asked_of (flow.told l.from) ≡ asked_of (flow.told l.fn.from);
+  still : flow.fixed_of l.from ≡ flow.fixed_of l.fn.from;
   count : flow.in_faults l.from ≡ flow.in_faults l.fn.from;
 }
 

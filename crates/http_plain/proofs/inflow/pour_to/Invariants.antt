@@ -9,6 +9,7 @@ invariant-loop-text g l = let flow = g.I.Inflow in record {
   comes : Comes (flow.came l.fn.from l.from) l.fn.text.items l.text.items false;
   most : length l.text.items ≤ max l.until (length l.fn.text.items);
   asked : asked_of (flow.told l.from) ≡ asked_of (flow.told l.fn.from);
+  still : flow.fixed_of l.from ≡ flow.fixed_of l.fn.from;
   count : flow.in_faults l.from ≡ flow.in_faults l.fn.from;
 }
 

@@ -9,6 +9,7 @@ invariant-loop-ended g l = let flow = g.I.Inflow in record {
   came : (got : List ℕ) × flow.came l.fn.from l.from got l.ended × HasRead l.chunks (l.text ++ got);
   room : length l.buffer ≡ length l.fn.buffer;
   asked : asked_of (flow.told l.from) ≡ asked_of (flow.told l.fn.from);
+  still : flow.fixed_of l.from ≡ flow.fixed_of l.fn.from;
   faults : flow.in_faults l.from ≡ flow.in_faults l.fn.from;
 }
 

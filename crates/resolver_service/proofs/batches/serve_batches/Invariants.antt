@@ -1,5 +1,6 @@
 use Rattle.std.proofs.Common.{◌≡◌, ◌≤◌, true}
 use Rattle.std.specs.Prelude.{is_some}
+use Rattle.http_plain.specs.Links.{listening}
 use Rattle.turn_log.specs.Groups.{known}
 use Rattle.statement_shelf.specs.Passes.{IsPassOfAll}
 use Rattle.fed_serve.specs.Desks.{network_at}
@@ -14,7 +15,8 @@ invariant-batches g l =
     × (g.N.Network.exchanges l.net ≡ g.N.Network.exchanges l.initial.net) × (g.N.Network.faults l.net ≡ g.N.Network.faults l.initial.net)
     × ServesSome (setup
     (service_views (λ peer. peer_at (g.N.Peer.Source.left peer) (g.N.Peer.Sink.held peer) (g.N.Peer.Source.read_faults peer) (g.N.Peer.Sink.write_faults peer))
-    (λ clock. clock_at (g.C.Clock.readings clock) (g.C.Clock.last clock) (g.C.Clock.told clock)) g.N.Network.exchanges g.N.Network.faults)
+    (λ clock. clock_at (g.C.Clock.readings clock) (g.C.Clock.last clock) (g.C.Clock.told clock)) g.N.Network.exchanges g.N.Network.faults
+    (λ net. listening (g.N.Network.port net) (g.N.Network.callers net) (g.N.Network.settled net)))
     l.opened.node l.opened.routes) l.opened.workers l.connections l.left
     (standing (network_at (g.N.Network.port l.initial.net) (g.N.Network.exchanges l.initial.net) (g.N.Network.callers l.initial.net) (g.N.Network.settled l.initial.net) (g.N.Network.faults l.initial.net)) (known l.initial.pass)
     (clock_at (g.C.Clock.readings l.initial.clock) (g.C.Clock.last l.initial.clock) (g.C.Clock.told l.initial.clock)))
