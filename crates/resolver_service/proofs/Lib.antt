@@ -3,4 +3,6 @@ mod ConfigLaws
 mod DeskLaws
 mod EndLaws
 mod NodeLaws
+mod OrderLaws
+mod PlaceLaws
 mod StopLaws

@@ -2,5 +2,6 @@ pub mod Batches
 pub mod Ends
 pub mod Faults
 pub mod Nodes
+pub mod Precedence
 pub mod Steps
 pub mod Stopped

@@ -9,6 +9,7 @@ mod batch;
 mod batches;
 mod desks;
 mod ending;
+pub mod laws;
 mod node;
 mod service;
 mod stop;
