@@ -41,7 +41,7 @@ answered : (a b c d : Option (List Exchange)) (to : Address) (message : List ℕ
 answered a b c d to message p opens sends shows = (
   with_received shows.got shows.ended (with_sent message (fresh to)),
   added_on (with_received shows.got shows.ended) (with_sent message (fresh to)) a c d (added_on (with_sent message) (fresh to) a b c opens sends) shows.came,
-  record { address = refl; message_is = refl; steady = refl; page = shows.page },
+  record { address = refl; message_is = refl; steady = refl; few = shows.few; page = shows.page },
 )
 
 pub answered_if : (a b c d e : Option (List Exchange)) (to : Address) (message : List ℕ) (r : Result Page Break) → Added a (fresh to ∷ []) b → Changed b (with_sent message) c → e ≡ d
@@ -68,13 +68,14 @@ gets routes text old new to message p says h = inr (
     address = says.address ∙ ap Some (sym h.2.address);
     message = h.2.message_is ∙ says.message_is;
     steady = h.2.steady;
+    few = h.2.few;
     page = h.2.page;
   },
 )
 
 -- what shows a page shows it in another account of what came
 pub shown_as : (flow told : List ℕ → Bool → Type 0) → ((x : List ℕ) (e : Bool) → flow x e → told x e) → (r : Result Page Break) → IfOk r (λ p. Shows flow p) → IfOk r (λ p. Shows told p)
-shown_as flow told same (Ok p) h = record { got = h.got; ended = h.ended; came = same h.got h.ended h.came; page = h.page }
+shown_as flow told same (Ok p) h = record { got = h.got; ended = h.ended; came = same h.got h.ended h.came; few = h.few; page = h.page }
 shown_as flow told same (Err f) h = tt
 
 -- what is changed of the last exchange without its address and what was sent is asked as before

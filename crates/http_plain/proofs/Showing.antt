@@ -1,10 +1,12 @@
 -- From what came of an answer to its page.
-use Rattle.std.proofs.Common.{◌≡◌, ◌≤◌, ◌⊎◌, inl, inr, ℕ, Bool, true, false, List, ◌++◌, length, take, drop, Some, None, Result, Ok, Err, refl, sym, ap, ◌∙◌, subst, arith, take_all, IfOk}
+use Rattle.std.proofs.Common.{◌≡◌, ◌≤◌, ◌⊎◌, inl, inr, ℕ, ◌+◌, Bool, true, false, List, [], ◌++◌, length, take, drop, Some, None, Result, Ok, Err, refl, sym, ap, ◌∙◌, subst, arith, take_all, IfOk}
 use Rattle.chunked_body.specs.declared.reader.Chunked.{Chunked}
 use Rattle.chunked_body.specs.declared.reader.ChunkReader.{ChunkReader}
 use Rattle.chunked_body.specs.Answers.{IsChunked}
-use Rattle.chunked_body.specs.Readers.{HasRead, is_over}
-use Rattle.std.proofs.lemmas.List.{drop-append-le}
+use Rattle.chunked_body.specs.Grammar.{form_limit}
+use Rattle.chunked_body.specs.Readings.{run}
+use Rattle.chunked_body.specs.Readers.{HasRead, is_over, room_of}
+use Rattle.std.proofs.lemmas.List.{drop-append-le, length-append, length-drop}
 use Rattle.fed_ports.specs.declared.page.Page.{Page}
 use Rattle.fed_ports.specs.declared.page.Page.TheVariants.{Garbled}
 use Rattle.http_plain.specs.declared.form.Form.{Form}
@@ -12,7 +14,7 @@ use Rattle.http_plain.specs.declared.form.Form.TheVariants.{Chunked as InChunks}
 use Rattle.http_plain.specs.declared.inflow.Break.{Break}
 use Rattle.http_plain.specs.Heads.{head_end, head_limit}
 use Rattle.http_plain.specs.Flows.{HeadComes}
-use Rattle.http_plain.specs.Pages.{IsForm, IsBodyPage, chunked_page}
+use Rattle.http_plain.specs.Pages.{IsForm, IsBodyPage, chunked_page, chunks_limit, piece_limit}
 use Rattle.http_plain.specs.Shown.{Shows, ShowsBody, ShowsRest}
 use Rattle.http_plain.proofs.Ends.{end_inside}
 use Rattle.http_plain.proofs.Takings.{begins}
@@ -22,6 +24,7 @@ no_head flow text h = record {
   got = text;
   ended = h.0;
   came = h.1;
+  few = omega (arith, h.2);
   page = inl (ap head_end (take_all head_limit text h.2) ∙ h.3, elim h.4 [ inl e ↦ inl (omega (arith, e)) | inr e ↦ inr e ], refl);
 }
 
@@ -33,6 +36,7 @@ whole flow more both text len form p on h is b = record {
   got = text ++ b.got;
   ended = b.ended;
   came = on text b.got b.ended h.0 b.came;
+  few = b.few;
   page = inr (record {
     head = take len text;
     begins = begins text b.got len h.1 h.2;
@@ -48,22 +52,44 @@ pub shows : (flow more both : List ℕ → Bool → Type 0) (text : List ℕ) (l
 shows flow more both text len form (Ok p) on h is b = whole flow more both text len form p on h is b
 shows flow more both text len form (Err e) on h is b = tt
 
+-- a reading to which nothing has come has room for a whole form
+whole_room : (chunks : ChunkReader) → HasRead chunks [] → room_of chunks ≡ form_limit
+unfolding run
+whole_room chunks h = ap (λ c. c.room) h
+
+-- what is left of it behind the first bytes
+pub begun : (first chunks : ChunkReader) (text : List ℕ) → HasRead first [] → length text ≤ head_limit
+    → (room_of chunks ≤ room_of first) × (is_over chunks ≡ false → room_of chunks + length text ≤ room_of first)
+    → (is_over chunks ≡ false → length (text ++ []) + room_of chunks ≤ form_limit) × (length (text ++ []) ≤ chunks_limit)
+begun first chunks text nothing small room = (λ goes. omega (arith, room.1 goes, whole_room first nothing, length-append text []), omega (arith, small, length-append text []))
+
+-- and behind a piece more
+pub spent_on : (old new : ChunkReader) (text x y : List ℕ) (most : ℕ) → is_over old ≡ false → most ≤ piece_limit → length y ≤ most → (is_over new ≡ false → room_of new + length y ≤ room_of old)
+    → (is_over old ≡ false → length (text ++ x) + room_of old ≤ form_limit)
+    → (is_over new ≡ false → length (text ++ (x ++ y)) + room_of new ≤ form_limit) × (length (text ++ (x ++ y)) ≤ chunks_limit)
+spent_on old new text x y most more piece few spends so_far = (
+  λ goes. omega (arith, so_far more, spends goes, length-append text x, length-append text (x ++ y), length-append x y),
+  omega (arith, so_far more, piece, few, length-append text x, length-append text (x ++ y), length-append x y),
+)
+
 -- the page of a reading of chunks that is over, or whose bytes have ended
-pub rest_shown : (flow : List ℕ → Bool → Type 0) (text got : List ℕ) (ended : Bool) (chunks : ChunkReader) (c : Chunked) → flow got ended → HasRead chunks (text ++ got)
+pub rest_shown : (flow : List ℕ → Bool → Type 0) (text got : List ℕ) (ended : Bool) (chunks : ChunkReader) (c : Chunked) → flow got ended → HasRead chunks (text ++ got) → length (text ++ got) ≤ chunks_limit
     → ((x : List ℕ) (e : Bool) → HasRead chunks x → (is_over chunks ≡ true) ⊎ (e ≡ true) → IsChunked x e c) → (is_over chunks ≡ true) ⊎ (ended ≡ true) → ShowsRest flow text (chunked_page c)
-rest_shown flow text got ended chunks c came reads decides done = record {
+rest_shown flow text got ended chunks c came reads few decides done = record {
   got = got;
   ended = ended;
   came = came;
+  few = few;
   page = (c, decides (text ++ got) ended reads done, refl);
 }
 
 -- what is shown behind a head is so of the whole text
-pub body_shown : (flow : List ℕ → Bool → Type 0) (text : List ℕ) (len : ℕ) (r : Result Page Break) → len ≤ length text → IfOk r (λ p. ShowsRest flow (drop len text) p) → IfOk r (λ p. ShowsBody flow text len InChunks p)
-body_shown flow text len (Ok p) inside h = record {
+pub body_shown : (flow : List ℕ → Bool → Type 0) (text : List ℕ) (len : ℕ) (r : Result Page Break) → len ≤ length text → len ≤ head_limit → IfOk r (λ p. ShowsRest flow (drop len text) p) → IfOk r (λ p. ShowsBody flow text len InChunks p)
+body_shown flow text len (Ok p) inside small h = record {
   got = h.got;
   ended = h.ended;
   came = h.came;
+  few = omega (arith, small, h.few, length-append text h.got, length-append (drop len text) h.got, length-drop len text);
   page = subst (λ y. IsBodyPage InChunks y h.ended p) (sym (drop-append-le len text h.got inside)) h.page;
 }
-body_shown flow text len (Err e) inside h = tt
+body_shown flow text len (Err e) inside small h = tt

@@ -1,5 +1,5 @@
 -- A client's one exchange for a URL (RFC 9110 section 7, RFC 9112 section 3).
-use Rattle.std.specs.Prelude.{◌≡◌, ℕ, ◌||◌, Bool, false, List, [], ◌∷◌, ◌++◌, codes, bytes_eq, cond, Option, Some, None, option_map, if◌then◌else◌}
+use Rattle.std.specs.Prelude.{◌≡◌, ◌≤◌, ℕ, ◌||◌, Bool, false, List, [], ◌∷◌, ◌++◌, length, codes, bytes_eq, cond, Option, Some, None, option_map, if◌then◌else◌}
 use Rattle.std.specs.Result.{result_ok}
 use Rattle.std.specs.Str.{is_utf8}
 use Rattle.fed_base.specs.Values.{◌>>=◌}
@@ -11,7 +11,7 @@ use Rattle.url.specs.Host.{host_text}
 use Rattle.url.specs.Parser.{parse_url}
 use Rattle.url.specs.Parts.{Parts, nonempty_host, text_between}
 use Rattle.http_plain.specs.declared.route.Route.{Route}
-use Rattle.http_plain.specs.Pages.{IsPage}
+use Rattle.http_plain.specs.Pages.{IsPage, answer_limit}
 use Rattle.http_plain.specs.Responses.{crlf}
 
 -- the scheme is one of the web (RFC 9110 section 4.2)
@@ -55,4 +55,6 @@ pub record ClientPage (text : List ℕ) (routes : List Route) (x : Exchange) (p 
   pub address : address_of routes url ≡ Some x.to
   pub message : x.sent ≡ message_of url
   pub steady : x.failed ≡ false
+  -- no more bytes were taken than the longest head and body have, and the piece with which they are over
+  pub few : length x.received ≤ answer_limit
   pub page : IsPage x.received x.ended p

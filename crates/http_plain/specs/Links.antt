@@ -1,5 +1,5 @@
 -- What a link over a network answers and leaves.
-use Rattle.std.specs.Prelude.{◌≡◌, ◌⊎◌, ℕ, false, List, [], ◌∷◌, Option, Some, Result, Ok, Err}
+use Rattle.std.specs.Prelude.{◌≡◌, ◌≤◌, ◌⊎◌, ℕ, false, List, [], ◌∷◌, length, Option, Some, Result, Ok, Err}
 use Rattle.fed_ports.specs.declared.address.Address.{Address}
 use Rattle.fed_ports.specs.declared.link.LinkFault.{LinkFault}
 use Rattle.fed_ports.specs.declared.page.Page.{Page}
@@ -11,7 +11,7 @@ use Rattle.http_plain.specs.declared.route.Route.{Route}
 use Rattle.url.specs.Parts.{Parts}
 use Rattle.http_plain.specs.Asked.{AsksPart}
 use Rattle.http_plain.specs.Clients.{ClientPage, HasNoRoute, address_of, message_of, url_in}
-use Rattle.http_plain.specs.Pages.{IsPage}
+use Rattle.http_plain.specs.Pages.{IsPage, answer_limit}
 
 -- one exchange was added, which shows the page
 abbrev pub AddsExchange : Option (List Exchange) → Option (List Exchange) → (Exchange → Type 0) → Type 0
@@ -22,6 +22,7 @@ pub record Answers (x : Exchange) (to : Address) (message : List ℕ) (p : Page)
   pub address : x.to ≡ to
   pub message_is : x.sent ≡ message
   pub steady : x.failed ≡ false
+  pub few : length x.received ≤ answer_limit
   pub page : IsPage x.received x.ended p
 
 -- the page: without a route none is opened, and else one exchange was added, by which the page is the URL's

@@ -1,10 +1,10 @@
 -- The page that the bytes of an answer are (RFC 9112 sections 4, 6 and 7).
-use Rattle.std.specs.Prelude.{◌≡◌, ◌≤◌, ◌<◌, ◌⊎◌, ℕ, ◌==◌, ◌&&◌, Bool, true, false, not, List, [], ◌∷◌, length, map, take, codes, bytes_eq, cond, Option, Some, None, if◌then◌else◌}
+use Rattle.std.specs.Prelude.{◌≡◌, ◌≤◌, ◌<◌, ◌⊎◌, ℕ, ◌+◌, ◌==◌, ◌&&◌, Bool, true, false, not, List, [], ◌∷◌, length, map, take, codes, bytes_eq, cond, Option, Some, None, if◌then◌else◌}
 use Rattle.std.specs.Char.{to_ascii_lowercase}
 use Rattle.chunked_body.specs.declared.reader.Chunked.{Chunked}
 use Rattle.chunked_body.specs.declared.reader.Chunked.TheVariants.{Whole, TooLong as TooManyBytes, Broken}
 use Rattle.chunked_body.specs.Answers.{IsChunked}
-use Rattle.chunked_body.specs.Grammar.{body_limit}
+use Rattle.chunked_body.specs.Grammar.{body_limit, form_limit}
 use Rattle.fed_ports.specs.declared.page.Page.{Page}
 use Rattle.fed_ports.specs.declared.page.Page.TheVariants.{Document, Refusal, Garbled, TooLong}
 use Rattle.httparse.specs.Spans.{name_and_value}
@@ -13,6 +13,18 @@ use Rattle.http_plain.specs.declared.form.Form.{Form}
 use Rattle.http_plain.specs.declared.form.Form.TheVariants.{Bad, Refused, Sized, Chunked as InChunks, ToEnd}
 use Rattle.http_plain.specs.Fields.{Line, values_named, stated}
 use Rattle.http_plain.specs.Heads.{head_limit, line_limit, HasNoHead, BeginsWithHead}
+
+-- how many bytes of an answer are asked for at once
+abbrev pub piece_limit : ℕ
+piece_limit = 4096
+
+-- how many bytes of a body in chunks are read at most: with the piece with which it is over
+abbrev pub chunks_limit : ℕ
+chunks_limit = form_limit + piece_limit
+
+-- how many bytes of an answer are read at most
+abbrev pub answer_limit : ℕ
+answer_limit = head_limit + chunks_limit
 
 -- the value is that one, which is given in lower case; case doesn't count (RFC 9110 section 8.4.1, RFC 9112 section 7)
 abbrev pub is_value : List ℕ → List ℕ → Bool

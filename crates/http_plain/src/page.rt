@@ -1,9 +1,10 @@
 // Reading the page of an answer.
 
-ghost use Rattle.std.specs.Prelude.{◌≡◌, ◌<◌, ℕ, false, length, IfOk, MatchResult};
+ghost use Rattle.std.specs.Prelude.{◌≡◌, ◌<◌, ◌≤◌, ℕ, false, length, IfOk, MatchResult};
 ghost use Rattle.http_plain.specs.Flows.{BreakCause};
 ghost use Rattle.http_plain.specs.Asked.{asked_of};
-ghost use Rattle.http_plain.specs.Pages.{chunked_page};
+ghost use Rattle.http_plain.specs.Pages.{chunked_page, piece_limit};
+ghost use Rattle.http_plain.specs.Heads.{head_limit};
 ghost use Rattle.http_plain.specs.Shown.{HasHead, Reaches, Shows, ShowsBody, ShowsRest, TakesRoom};
 
 use crate::form::{Form, form_of};
@@ -141,7 +142,7 @@ fn pour_chunks<T, I: Inflow<T>>(
     requires room { 0 < length buffer.old }
     requires ready { I.ready from.old }
     ensures ready { I.ready from.new }
-    ensures comes { IfOk result (λ e. Reaches (I.came from.old from.new) chunks.old chunks.new e) }
+    ensures comes { IfOk result (λ e. Reaches (I.came from.old from.new) (length buffer.old) chunks.old chunks.new e) }
     ensures turns { IfOk result (λ e. e ≡ false → TakesRoom chunks.old chunks.new) }
     ensures buffer { length buffer.new ≡ length buffer.old }
     ensures asked { asked_of (I.told from.new) ≡ asked_of (I.told from.old) }
@@ -166,6 +167,8 @@ fn read_chunks<T, I: Inflow<T>>(
     text: &[u8],
 ) -> Result<Page, Break>
     requires room { 0 < length buffer.old }
+    requires piece { length buffer.old ≤ piece_limit }
+    requires short { length text.now ≤ head_limit }
     requires ready { I.ready from.old }
     ensures ready { I.ready from.new }
     ensures page { IfOk result (λ page. ShowsRest (I.came from.old from.new) text.now page) }

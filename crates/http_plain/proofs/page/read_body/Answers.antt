@@ -13,4 +13,4 @@ returns-in-Chunked-clause-page g c =
     let text = c.args.text.now.items in
     let rest = ap (λ y. take (length y - c.args.len) (drop c.args.len y)) c.deref.ensures.value ∙ whole text c.args.len in
     let page = subst (λ s. IfOk c.read_chunks.result (λ p. ShowsRest flow s p)) rest c.read_chunks.ensures.page in
-    subst (λ f. IfOk c.read_chunks.result (λ p. ShowsBody flow text c.args.len f p)) (sym c.in-Chunked.is) (body_shown flow text c.args.len c.read_chunks.result c.requires.head.inside page)
+    subst (λ f. IfOk c.read_chunks.result (λ p. ShowsBody flow text c.args.len f p)) (sym c.in-Chunked.is) (body_shown flow text c.args.len c.read_chunks.result c.requires.head.inside (omega (arith, c.requires.head.inside, c.requires.head.small)) page)

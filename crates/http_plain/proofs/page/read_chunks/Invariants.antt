@@ -1,12 +1,15 @@
-use Rattle.std.proofs.Common.{◌≡◌, ℕ, ◌+◌, List, ◌++◌, length, cond}
+use Rattle.std.proofs.Common.{◌≡◌, ◌≤◌, ℕ, ◌+◌, false, List, ◌++◌, length, cond}
+use Rattle.chunked_body.specs.Grammar.{form_limit}
 use Rattle.chunked_body.specs.Readers.{HasRead, is_over, room_of}
 use Rattle.http_plain.specs.Asked.{asked_of}
+use Rattle.http_plain.specs.Pages.{chunks_limit}
 use Rattle.http_plain.proofs.page.read_chunks.Given as goal
 
 abbrev pub invariant-loop-ended : goal.invariant-loop-ended
 invariant-loop-ended g l = let flow = g.I.Inflow in record {
   ready : flow.ready l.from;
-  came : (got : List ℕ) × flow.came l.fn.from l.from got l.ended × HasRead l.chunks (l.text ++ got);
+  came : (got : List ℕ) × flow.came l.fn.from l.from got l.ended × HasRead l.chunks (l.text ++ got)
+      × (is_over l.chunks ≡ false → length (l.text ++ got) + room_of l.chunks ≤ form_limit) × (length (l.text ++ got) ≤ chunks_limit);
   room : length l.buffer ≡ length l.fn.buffer;
   asked : asked_of (flow.told l.from) ≡ asked_of (flow.told l.fn.from);
   still : flow.fixed_of l.from ≡ flow.fixed_of l.fn.from;
