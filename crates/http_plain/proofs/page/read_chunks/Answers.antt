@@ -50,7 +50,7 @@ loop-ended-preserved g c =
       came = (
         so_far.0 ++ more.got,
         flow.came_on c.args.from.now c.loop-ended.from c.pour_chunks.new.from so_far.0 more.got c.in_ok-ended.ended
-        (subst (flow.came c.args.from.now c.loop-ended.from so_far.0) goes so_far.1) more.came,
+            (subst (flow.came c.args.from.now c.loop-ended.from so_far.0) goes so_far.1) more.came,
         subst (HasRead c.pour_chunks.new.chunks) (append_assoc text so_far.0 more.got) (more.reads (text ++ so_far.0) so_far.2),
         limits.0,
         limits.1,
