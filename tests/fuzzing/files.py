@@ -58,7 +58,8 @@ def answers_of(case, data, command):
     try:
         tree, doubted = rules.configuration(data)
     except rules.Fault:
-        return [refused]
+        # the ring is read before the other members are looked at, and its name may be one that the system doesn't read
+        return [refused, (6, b"")] if names_another_ring(case, data) else [refused]
     if ("resolver" in tree) != (command != "authority"):
         return [refused]
     ring = has_ring(case, tree)
@@ -69,6 +70,15 @@ def answers_of(case, data, command):
 def has_ring(case, tree):
     """Whether its ring is there. A name of another file may be that of a folder, or too long."""
     return tree["ring"] in [key.ring for key in case.pool.keys.values()]
+
+
+def names_another_ring(case, data):
+    """Whether a configuration that isn't of its form names a file that no ring of the pool is."""
+    try:
+        tree = json.loads(data)
+    except (ValueError, RecursionError):
+        return False
+    return isinstance(tree, dict) and isinstance(tree.get("ring"), str) and not has_ring(case, tree)
 
 
 def shown_of(case, data):
