@@ -55,13 +55,14 @@ def deeper(rng, good):
 
 def answers_of(case, data, command):
     refused = (2, b"input\n")
+    # the ring is read before the other members are looked at, and its name may be one that the system doesn't read
+    faulty = [refused, (6, b"")] if names_another_ring(case, data) else [refused]
     try:
         tree, doubted = rules.configuration(data)
     except rules.Fault:
-        # the ring is read before the other members are looked at, and its name may be one that the system doesn't read
-        return [refused, (6, b"")] if names_another_ring(case, data) else [refused]
+        return faulty
     if ("resolver" in tree) != (command != "authority"):
-        return [refused]
+        return faulty
     ring = has_ring(case, tree)
     taken = ((1, UNLISTED) if command == "resolve" else (7, b"")) if ring else (6, b"")
     return [taken, refused] if doubted or not ring else [taken]
