@@ -26,7 +26,8 @@ pub record CountsAtMost (most before now : ℕ) : Type 0 where
   pub within : steps ≤ most
   pub counts : now ≡ counted steps before
 
--- the checks of n texts that are signed: one each, and one more of the leaf's where its header doesn't name one key in its own set and its superior's
+-- the checks of n texts that are signed: one each, and one more of the leaf's where its header doesn't name one key in its own set and its
+-- superior's
 abbrev pub CountsSigned : ℕ → Type 0 → ℕ → ℕ → Type 0
 CountsSigned zero one before now = now ≡ before
 CountsSigned (suc n) one before now = (one → now ≡ counted (suc n) before) × (¬ one → now ≡ counted (suc (suc n)) before)
@@ -35,7 +36,8 @@ CountsSigned (suc n) one before now = (one → now ≡ counted (suc n) before) �
 abbrev pub NamesBoth : List ℕ → List Jwk → List Jwk → Type 0
 NamesBoth text own superior = IsSome (key_in own text) × IsSome (key_in superior text)
 
--- the checks of a leaf's text that isn't signed: none where no key is named in one of the two sets, else its own key's, and then its superior's
+-- the checks of a leaf's text that isn't signed: none where no key is named in one of the two sets, else its own key's, and then its
+-- superior's
 pub record CountsLeaf (text : List ℕ) (own superior : List Jwk) (before now : ℕ) : Type 0 where
   pub none : ¬ NamesBoth text own superior → now ≡ before
   pub first : NamesBoth text own superior → ¬ IsSealedBy text own → now ≡ counted 1 before

@@ -24,7 +24,8 @@ text_in tried = tried.text
 abbrev pub texts_of : List Tried → Texts
 texts_of = map text_in
 
--- the seals that a chain of n texts needs, in order: at 0 the leaf's by its own keys, at j + 1 that of the text at place j by its superior's keys
+-- the seals that a chain of n texts needs, in order: at 0 the leaf's by its own keys, at j + 1 that of the text at place j by its
+-- superior's keys
 abbrev pub seal_place : ℕ → ℕ
 seal_place zero = zero
 seal_place (suc j) = j

@@ -21,7 +21,8 @@ abbrev pub merged_with : ℕ → Types → Result Types ConflictAt → Result Ty
 merged_with place lower (Ok upper) = at_place place (merging upper lower)
 merged_with place lower (Err conflict) = Err conflict
 
--- the policies from a place up, merged from the last down; the last is merged with the empty policy, which asks only that its operators stand together
+-- the policies from a place up, merged from the last down; the last is merged with the empty policy, which asks only that its operators
+-- stand together
 unfoldable pub merged_from : ℕ → List Types → Result Types ConflictAt
 merged_from place [] = Ok []
 merged_from place (policy ∷ uppers) = merged_with place policy (merged_from (place + 1) uppers)

@@ -1,4 +1,4 @@
--- Why a chain doesn't resolve whose texts are read, named, current and signed as they must be (OpenID Federation 1.0 sections 6.1.4 and 6.2).
+-- Why a chain whose texts are read, named, current and signed doesn't resolve (OpenID Federation 1.0 sections 6.1.4 and 6.2).
 use Rattle.std.specs.Prelude.{◌≡◌, ℕ, List, Result, Ok, Err}
 use Rattle.fed_json.specs.declared.tree.Json.{Json}
 use Rattle.chain_limits.specs.declared.place.Place.{Place}

@@ -107,7 +107,8 @@ calls_in pages = count_by (λ a. is_call a.answer) (first_answers_after [] pages
 unfoldable pub faults_in : List PageAnswer → ℕ
 faults_in pages = count_by (λ a. is_fault a.answer) (first_answers_after [] pages)
 
--- a search: whose chain to which trust anchor, how far it goes, what was answered of pages, and the verdicts on paths, in the order of the answers
+-- a search: whose chain to which trust anchor, how far it goes, what was answered of pages, and the verdicts on paths, in the order of the
+-- answers
 pub record Search : Type 0 where
   pub leaf : Identifier
   pub anchor : Identifier

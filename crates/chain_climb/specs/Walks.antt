@@ -48,7 +48,8 @@ pub record Growth : Type 0 where
 abbrev pub from_to : List Path → List Path → Growth
 from_to before after = record { before = before; after = after }
 
--- from these steps to the rest of them, whatever is found later: the pages between were answered, these paths were judged, and the others added
+-- from these steps to the rest of them, whatever is found later: the pages between were answered, these paths were judged, and the others
+-- added
 pub record Walked (pages : List PageAnswer) (most : ℕ) (judges : List Path) (steps rest : Findings → List Step) (paths : Growth) : Type 0 where
   pub taken : List Step
   pub is : (found : Findings) → Extends found pages → steps found ≡ taken ++ rest found

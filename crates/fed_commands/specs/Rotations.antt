@@ -10,7 +10,7 @@ use Rattle.key_ring.specs.declared.fault.RingFault.TheVariants.{Known, Unknown, 
 use Rattle.fed_commands.specs.Replies.{bad_input, refused}
 use Rattle.fed_commands.specs.declared.reply.Reply.{Reply}
 
--- a change is refused by the name of its first fault: Known, Unknown or Order. No change has another.
+-- a change is refused by the name of its first fault: Known, Unknown or Order; no change has another
 abbrev pub refused_as : RingFault → Reply
 refused_as (Known kid) = refused (codes "Known")
 refused_as (Unknown kid) = refused (codes "Unknown")

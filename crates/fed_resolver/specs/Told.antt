@@ -94,7 +94,8 @@ pub record ToldWhole (here : Situation) (trace : Trace) : Type 0 where
 
 -- ---- a call that ended for want of memory or at a worn object
 
--- there is no event, or the Read comes first, and then come Looks, Puts and Proves; the keys are those of the Read, or were not copied any more
+-- there is no event, or the Read comes first, and then come Looks, Puts and Proves; the keys are those of the Read, or were not copied any
+-- more
 abbrev pub BeginsSo : Situation → Trace → List Event → Type 0
 BeginsSo here trace [] = (trace.epoch ≡ 0) × (trace.keys.keys ≡ [])
 BeginsSo here trace (Book (Read anchor) answer ∷ work) =

@@ -34,7 +34,8 @@ is_text tree = option_map_or (λ _. true) (as_text tree) false
 abbrev pub stays_text : Name → Option Json → Bool
 stays_text name before = is_scope name && if_there is_text before
 
--- the list as the parameter's new value, where `before` is the one it had; the operator refuses where a text is to be made of it and one of its values isn't a text
+-- the list as the parameter's new value, where `before` is the one it had; the operator refuses where a text is to be made of it and one of
+-- its values isn't a text
 unfoldable pub made : Name → Operator → Option Json → List Json → Outcome
 made name operator before list =
     if stays_text name before then option_map_or (λ words. Ok (Some (joined_words words))) (texts_in list) (Err operator) else Ok (Some (ListOf list))

@@ -20,7 +20,8 @@ met both (Some upper) (Some lower) = Some (both upper lower)
 met both (Some upper) None = Some upper
 met both None lower = lower
 
--- the operators of both, each merged by its rule (section 6.1.3.1); a list keeps its order and has each value once, and a `subset_of` may become empty
+-- the operators of both, each merged by its rule (section 6.1.3.1); a list keeps its order and has each value once, and a `subset_of` may
+-- become empty
 abbrev pub merged_operators : Operators → Operators → Operators
 merged_operators upper lower = record {
   value = met (λ u l. u) upper.value lower.value;

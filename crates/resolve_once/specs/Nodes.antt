@@ -40,8 +40,8 @@ told_anchor a = record { id = a.anchor; keys = a.keys.keys }
 abbrev pub booked_keys : Identifier → List AnchorKeys → Option (List Jwk)
 booked_keys anchor anchors = option_map (λ (set : JwkSet). set.keys) (keys_of anchor anchors)
 
--- a call's keys are those that its anchor has, and it is refused for its anchor exactly where that has none; where memory was wanting, or an
--- object worn, it may have none yet
+-- a call's keys are those that its anchor has, and it is refused for its anchor exactly where that has none; where memory was wanting, or
+-- an object worn, it may have none yet
 abbrev pub HasKeys : Option (List Jwk) → List Jwk → Result Reply Refusal → Type 0
 HasKeys listed keys (Err NoAnchor) = listed ≡ None
 HasKeys listed keys (Err Memory) = (keys ≡ []) ⊎ (listed ≡ Some keys)

@@ -145,7 +145,8 @@ ProvesGood trace = (check : Check) → Among check trace.checks → check.good �
 
 -- ---- what a reply stands on
 
--- the trace shows that the text is sealed by the key of the set that its header names: its pair was tested and good, or a hit showed it as proved
+-- the trace shows that the text is sealed by the key of the set that its header names: its pair was tested and good, or a hit showed it as
+-- proved
 pub record ShownSealed (trace : Trace) (keys : List Jwk) (text : List ℕ) : Type 0 where
   pub public : List ℕ
   pub named : key_in keys text ≡ Some public

@@ -89,7 +89,8 @@ module _ {P L C G : Type 0} where
 
 -- ---- batches
 
--- how peers, clocks and networks are seen: a network's exchanges, where it tells them, how often a call of it has failed, and how it listens
+-- how peers, clocks and networks are seen: a network's exchanges, where it tells them, how often a call of it has failed, and how it
+-- listens
 pub record ServiceViews (P N C : Type 0) : Type 0 where
   pub peer : P → PeerAt
   pub clock : C → ClockAt
@@ -121,8 +122,8 @@ pub record Batch (P N C : Type 0) : Type 0 where
   pub now : Standing P
 
 module _ {P N C : Type 0} where
-  -- a desk at which nobody was served yet: it has no peer, its pass was split off and has made no call, its link goes by the routes and had no
-  -- call, over a network that had no exchange, its ledger has counted nothing, and its clock wasn't read
+  -- a desk at which nobody was served yet: it has no peer, its pass was split off and has made no call, its link goes by the routes and had
+  -- no call, over a network that had no exchange, its ledger has counted nothing, and its clock wasn't read
   pub record IsNewDesk (views : ServiceViews P N C) (routes : List Route) (split : CommonsKnown) (desk : Desk P (HttpLink N) C Plain) : Type 0 where
     pub free : desk.peer ≡ None
     pub pass : IsUntaken split (known desk.pass)

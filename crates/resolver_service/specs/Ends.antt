@@ -68,8 +68,8 @@ module _ {P N C : Type 0} where
     pub serves : ServesAll (setup views full resolver.routes) resolver.workers connections (standing before.net first before.clock) (standing now.net joined now.clock)
     pub history : IsHistory ShelfStep [] BookStep (opened_with is_full.is.anchors) joined
 
-  -- how the batch stopped that was begun: the network failed, and all who were accepted were settled; or some of them were dropped; or memory
-  -- was wanting; or a shared object was worn, as the pass has seen
+  -- how the batch stopped that was begun: the network failed, and all who were accepted were settled; or some of them were dropped; or
+  -- memory was wanting; or a shared object was worn, as the pass has seen
   abbrev pub StopsIn : Setup P N C → ℕ → Standing P → Standing P → ResolverEnd → Type 0
   StopsIn s count before now ends.NetworkFailed = BreaksOff s count before now
   StopsIn s count before now ends.Unsettled = BreaksOffUnsettled s count before now
@@ -77,8 +77,8 @@ module _ {P N C : Type 0} where
   StopsIn s count before now (ends.Worn pass) = (now.progress.known ≡ known pass) × WearsIn s count before now
   StopsIn s count before now end = ⊥
 
-  -- fewer connections were served by this node, in whole batches, as above; then, with so many left, one was begun, and stopped so. The pass
-  -- that it had at last has seen what is legal
+  -- fewer connections were served by this node, in whole batches, as above; then, with so many left, one was begun, and stopped so. The
+  -- pass that it had at last has seen what is legal
   pub record HasStopped (views : ServiceViews P N C) (node : Authority) (connections : ℕ) (before now : Around P) (result : ResolverEnd) : Type 0 where
     pub resolver : Resolver
     pub full : Node

@@ -56,8 +56,8 @@ module _ {P : Type 0} where
     pub purge : IsPurgeOfSome now.clock.last before.progress.known now.progress.known
 
 module _ {P N C : Type 0} where
-  -- the clock was read once, and what was stale at that moment dropped from the cache; so many desks were made, with a pass for each that was
-  -- split from the one pass; and the next callers were accepted and served there
+  -- the clock was read once, and what was stale at that moment dropped from the cache; so many desks were made, with a pass for each that
+  -- was split from the one pass; and the next callers were accepted and served there
   pub record IsBegun (s : Setup P N C) (count : ℕ) (before now : Standing P) : Type 0 where
     pub clock : IsOneReading before.clock now.clock
     pub dropped : ShelfReply
@@ -86,8 +86,8 @@ module _ {P N C : Type 0} where
     pub all : length begun.serves.peers ≡ count
     pub settled : AddsSome before.progress.net.settled (peers_at begun.serves.served) now.progress.net.settled
 
-  -- one was accepted for each desk and served there, and all were settled; at one of the desks a shared object was worn, and that desk's pass
-  -- is the one from then on
+  -- one was accepted for each desk and served there, and all were settled; at one of the desks a shared object was worn, and that desk's
+  -- pass is the one from then on
   pub record HasWornDesk (s : Setup P N C) (count : ℕ) (before now : Standing P) : Type 0 where
     pub begun : IsBegun s count before now
     pub all : length begun.serves.peers ≡ count

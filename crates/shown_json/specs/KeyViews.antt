@@ -53,8 +53,8 @@ thumbprint_in members = do
   text ← covered_by kty members
   Some (base64url (sha256 text))
 
--- the members of a key that are shown: its type, what it is for, its name and its moments (RFC 7517 section 4, OpenID Federation 1.0 section
--- 8.7.2)
+-- the members of a key that are shown: its type, what it is for, its name and its moments (RFC 7517 section 4, OpenID Federation 1.0
+-- section 8.7.2)
 abbrev pub is_told : List ℕ → Bool
 is_told name =
     bytes_eq name (codes "alg") || (bytes_eq name (codes "crv") || (bytes_eq name (codes "exp") || (bytes_eq name (codes "iat") || (bytes_eq name (codes "kid")

@@ -12,7 +12,8 @@ abbrev pub calls_of : {E F : Type 0} → (E → List F) → List E → List F
 calls_of {E} {F} on [] = []
 calls_of {E} {F} on (e ∷ es) = on e ++ calls_of on es
 
--- to each object these events added their calls on it and no others, in order: those of an event e on the part p are `on_part p e`, none or one, and those on the book `on_book e`
+-- to each object these events added their calls on it and no others, in order: those of an event e on the part p are `on_part p e`, none or
+-- one, and those on the book `on_book e`
 pub record Gains {E C R D Q : Type 0} (on_part : ℕ → E → List (C × R)) (on_book : E → List (D × Q)) (old new : Known C R D Q) (events : List E) : Type 0 where
   pub parts : (p : ℕ) → Adds (old.part p) (new.part p) (calls_of (on_part p) events)
   pub book : Adds old.book new.book (calls_of on_book events)

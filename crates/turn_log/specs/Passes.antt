@@ -54,7 +54,8 @@ module _ {C R : Type 0} where
   abbrev pub OwnsSeen : Account C R → Type 0
   OwnsSeen a = a.mine ≡ places_below (length a.seen)
 
-  -- one call more: what is seen now is all that was seen before, then calls of others, and last this call, whose place is the caller's own; there was room for it
+  -- one call more: what is seen now is all that was seen before, then calls of others, and last this call, whose place is the caller's own;
+  -- there was room for it
   pub record EndsInCall (old new : Account C R) (call : C × R) : Type 0 where
     pub between : List (C × R)
     pub room : length (old.seen ++ between) < call_limit

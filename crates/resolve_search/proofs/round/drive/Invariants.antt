@@ -25,6 +25,7 @@ invariant-loop-session g l = record {
   under : IsUnderWay l.aim l.fn.trace (point l.trace l.search) l.session;
 }
 
--- each turn gives the session an answer to a page, of which it has fewer than 2 ^ 64, or a verdict on a path, of which it has no more than paths may be made
+-- each turn gives the session an answer to a page, of which it has fewer than 2 ^ 64, or a verdict on a path, of which it has no more than
+-- paths may be made
 abbrev pub decreases-loop-session : goal.decreases-loop-session
 decreases-loop-session g l = (2 ^ 64 + l.aim.bounds.paths + 1) - (length l.session.pages + length l.session.verdicts)
