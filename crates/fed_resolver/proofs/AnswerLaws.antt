@@ -1,17 +1,16 @@
 -- A reply on the chain that the leaf's last round found.
-use Rattle.std.proofs.Common.{◌≡◌, ◌≤◌, ◌+◌, ℕ, List, [], ◌∷◌, ◌++◌, length, Option, Some, None, Ok, refl, sym, ap, ap₂, ◌∙◌, subst, inl, inr, ⊎_elim, arith}
-use Rattle.std.specs.Prelude.{option_and_then, option_map, slice_index_or}
+use Rattle.std.proofs.Common.{◌≡◌, ◌+◌, ℕ, List, [], ◌++◌, length, Some, Ok, refl, sym, ap, ap₂, ◌∙◌, subst, inl, inr, ⊎_elim}
+use Rattle.std.specs.Prelude.{slice_index_or}
 use Rattle.std.specs.Option.{option_map_or}
 use Rattle.jwk_set.specs.declared.set.JwkSet.{JwkSet}
 use Rattle.entity_statement.specs.Claims.{Claims, Identifier}
 use Rattle.entity_statement.specs.Signed.{statement_of}
 use Rattle.chain_check.specs.Chains.{Texts, statements_of}
-use Rattle.chain_check.specs.Judging.{seal_keys, seal_place, texts_of}
+use Rattle.chain_check.specs.Judging.{seal_keys, seal_place}
 use Rattle.chain_check.specs.Signatures.{key_in}
 use Rattle.chain_climb.specs.Elements.{Among}
 use Rattle.chain_climb.proofs.Elements.{among-left}
 use Rattle.trust_mark.specs.Counts.{counted}
-use Rattle.trust_mark.proofs.CountLaws.{counted-plus}
 use Rattle.resolve_reply.specs.declared.issuers.Issuer.{Issuer}
 use Rattle.resolve_reply.specs.declared.marks.GoodMarks.{GoodMarks}
 use Rattle.resolve_reply.specs.declared.reply.Reply.{Reply}
@@ -22,9 +21,9 @@ use Rattle.resolve_round.specs.declared.request.ResolveRequest.{ResolveRequest}
 use Rattle.resolve_round.specs.declared.trace.Check.{Check}
 use Rattle.resolve_round.specs.declared.trace.Event.{Event}
 use Rattle.resolve_round.specs.declared.trace.Trace.{Trace}
-use Rattle.resolve_round.specs.Courses.{Course, found}
-use Rattle.resolve_round.specs.Pages.{Query, case_in, chain_of}
-use Rattle.resolve_round.specs.Rounds.{AreRoundsForEach, IsLast, pages_in}
+use Rattle.resolve_round.specs.Courses.{Course}
+use Rattle.resolve_round.specs.Pages.{Query, chain_of}
+use Rattle.resolve_round.specs.Rounds.{AreRoundsForEach, pages_in}
 use Rattle.resolve_round.specs.Told.{IsTrueSoFar, ProvesGood, ShowsSeals}
 use Rattle.resolve_round.specs.Traces.{IsWork}
 use Rattle.resolve_search.specs.declared.round.FoundChain.{FoundChain}
@@ -35,7 +34,7 @@ use Rattle.fed_resolver.specs.Refusals.{outcome_of}
 use Rattle.fed_resolver.specs.Replying.{IsMarked}
 use Rattle.fed_resolver.specs.Searches.{Ends, both_ends, ends_of, found_keys, issuers_after, judging_after, marks_tested}
 use Rattle.fed_resolver.specs.Stretches.{SameKeys}
-use Rattle.fed_resolver.specs.Told.{Situation, ToldWhole, query_of, situation_of, usual}
+use Rattle.fed_resolver.specs.Told.{Situation, ToldWhole, situation_of, usual}
 use Rattle.fed_resolver.specs.Uses.{CountsAll}
 use Rattle.fed_resolver.proofs.EndTexts.{Says, first-says, last-says}
 use Rattle.fed_resolver.proofs.MarkCounts.{good-along, tests-along}

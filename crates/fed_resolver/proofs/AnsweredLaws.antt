@@ -1,11 +1,10 @@
 -- A call that ended before it searched, and what it begins its search with.
-use Rattle.std.proofs.Common.{◌≡◌, ℕ, List, [], ◌∷◌, length, Result, Ok, Err, refl, sym, ap, ◌∙◌, subst, inl, inr}
+use Rattle.std.proofs.Common.{◌≡◌, ℕ, List, [], ◌∷◌, length, Result, Ok, Err, refl, sym, ap, ◌∙◌, subst}
 use Rattle.trust_mark.specs.Counts.{counted}
 use Rattle.chain_climb.specs.Elements.{Among}
 use Rattle.statement_shelf.specs.Passes.{CommonsKnown}
 use Rattle.statement_shelf.specs.declared.calls.AnchorKeys.{AnchorKeys}
 use Rattle.statement_shelf.specs.declared.calls.BookCall.TheVariants.{Read}
-use Rattle.statement_shelf.specs.declared.calls.BookReply.{BookReply}
 use Rattle.resolve_reply.specs.declared.reply.Reply.{Reply}
 use Rattle.resolve_reply.specs.declared.signer.Signer.{Signer}
 use Rattle.resolve_round.specs.declared.trace.Event.TheVariants.{Book}

@@ -1,6 +1,5 @@
 -- A call that has read the book, and nothing more.
-use Rattle.std.proofs.Common.{◌≡◌, ◌⊎◌, ℕ, List, [], ◌∷◌, ◌++◌, length, map, Option, Some, None, Result, Ok, Err, refl, sym, ap, ap₂, ◌∙◌, subst, inl, inr, ⊎_elim, append-nil, arith}
-use Rattle.jwk_set.specs.declared.set.JwkSet.{JwkSet}
+use Rattle.std.proofs.Common.{◌≡◌, ℕ, List, [], ◌∷◌, ◌++◌, length, map, Err, refl, sym, ap, ◌∙◌, subst, inl, inr, ⊎_elim, arith}
 use Rattle.trust_mark.specs.Counts.{counted}
 use Rattle.turn_log.proofs.Gains.{gains-append}
 use Rattle.chain_climb.specs.Elements.{Among, NoneTwice}
@@ -13,25 +12,23 @@ use Rattle.statement_shelf.specs.declared.calls.BookReply.{BookReply}
 use Rattle.statement_shelf.specs.declared.calls.BookReply.TheVariants as book
 use Rattle.statement_shelf.specs.declared.calls.ShelfCall.{ShelfCall}
 use Rattle.statement_shelf.specs.declared.calls.ShelfReply.{ShelfReply}
-use Rattle.resolve_reply.specs.declared.reply.Reply.{Reply}
 use Rattle.resolve_reply.specs.declared.signer.Signer.{Signer}
 use Rattle.resolve_round.specs.declared.trace.Check.{Check}
 use Rattle.resolve_round.specs.declared.trace.Event.{Event}
 use Rattle.resolve_round.specs.declared.trace.Event.TheVariants.{Shelf, Book}
 use Rattle.resolve_round.specs.declared.trace.Trace.{Trace}
-use Rattle.resolve_round.specs.Told.{AreChecks, IsTrueSoFar, ProvesGood, TestsNothingProved}
-use Rattle.resolve_round.specs.Traces.{IsWork, asks_in, pair_in, put_in, puts_in}
+use Rattle.resolve_round.specs.Told.{AreChecks, IsTrueSoFar, ProvesGood}
+use Rattle.resolve_round.specs.Traces.{IsWork, asks_in, pair_in, puts_in}
 use Rattle.resolve_pages.specs.declared.halt.Halt.{Halt}
 use Rattle.resolve_pages.specs.declared.halt.Halt.TheVariants as halt
 use Rattle.resolve_pages.specs.Acts.{Continues, GainsEvents, IsHalt, on_book, on_part}
-use Rattle.fed_resolver.specs.declared.outcome.Refusal.{Refusal}
 use Rattle.fed_resolver.specs.declared.outcome.Refusal.TheVariants as refusal
-use Rattle.fed_resolver.specs.Calls.{IsFresh, Resolves, WornOnly}
-use Rattle.fed_resolver.specs.Going.{IsBegun, IsBlank}
-use Rattle.fed_resolver.specs.Outcomes.{IsWhole, Tells}
+use Rattle.fed_resolver.specs.Calls.{IsFresh, WornOnly}
+use Rattle.fed_resolver.specs.Going.{IsBlank}
+use Rattle.fed_resolver.specs.Outcomes.{Tells}
 use Rattle.fed_resolver.specs.Refusals.{WholeBy, broken_off, outcome_of}
 use Rattle.fed_resolver.specs.Searches.{marks_tested}
-use Rattle.fed_resolver.specs.Told.{BeginsSo, GaveKeys, GaveSome, Situation, ToldInPart, ToldWhole, situation_of}
+use Rattle.fed_resolver.specs.Told.{BeginsSo, GaveSome, Situation, ToldInPart, ToldWhole}
 use Rattle.fed_resolver.specs.Uses.{CountsAll, CountsSome, CountsTests}
 
 -- ---- nothing was searched
@@ -135,8 +132,7 @@ module _ (here : Situation) (signer : Signer) (trace : Trace) (moment : trace.mo
       rounds = (refl, refl);
       checks = bare-checks trace bare;
     };
-    looks = refl;
-    puts = refl;
+    did = refl;
     proved = bare-good trace bare;
     proves = (bare-true trace bare here.age).proves;
   }

@@ -1,5 +1,5 @@
 -- The texts of a valid chain can stand in a reply.
-use Rattle.std.proofs.Common.{◌≡◌, ◌<◌, ◌+◌, ℕ, zero, suc, List, [], ◌∷◌, ◌++◌, length, Bool, true, ◌&&◌, refl, sym, ap, ap₂, ◌∙◌, subst, arith}
+use Rattle.std.proofs.Common.{◌≡◌, ◌<◌, ℕ, zero, suc, List, [], ◌∷◌, ◌++◌, length, Bool, true, refl, sym, ap, ◌∙◌, subst, arith}
 use Rattle.std.specs.Prelude.{slice_index_or}
 use Rattle.std.specs.List.{list_all}
 use Rattle.std.specs.Str.{IsAscii, IsUtf8, is_utf8}
@@ -10,8 +10,7 @@ use Rattle.base64url.specs.Base64url.{base64url}
 use Rattle.jwk_set.specs.declared.jwk.Jwk.{Jwk}
 use Rattle.jws_form.specs.declared.compact.Compact.{Compact}
 use Rattle.jws_form.specs.Compact.{IsCompact, joined, signing_input_of, stop}
-use Rattle.chain_check.specs.Chains.{HasForm, Texts, statements_of}
-use Rattle.chain_check.specs.Signatures.{superior_keys}
+use Rattle.chain_check.specs.Chains.{Texts}
 use Rattle.chain_check.specs.Validity.{IsValid, case_of}
 use Rattle.resolve_search.proofs.ChainLaws.{form-length}
 

@@ -1,45 +1,74 @@
 -- What rounds add to a trace, and which rounds an entity has.
-use Rattle.std.proofs.Common.{◌≡◌, ◌+◌, ◌-◌, ℕ, List, [], ◌∷◌, ◌++◌, length, map, flat_map, Bool, true, false, ◌||◌, nat_eq, is_some, Option, Some, None, refl, sym, ap, ap₂, ◌∙◌, subst, inl, inr, ⊎_elim, append-nil, append_assoc, length-append, eq-eqb, eqb-true, true≢false, arith}
+use Rattle.std.proofs.Common.{◌≡◌, ◌-◌, ℕ, List, [], ◌∷◌, ◌++◌, length, map, flat_map, Bool, true, false, ◌||◌, nat_eq, is_some, Option, Some, None, refl, sym, ap, ap₂, ◌∙◌, subst, inl, inr, append-nil, append_assoc, length-append, eq-eqb, eqb-true, true≢false, arith}
 use Rattle.std.specs.Prelude.{slice_get}
-use Rattle.std.proofs.lemmas.List.{map-append}
-use Rattle.std.proofs.lemmas.List.Concat.{flat_map-append}
+use Rattle.std.proofs.lemmas.List.{append_cancel_left, map-append}
+use Rattle.std.proofs.lemmas.List.Elements.{filter_map-append}
 use Rattle.jwk_set.specs.declared.set.JwkSet.{JwkSet}
+use Rattle.resolve_round.specs.declared.trace.Event.{Event}
 use Rattle.resolve_round.specs.declared.trace.Search.{Search}
 use Rattle.resolve_round.specs.declared.trace.Trace.{Trace}
 use Rattle.resolve_round.specs.Courses.{Course, search_of}
 use Rattle.resolve_round.specs.Pages.{Query}
-use Rattle.resolve_round.specs.Rounds.{EndsAs, FoundPath, Round, Settles}
-use Rattle.resolve_round.specs.Traces.{looks_in, looks_of, puts_in, puts_of}
+use Rattle.resolve_round.specs.Rounds.{EndsAs, Round, Settles}
+use Rattle.resolve_round.specs.Traces.{look_in, looks_in, looks_of, put_in, puts_in, puts_of}
 use Rattle.resolve_pages.specs.declared.aim.Aim.{Aim}
 use Rattle.resolve_search.specs.declared.round.FoundChain.{FoundChain}
 use Rattle.resolve_search.specs.declared.round.RoundEnd.{RoundEnd}
 use Rattle.resolve_search.specs.Turning.{HasRound, IsChain, SameBut, query_at}
 use Rattle.fed_resolver.specs.Going.{AddsCourses, HasRounds, hits_in, is_settled, last_search}
-use Rattle.fed_resolver.specs.Stretches.{SameKeys}
+use Rattle.fed_resolver.specs.Told.{DidRounds}
 
 -- ---- what is added
 
 pub adds-none : (age : ℕ) (t : Trace) → AddsCourses age [] t t
-adds-none age t = record { searches = sym (append-nil t.searches); looks = sym (append-nil (looks_in t.events)); puts = sym (append-nil (puts_in t.events)) }
+adds-none age t = record { searches = sym (append-nil t.searches); more = []; events = sym (append-nil t.events); did = refl }
 
-pub adds-one : (aim : Aim) (old new : Trace) (end : RoundEnd) (has : HasRound aim old new end) → AddsCourses aim.age (has.ends.course ∷ []) old new
-adds-one aim old new end has = record {
+pub adds-one : (aim : Aim) (old new : Trace) (end : RoundEnd) (has : HasRound aim old new end) (more : List Event) → new.events ≡ old.events ++ more
+    → AddsCourses aim.age (has.ends.course ∷ []) old new
+adds-one aim old new end has more events = record {
   searches = has.added ∙ ap (λ s. old.searches ++ s ∷ []) (sym has.ends.is);
-  looks = has.ends.looks ∙ ap (λ l. looks_in old.events ++ l) (sym (append-nil (looks_of old.moment has.ends.course)));
-  puts = has.ends.puts ∙ ap (λ l. puts_in old.events ++ l) (sym (append-nil (puts_of old.moment aim.age has.ends.course)));
+  more = more;
+  events = events;
+  did = (
+    more,
+    [],
+    sym (append-nil more),
+    record {
+      looks = append_cancel_left (looks_in old.events) (looks_in more) (looks_of old.moment has.ends.course)
+          (sym (filter_map-append look_in old.events more) ∙ sym (ap looks_in events) ∙ has.ends.looks);
+      puts = append_cancel_left (puts_in old.events) (puts_in more) (puts_of old.moment aim.age has.ends.course)
+          (sym (filter_map-append put_in old.events more) ∙ sym (ap puts_in events) ∙ has.ends.puts);
+    },
+    refl,
+  );
 }
 
-joined : {X : Type 0} (a b c xs ys all : List X) → b ≡ a ++ xs → c ≡ b ++ ys → all ≡ xs ++ ys → c ≡ a ++ all
-joined a b c xs ys all one two is = two ∙ ap (λ l. l ++ ys) one ∙ append_assoc a xs ys ∙ ap (λ l. a ++ l) (sym is)
+-- what some rounds did, and then others
+pub did-then : (t age : ℕ) (xs ys : List Course) (a b : List Event) → DidRounds t age xs a → DidRounds t age ys b → DidRounds t age (xs ++ ys) (a ++ b)
+did-then t age [] ys a b none two = subst (λ l. DidRounds t age ys (l ++ b)) (sym none) two
+did-then t age (x ∷ xs) ys a b (own, later, split, one, rest) two =
+    (own, later ++ b, ap (λ l. l ++ b) split ∙ append_assoc own later b, one, did-then t age xs ys later b rest two)
 
 pub adds-then : (age : ℕ) (xs ys : List Course) (a b c : Trace) → b.moment ≡ a.moment → AddsCourses age xs a b → AddsCourses age ys b c → AddsCourses age (xs ++ ys) a c
 adds-then age xs ys a b c same one two = record {
-  searches = joined a.searches b.searches c.searches (map search_of xs) (map search_of ys) (map search_of (xs ++ ys)) one.searches two.searches (map-append search_of xs ys);
-  looks = joined (looks_in a.events) (looks_in b.events) (looks_in c.events) (flat_map (looks_of a.moment) xs) (flat_map (looks_of a.moment) ys) (flat_map (looks_of a.moment) (xs ++ ys)) one.looks
-      (subst (λ m. looks_in c.events ≡ looks_in b.events ++ flat_map (looks_of m) ys) same two.looks) (flat_map-append (looks_of a.moment) xs ys);
-  puts = joined (puts_in a.events) (puts_in b.events) (puts_in c.events) (flat_map (puts_of a.moment age) xs) (flat_map (puts_of a.moment age) ys) (flat_map (puts_of a.moment age) (xs ++ ys)) one.puts
-      (subst (λ m. puts_in c.events ≡ puts_in b.events ++ flat_map (puts_of m age) ys) same two.puts) (flat_map-append (puts_of a.moment age) xs ys);
+  searches = two.searches ∙ ap (λ l. l ++ map search_of ys) one.searches ∙ append_assoc a.searches (map search_of xs) (map search_of ys)
+      ∙ ap (λ l. a.searches ++ l) (sym (map-append search_of xs ys));
+  more = one.more ++ two.more;
+  events = two.events ∙ ap (λ l. l ++ two.more) one.events ∙ append_assoc a.events one.more two.more;
+  did = did-then a.moment age xs ys one.more two.more one.did (subst (λ m. DidRounds m age ys two.more) same two.did);
 }
+
+-- ---- all that was looked up and put
+
+pub did-looks : (t age : ℕ) (courses : List Course) (events : List Event) → DidRounds t age courses events → looks_in events ≡ flat_map (looks_of t) courses
+did-looks t age [] events none = ap looks_in none
+did-looks t age (course ∷ courses) events (own, later, split, one, rest) =
+    ap looks_in split ∙ filter_map-append look_in own later ∙ ap₂ (λ a b. a ++ b) one.looks (did-looks t age courses later rest)
+
+pub did-puts : (t age : ℕ) (courses : List Course) (events : List Event) → DidRounds t age courses events → puts_in events ≡ flat_map (puts_of t age) courses
+did-puts t age [] events none = ap puts_in none
+did-puts t age (course ∷ courses) events (own, later, split, one, rest) =
+    ap puts_in split ∙ filter_map-append put_in own later ∙ ap₂ (λ a b. a ++ b) one.puts (did-puts t age courses later rest)
 
 -- ---- the last round
 
@@ -81,14 +110,14 @@ unsettled-by query trace course None hits none same is (inl path) = none path
 unsettled-by query trace course None hits none same is (inr zero_hits) = true≢false (sym (eq-eqb hits 0 (sym same ∙ zero_hits)) ∙ is)
 unsettled-by query trace course (Some chain) hits chain_is same is settles = true≢false is
 
-module _ (aim : Aim) (looks : aim.looks ≡ true) (old mid : Trace) (first : RoundEnd) (one : HasRound aim old mid first) where
+module _ (aim : Aim) (looks : aim.looks ≡ true) (old mid : Trace) (first : RoundEnd) (one : HasRound aim old mid first) (own : List Event) (events : mid.events ≡ old.events ++ own) where
   hits-are : (one.ends.course).search.hits ≡ hits_in (last_search mid.searches)
   hits-are = ap (λ (s : Search). s.hits) one.ends.is ∙ sym (ap hits_in (last-added old.searches mid.searches one.search one.added))
 
   pub rounds-settled : is_settled first mid.searches ≡ true → HasRounds aim old mid first
   rounds-settled is = record {
     courses = one.ends.course ∷ [];
-    added = adds-one aim old mid first one;
+    added = adds-one aim old mid first one own events;
     are = (one.ends.round, one.ends.looked ∙ looks, settled-by (query_at aim old) mid one.ends.course first.chain (hits_in (last_search mid.searches)) one.ends.chain hits-are is);
     last = one.ends.course;
     is_last = refl;
@@ -96,7 +125,8 @@ module _ (aim : Aim) (looks : aim.looks ≡ true) (old mid : Trace) (first : Rou
     chain = one.ends.chain;
   }
 
-  module _ (again : Aim) (is_again : again ≡ record aim { looks = false }) (same : SameBut old mid) (new : Trace) (end : RoundEnd) (two : HasRound again mid new end) where
+  module _ (again : Aim) (is_again : again ≡ record aim { looks = false }) (same : SameBut old mid) (new : Trace) (end : RoundEnd) (two : HasRound again mid new end) (later : List Event)
+      (after : new.events ≡ mid.events ++ later) where
     query : query_at again mid ≡ query_at aim old
     query = ap (λ (a : Aim). query_at a mid) is_again ∙ same-query aim old mid same.moment same.keys
 
@@ -106,8 +136,8 @@ module _ (aim : Aim) (looks : aim.looks ≡ true) (old mid : Trace) (first : Rou
     pub rounds-again : is_settled first mid.searches ≡ false → HasRounds aim old new end
     rounds-again is = record {
       courses = one.ends.course ∷ two.ends.course ∷ [];
-      added = adds-then aim.age (one.ends.course ∷ []) (two.ends.course ∷ []) old mid new same.moment (adds-one aim old mid first one)
-          (subst (λ n. AddsCourses n (two.ends.course ∷ []) mid new) (ap (λ (a : Aim). a.age) is_again) (adds-one again mid new end two));
+      added = adds-then aim.age (one.ends.course ∷ []) (two.ends.course ∷ []) old mid new same.moment (adds-one aim old mid first one own events)
+          (subst (λ n. AddsCourses n (two.ends.course ∷ []) mid new) (ap (λ (a : Aim). a.age) is_again) (adds-one again mid new end two later after));
       are = (
         one.ends.round,
         one.ends.looked ∙ looks,

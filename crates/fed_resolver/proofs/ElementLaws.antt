@@ -1,5 +1,5 @@
 -- Elements of lists that were filtered or cut.
-use Rattle.std.proofs.Common.{◌≡◌, ◌≤◌, ◌+◌, ℕ, zero, suc, List, [], ◌∷◌, length, take, Option, Some, None, inl, inr, arith}
+use Rattle.std.proofs.Common.{◌≤◌, ◌+◌, ℕ, zero, suc, List, [], ◌∷◌, length, take, Option, Some, None, inl, inr, arith}
 use Rattle.std.specs.List.{cons_option, filter_map}
 use Rattle.chain_climb.specs.Elements.{Among}
 

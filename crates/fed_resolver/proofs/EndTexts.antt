@@ -1,9 +1,8 @@
 -- The first text of a chain that was found is the configuration of its entity, and the last one that of the anchor.
-use Rattle.std.proofs.Common.{◌≡◌, ◌<◌, ◌+◌, ℕ, suc, List, [], ◌∷◌, ◌++◌, length, map, Bool, true, false, cond, Option, Some, None, refl, sym, ap, ◌∙◌, subst, append-nil, append_assoc, length-append, lt-ltb, arith}
-use Rattle.std.specs.Prelude.{◌-◌, nat_lt, slice_get}
+use Rattle.std.proofs.Common.{◌≡◌, ◌<◌, ℕ, List, [], ◌∷◌, ◌++◌, length, Bool, true, false, cond, Some, refl, sym, ap, ◌∙◌, subst, length-append, lt-ltb, arith}
+use Rattle.std.specs.Prelude.{nat_lt, slice_get}
 use Rattle.std.specs.List.{cons_option, filter_map}
 use Rattle.std.specs.Option.{option_map_or}
-use Rattle.std.proofs.lemmas.List.{map-append}
 use Rattle.std.proofs.lemmas.List.Elements.{filter_map-append}
 use Rattle.entity_id.specs.Urls.{well_known_of}
 use Rattle.entity_statement.specs.Claims.{Claims, Identifier}
@@ -11,11 +10,11 @@ use Rattle.entity_statement.specs.Signed.{statement_of}
 use Rattle.chain_check.specs.declared.tried.Tried.{Tried}
 use Rattle.chain_check.specs.Judging.{texts_of}
 use Rattle.chain_climb.specs.declared.path.Path.{Path}
-use Rattle.chain_climb.specs.Climbs.{Findings, Need, chain_urls, configuration_of, last_of}
+use Rattle.chain_climb.specs.Climbs.{Findings, chain_urls, configuration_of, last_of}
 use Rattle.chain_climb.specs.Paths.{IsPath, begins, goes_on}
 use Rattle.chain_climb.proofs.ClimbLaws.{last-append}
 use Rattle.resolve_round.specs.Courses.{Course, found}
-use Rattle.resolve_round.specs.Pages.{GoodStatement, Pages, Query, case_in, chain_of, findings}
+use Rattle.resolve_round.specs.Pages.{Pages, Query, case_in, chain_of}
 use Rattle.resolve_round.specs.Rounds.{Round, good_in, pages_in}
 use Rattle.resolve_round.specs.declared.trace.Trace.{Trace}
 use Rattle.resolve_round.proofs.BestLaws.{found-best}

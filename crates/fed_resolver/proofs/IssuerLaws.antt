@@ -1,13 +1,11 @@
 -- Issuers that are searched one after the other.
-use Rattle.std.proofs.Common.{◌≡◌, ◌<◌, ◌+◌, ℕ, zero, suc, List, [], ◌∷◌, ◌++◌, length, map, take, get_or, Bool, true, false, not, cond, Option, Some, None, refl, sym, ap, ap₂, ◌∙◌, subst, inl, inr, ⊎_elim, append-nil, append_assoc, bytes_eq, add-one, true≢false, arith}
+use Rattle.std.proofs.Common.{◌≡◌, ◌<◌, ◌+◌, ℕ, zero, suc, List, [], ◌∷◌, ◌++◌, length, take, get_or, Bool, true, false, not, cond, Option, Some, None, refl, sym, ap, ap₂, ◌∙◌, subst, inl, inr, ⊎_elim, append-nil, append_assoc, bytes_eq, add-one, true≢false, arith}
 use Rattle.std.specs.List.{filter, filter_map, list_any}
 use Rattle.std.specs.Prelude.{option_and_then, option_map}
 use Rattle.std.proofs.Math.Seq.{take-suc}
-use Rattle.std.proofs.lemmas.List.{take_all}
 use Rattle.std.proofs.lemmas.List.Elements.{filter-append}
 use Rattle.fed_json.proofs.Order.{bytes_eq-itself, equal-bytes_eq}
 use Rattle.jwk_set.specs.declared.jwk.Jwk.{Jwk}
-use Rattle.jwk_set.specs.declared.set.JwkSet.{JwkSet}
 use Rattle.entity_statement.specs.Claims.{Claims, Identifier}
 use Rattle.entity_statement.specs.Forms.{all_differ}
 use Rattle.entity_statement.proofs.Hints.{once_after-differ}
@@ -23,7 +21,7 @@ use Rattle.resolve_round.specs.Rounds.{AreRounds, AreRoundsForEach, IsLast, for_
 use Rattle.resolve_round.proofs.HintLaws.{and-left, and-right}
 use Rattle.resolve_pages.specs.declared.aim.Aim.{Aim}
 use Rattle.resolve_search.specs.Turning.{query_at}
-use Rattle.fed_resolver.specs.Going.{AddsCourses, HasIssuer, HasIssuers, KeepsBy, usual_aim}
+use Rattle.fed_resolver.specs.Going.{HasIssuer, HasIssuers, KeepsBy, usual_aim}
 use Rattle.fed_resolver.specs.Searches.{found_keys, rounds_for, said_in}
 use Rattle.fed_resolver.specs.Stretches.{SameKeys}
 use Rattle.fed_resolver.proofs.CourseLaws.{adds-none, adds-then, same-query}

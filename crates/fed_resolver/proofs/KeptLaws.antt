@@ -1,5 +1,5 @@
 -- The issuer of a mark that is kept by what the last of its rounds found.
-use Rattle.std.proofs.Common.{◌≡◌, List, Option, Some, None, refl, sym, ap, ◌∙◌, subst}
+use Rattle.std.proofs.Common.{◌≡◌, List, Some, None, sym, ◌∙◌, subst}
 use Rattle.entity_statement.specs.Claims.{Claims}
 use Rattle.entity_statement.specs.Signed.{statement_of}
 use Rattle.resolve_reply.specs.declared.issuers.Issuer.{Issuer}
@@ -10,7 +10,6 @@ use Rattle.resolve_search.specs.declared.round.FoundChain.{FoundChain}
 use Rattle.resolve_search.specs.declared.round.RoundEnd.{RoundEnd}
 use Rattle.resolve_search.specs.Turning.{IsChain, query_at}
 use Rattle.fed_resolver.specs.Going.{HasIssuer, HasRounds, KeepsBy, first_text}
-use Rattle.fed_resolver.specs.Searches.{said_in}
 use Rattle.fed_resolver.proofs.EndTexts.{Says, first-says}
 use Rattle.fed_resolver.proofs.WholeLaws.{round-last, said-none}
 

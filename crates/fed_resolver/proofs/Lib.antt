@@ -1,25 +1,25 @@
-mod AnswerLaws
-mod AnsweredLaws
-mod BeginLaws
-mod CauseLaws
-mod ChainTexts
-mod CourseLaws
-mod ElementLaws
-mod EndTexts
-mod IssuerLaws
-mod KeptLaws
-mod MarkCounts
-mod PartLaws
-mod ReadLaws
-mod ReplyLaws
-mod ResultLaws
-mod SampleLaws
-mod SearchLaws
-mod ShelfLaws
-mod SpeakLaws
-mod StretchLaws
-mod TickLaws
-mod ToldLaws
-mod WebLaws
-mod WholeLaws
-mod WorldLaws
+pub mod AnswerLaws
+pub mod AnsweredLaws
+pub mod BeginLaws
+pub mod CauseLaws
+pub mod ChainTexts
+pub mod CourseLaws
+pub mod ElementLaws
+pub mod EndTexts
+pub mod IssuerLaws
+pub mod KeptLaws
+pub mod MarkCounts
+pub mod PartLaws
+pub mod ReadLaws
+pub mod ReplyLaws
+pub mod ResultLaws
+pub mod SampleLaws
+pub mod SearchLaws
+pub mod ShelfLaws
+pub mod SpeakLaws
+pub mod StretchLaws
+pub mod TickLaws
+pub mod ToldLaws
+pub mod WebLaws
+pub mod WholeLaws
+pub mod WorldLaws

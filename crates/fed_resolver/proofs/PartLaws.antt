@@ -1,12 +1,11 @@
 -- A trace that is told whole is told in part.
-use Rattle.std.proofs.Common.{◌≡◌, ◌⊎◌, ℕ, List, [], ◌∷◌, ◌++◌, map, filter_map, Bool, true, false, cond, Option, Some, None, refl, sym, ap, ◌∙◌, subst, inl, inr, ⊎_elim, zip}
-use Rattle.std.specs.List.{cons_option}
+use Rattle.std.proofs.Common.{◌≡◌, ◌⊎◌, ℕ, List, [], ◌∷◌, ◌++◌, map, Bool, true, false, cond, Some, None, refl, sym, ap, ◌∙◌, subst, inl, inr, ⊎_elim, zip}
 use Rattle.std.specs.Option.{option_and_then}
 use Rattle.jwk_set.specs.declared.jwk.Jwk.{Jwk}
 use Rattle.entity_statement.specs.Claims.{Claims, Identifier}
 use Rattle.entity_statement.specs.Use.{current_at}
 use Rattle.chain_climb.specs.Elements.{Among}
-use Rattle.chain_climb.proofs.Elements.{among-flat_map, among-left, among-right, among-split, flat_map-among}
+use Rattle.chain_climb.proofs.Elements.{among-flat_map, among-split, flat_map-among}
 use Rattle.resolve_round.proofs.Elements.{among-filter_map, among-map, filter-among, map-among}
 use Rattle.statement_shelf.specs.declared.calls.ShelfCall.{ShelfCall}
 use Rattle.statement_shelf.specs.declared.calls.ShelfCall.TheVariants.{Look}
@@ -15,6 +14,7 @@ use Rattle.statement_shelf.specs.declared.calls.BookCall.{BookCall}
 use Rattle.statement_shelf.specs.declared.calls.BookCall.TheVariants.{Read}
 use Rattle.statement_shelf.specs.declared.calls.BookReply.{BookReply}
 use Rattle.statement_shelf.specs.declared.calls.BookReply.TheVariants.{Keys, At, Rotated, Behind, NoAnchor, Memory}
+use Rattle.fed_ports.specs.declared.page.Page.{Page}
 use Rattle.chain_climb.specs.Climbs.{Need}
 use Rattle.resolve_round.specs.declared.trace.Ask.{Ask}
 use Rattle.resolve_round.specs.declared.trace.Event.TheVariants.{Shelf, Book}
@@ -28,6 +28,7 @@ use Rattle.resolve_round.specs.Told.{HitsAreLooks, LooksAreNow, PutsAreFetched}
 use Rattle.fed_resolver.specs.Told.{BeginsSo, GaveKeys, GaveSome, SearchesAfter, Situation, ToldInPart, ToldWhole, query_of}
 use Rattle.resolve_round.specs.Traces.{Kept, ShelfEvent, kept_of, kept_text, kept_until, look_at_end, look_for, look_in, looks_of, puts_in, puts_of}
 use Rattle.resolve_round.proofs.HintLaws.{kept-some, then-some}
+use Rattle.fed_resolver.proofs.CourseLaws.{did-looks, did-puts}
 use Rattle.fed_resolver.proofs.ToldLaws.{hit-looked}
 use Rattle.fed_resolver.proofs.WebLaws.{counted-among}
 
@@ -41,6 +42,42 @@ zip-asks (page ∷ needs) (ask ∷ asks) x same (inl one) =
 zip-asks (page ∷ needs) (ask ∷ asks) x same (inr among) =
     let tail : map url_of asks ≡ map need_url needs = cc same in
     let rest = zip-asks needs asks x tail among in (inr rest.0, rest.1)
+
+text-kept : (t age : ℕ) (page : Need) (text : List ℕ) (kept : Kept) → kept_text t age page text ≡ Some kept → (kept.url ≡ page.url) × (kept.text ≡ text)
+text-kept t age page text kept is =
+    let s = then-some (λ (c : Claims). cond (current_at c.iat c.exp t) (Some (record { url = page.url; text = text; until = kept_until t age c.exp })) None) (named_statement page text) kept is in
+    let one = kept-some (current_at (s.0).iat (s.0).exp t) (record { url = page.url; text = text; until = kept_until t age (s.0).exp }) kept s.2 in
+    (ap (λ (k : Kept). k.url) (sym one), ap (λ (k : Kept). k.text) (sym one))
+
+-- a round asked the link for the page, and got this document
+pub record PutFetched (t age : ℕ) (course : Course) (kept : Kept) : Type 0 where
+  pub ask : Ask
+  pub asked : Among ask course.search.asks
+  pub url : ask.url ≡ kept.url
+  pub page : Page
+  pub fetches : fetched ask.got ≡ Some page
+  pub document : document_in page ≡ Some kept.text
+  pub need : Need
+  pub keeps : kept_text t age need kept.text ≡ Some kept
+
+-- what a round put is a page that it fetched
+pub put-fetched : (t age : ℕ) (query : Query) (course : Course) → Round query course → (kept : Kept) → Among kept (puts_of t age course) → PutFetched t age course kept
+put-fetched t age query course round kept among =
+    let pair = filter-among (kept_of t age) kept (asked course) among in
+    let ask = zip-asks course.needs course.search.asks pair.0 round.asks pair.1 in
+    let text = then-some (kept_text t age pair.0.0) (option_and_then document_in (fetched pair.0.1.got)) kept pair.2 in
+    let page = then-some document_in (fetched pair.0.1.got) text.0 text.1 in
+    let same = text-kept t age pair.0.0 text.0 kept text.2 in
+    record {
+      ask = pair.0.1;
+      asked = ask.0;
+      url = ask.1 ∙ sym same.0;
+      page = page.0;
+      fetches = page.1;
+      document = page.2 ∙ ap Some (sym same.1);
+      need = pair.0.0;
+      keeps = subst (λ x. kept_text t age pair.0.0 x ≡ Some kept) (sym same.1) text.2;
+    }
 
 -- ---- rounds
 
@@ -112,12 +149,6 @@ look-moment t course true url m r among =
     (among-split (Look url m, r) (map (look_for t) course.search.asks) (look_at_end t course.stop) among)
 look-moment t course false url m r among = absurd among
 
-text-kept : (t age : ℕ) (page : Need) (text : List ℕ) (kept : Kept) → kept_text t age page text ≡ Some kept → (kept.url ≡ page.url) × (kept.text ≡ text)
-text-kept t age page text kept is =
-    let s = then-some (λ (c : Claims). cond (current_at c.iat c.exp t) (Some (record { url = page.url; text = text; until = kept_until t age c.exp })) None) (named_statement page text) kept is in
-    let one = kept-some (current_at (s.0).iat (s.0).exp t) (record { url = page.url; text = text; until = kept_until t age (s.0).exp }) kept s.2 in
-    (ap (λ (k : Kept). k.url) (sym one), ap (λ (k : Kept). k.text) (sym one))
-
 module _ (here : Situation) (trace : Trace) (told : ToldWhole here trace) where
   abbrev courses : List Course
   courses = told.base.leaf ++ told.base.others
@@ -140,7 +171,7 @@ module _ (here : Situation) (trace : Trace) (told : ToldWhole here trace) where
   looks : LooksAreNow trace
   looks url moment r among =
       let there = among-filter_map look_in (Shelf (Look url moment) r) (Look url moment, r) refl told.base.work (in-work (Look url moment) r among) in
-      let from = flat_map-among (looks_of here.moment) (Look url moment, r) courses (subst (Among (Look url moment, r)) told.looks there) in
+      let from = flat_map-among (looks_of here.moment) (Look url moment, r) courses (subst (Among (Look url moment, r)) (did-looks here.moment here.age courses told.base.work told.did) there) in
       look-moment here.moment from.0 (from.0).looks url moment r from.2 ∙ sym told.base.moment
 
   hits : HitsAreLooks trace
@@ -157,21 +188,11 @@ module _ (here : Situation) (trace : Trace) (told : ToldWhole here trace) where
   puts : PutsAreFetched here.age trace
   puts kept among =
       let there : Among kept (puts_in told.base.work) = subst (λ es. Among kept (puts_in es)) told.base.begins among in
-      let from = flat_map-among (puts_of here.moment here.age) kept courses (subst (Among kept) told.puts there) in
-      let pair = filter-among (kept_of here.moment here.age) kept (asked from.0) from.2 in
-      let is = one from.0 from.1 in
-      let ask = zip-asks (from.0).needs (from.0).search.asks pair.0 is.round.asks pair.1 in
-      let text = then-some (kept_text here.moment here.age pair.0.0) (option_and_then document_in (fetched pair.0.1.got)) kept pair.2 in
-      let page = then-some document_in (fetched pair.0.1.got) text.0 text.1 in
-      let same = text-kept here.moment here.age pair.0.0 text.0 kept text.2 in
+      let from = flat_map-among (puts_of here.moment here.age) kept courses (subst (Among kept) (did-puts here.moment here.age courses told.base.work told.did) there) in
+      let put = put-fetched here.moment here.age (one from.0 from.1).query from.0 (one from.0 from.1).round kept from.2 in
       let search : Among (from.0).search trace.searches = subst (Among (from.0).search) (sym told.base.searches) (among-map search_of from.0 courses from.1) in (
-        (
-          pair.0.1,
-          among-flat_map (λ (s : Search). s.asks) (from.0).search pair.0.1 trace.searches search ask.0,
-          ask.1 ∙ sym same.0,
-          (page.0, page.1, page.2 ∙ ap Some (sym same.1)),
-        ),
-        (pair.0.0, subst (λ t. kept_text t here.age pair.0.0 kept.text ≡ Some kept) (sym told.base.moment) (subst (λ x. kept_text here.moment here.age pair.0.0 x ≡ Some kept) (sym same.1) text.2)),
+        (put.ask, among-flat_map (λ (s : Search). s.asks) (from.0).search put.ask trace.searches search put.asked, put.url, (put.page, put.fetches, put.document)),
+        (put.need, subst (λ t. kept_text t here.age put.need kept.text ≡ Some kept) (sym told.base.moment) put.keeps),
       )
 
   -- a trace that is told whole is told in part

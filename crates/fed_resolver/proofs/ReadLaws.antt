@@ -1,8 +1,8 @@
 -- What the one reading of the book replies, and what a pass gains by it.
-use Rattle.std.proofs.Common.{◌≡◌, ◌≤◌, ◌+◌, ℕ, zero, suc, List, [], ◌∷◌, ◌++◌, length, map, Some, refl, sym, ap, ◌∙◌, subst, ⊎_elim, le_trans, arith}
+use Rattle.std.proofs.Common.{◌≡◌, ◌≤◌, ℕ, zero, suc, List, [], ◌∷◌, ◌++◌, length, map, Some, refl, sym, ap, subst, ⊎_elim, le_trans, arith}
 use Rattle.std.specs.Prelude.{All, slice_get}
 use Rattle.jwk_set.specs.declared.set.JwkSet.{JwkSet}
-use Rattle.turn_log.specs.Runs.{Account, Adds, IsLegal, Runs, call_limit}
+use Rattle.turn_log.specs.Runs.{Account, Adds, IsLegal, Runs}
 use Rattle.turn_log.specs.Groups.{AddsOnBook}
 use Rattle.turn_log.proofs.Gains.{adds-none}
 use Rattle.chain_climb.specs.Elements.{Among}
@@ -17,7 +17,7 @@ use Rattle.statement_shelf.proofs.BookRuns.{epochs-rise}
 use Rattle.resolve_round.specs.declared.trace.Event.{Event}
 use Rattle.resolve_round.specs.declared.trace.Event.TheVariants as event
 use Rattle.resolve_round.specs.declared.trace.Trace.{Trace}
-use Rattle.resolve_pages.specs.Acts.{GainsEvents, on_book, on_part}
+use Rattle.resolve_pages.specs.Acts.{GainsEvents}
 use Rattle.fed_resolver.specs.Calls.{IsFresh}
 use Rattle.fed_resolver.specs.Going.{CanAnswer}
 

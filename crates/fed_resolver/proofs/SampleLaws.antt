@@ -30,7 +30,7 @@ use Rattle.resolve_reply.specs.declared.signer.Signer.{Signer}
 use Rattle.resolve_round.specs.declared.trace.Trace.{Trace}
 use Rattle.resolve_round.specs.Courses.{Course, pages_of}
 use Rattle.resolve_reply.specs.Marks.{each_named, looked_at, searched_issuers}
-use Rattle.fed_resolver.specs.Searches.{Ends, ends_of}
+use Rattle.fed_resolver.specs.Searches.{ends_of}
 use Rattle.fed_resolver.specs.Outcomes.{IsWhole}
 use Rattle.resolve_round.specs.Pages.{HasValidChain, Query, chain_of, findings, good_text}
 use Rattle.resolve_round.specs.Rounds.{Round, good_in, pages_in}
@@ -92,8 +92,7 @@ refused-whole here signer epoch set room =
           rounds = record { rounds = (refused-round query room, refl, inr refl); last = refused_course here.request.sub; is_last = refl; issuers = refl };
           checks = record { each = λ check among. absurd among; once = tt };
         };
-        looks = refl;
-        puts = refl;
+        did = (Shelf (Look (well_known_of here.request.sub) here.moment) reply.Miss ∷ [], [], refl, record { looks = refl; puts = refl }, refl);
         proved = λ check among. absurd among;
         proves = λ url seal r among. ⊎_elim
             (λ same. absurd (no_prove-book url seal r (Read here.request.anchor) (Keys epoch set) same))
@@ -120,8 +119,7 @@ unlisted-whole here signer set empty = record {
       rounds = (refl, refl);
       checks = record { each = λ check among. absurd among; once = tt };
     };
-    looks = refl;
-    puts = refl;
+    did = refl;
     proved = λ check among. absurd among;
     proves = λ url seal r among. ⊎_elim (λ same. absurd (no_prove-book url seal r (Read here.request.anchor) NoAnchor same)) (λ none. absurd none) among;
   };
@@ -277,8 +275,7 @@ module _ (request : ResolveRequest) (age moment : ℕ) (signer : Signer) (epoch 
         };
         checks = record { each = own-check; once = (λ none. none, tt) };
       };
-      looks = refl;
-      puts = rw puts refl;
+      did = (self_work anchor here.moment self.text self.until self.public, [], refl, record { looks = refl; puts = rw puts refl }, refl);
       proved = λ check among good. subst (λ (c : Check). IsProved trace (record { text = c.text; public = c.public })) (⊎_elim (λ one. sym one) (λ none. absurd none) among) own-proved;
       proves = λ url seal r among. inl (only-prove url seal r among);
     };

@@ -3,7 +3,6 @@ use Rattle.std.proofs.Common.{◌≡◌, ◌≤◌, ◌<◌, ◌+◌, ◌⊎◌,
 use Rattle.std.proofs.lemmas.List.Concat.{flat_map-append}
 use Rattle.std.proofs.lemmas.List.Sums.{sum_by-append, sum_by-cons}
 use Rattle.chain_check.specs.Counts.{counted}
-use Rattle.chain_climb.specs.Elements.{Among}
 use Rattle.chain_climb.proofs.Elements.{among-split}
 use Rattle.statement_shelf.specs.Passes.{CommonsKnown}
 use Rattle.resolve_round.specs.declared.trace.Ask.{Ask}

@@ -1,5 +1,5 @@
 -- What the ledger and the link count in a whole call.
-use Rattle.std.proofs.Common.{◌≡◌, ◌≤◌, ◌<◌, ◌+◌, ◌⊎◌, ℕ, zero, suc, List, [], ◌∷◌, ◌++◌, length, Bool, true, false, Option, Some, None, Result, Ok, Err, IfSome, refl, sym, ap, ap₂, ◌∙◌, subst, inl, inr, ⊎_elim, length-append, count_by, cond, arith}
+use Rattle.std.proofs.Common.{◌≡◌, ◌≤◌, ◌<◌, ◌+◌, ℕ, zero, suc, List, [], ◌∷◌, ◌++◌, length, Bool, Option, Some, None, Result, Ok, Err, refl, sym, ap, ap₂, ◌∙◌, subst, inl, inr, length-append, count_by, cond, arith}
 use Rattle.std.proofs.lemmas.List.Sums.{sum_by-append, sum_by-cons}
 use Rattle.fed_base.specs.Counts.{next_count}
 use Rattle.fed_ports.specs.Webs.{Web}
@@ -8,7 +8,6 @@ use Rattle.trust_mark.specs.Counts.{CountsAtMost, counted}
 use Rattle.trust_mark.proofs.CountLaws.{counted-plus}
 use Rattle.chain_climb.specs.Elements.{Among}
 use Rattle.resolve_reply.specs.declared.reply.Reply.{Reply}
-use Rattle.resolve_round.specs.declared.trace.Ask.{Ask}
 use Rattle.resolve_round.specs.declared.trace.Check.{Check}
 use Rattle.resolve_round.specs.declared.trace.Search.{Search}
 use Rattle.resolve_round.specs.declared.trace.Trace.{Trace}
@@ -22,7 +21,6 @@ use Rattle.resolve_pages.specs.Walking.{GaveEach, Giving, Stumbled}
 use Rattle.fed_resolver.specs.declared.outcome.Refusal.{Refusal}
 use Rattle.fed_resolver.specs.declared.outcome.Refusal.TheVariants.{NoAnchor, NotFound, PolicyOnly, NoChain, Unavailable, Budget, Worn, Memory}
 use Rattle.fed_resolver.specs.Calls.{GaveAll}
-use Rattle.fed_resolver.specs.Completeness.{FetchedFrom}
 use Rattle.fed_resolver.specs.Outcomes.{IsAnswered}
 use Rattle.fed_resolver.specs.Refusals.{GoesBy, WalksBy, broken_off, outcome_of}
 use Rattle.fed_resolver.specs.Stretches.{Goes, GoesTo, Moment, StumbledRounds, UsesRounds, WalkedRounds}

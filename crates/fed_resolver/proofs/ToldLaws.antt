@@ -14,8 +14,10 @@ use Rattle.resolve_round.specs.Traces.{look_at_end, look_for, looks_of}
 use Rattle.resolve_round.proofs.Elements.{among-map}
 use Rattle.resolve_round.proofs.ToldLaws.{look-there}
 use Rattle.fed_resolver.specs.Told.{Situation, ToldWhole}
+use Rattle.fed_resolver.proofs.CourseLaws.{did-looks}
 
-looked-for : (t : ℕ) (course : Course) (ask : Ask) → course.looks ≡ true → Among ask course.search.asks → Among (look_for t ask) (looks_of t course)
+-- in a round that looks, each ask has its Look
+pub looked-for : (t : ℕ) (course : Course) (ask : Ask) → course.looks ≡ true → Among ask course.search.asks → Among (look_for t ask) (looks_of t course)
 looked-for t course ask looks among = rw looks (among-left (look_for t ask) (map (look_for t) course.search.asks) (look_at_end t course.stop) (among-map (look_for t) ask course.search.asks among))
 
 -- what was hit in a first round stands beside a Look that replied so
@@ -26,5 +28,6 @@ hit-looked here trace told course there looks url proven among =
     let ask : Ask = record { url = url; got = Hit proven } in
     let wanted : Among (look_for here.moment ask) (flat_map (looks_of here.moment) (told.base.leaf ++ told.base.others)) =
     among-flat_map (looks_of here.moment) course (look_for here.moment ask) (told.base.leaf ++ told.base.others) there (looked-for here.moment course ask looks among) in
-    let made : Among (Shelf (Look url here.moment) (reply.Hit proven)) told.base.work = look-there told.base.work (look_for here.moment ask) (subst (Among (look_for here.moment ask)) (sym told.looks) wanted) in
+    let made : Among (Shelf (Look url here.moment) (reply.Hit proven)) told.base.work = look-there told.base.work (look_for here.moment ask)
+    (subst (Among (look_for here.moment ask)) (sym (did-looks here.moment here.age (told.base.leaf ++ told.base.others) told.base.work told.did)) wanted) in
     subst (Among (Shelf (Look url here.moment) (reply.Hit proven))) (sym told.base.begins) (inr made)

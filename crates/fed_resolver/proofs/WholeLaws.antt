@@ -1,9 +1,8 @@
 -- A trace that is told whole, from what its rounds have added.
-use Rattle.std.proofs.Common.{◌≡◌, ◌+◌, ◌-◌, ℕ, zero, suc, List, [], ◌∷◌, ◌++◌, length, map, flat_map, Option, Some, None, Result, Ok, Err, refl, sym, ap, ap₂, ◌∙◌, subst, inl, inr, ⊎_elim, append-nil, append_assoc, arith}
-use Rattle.std.specs.Prelude.{option_and_then, option_map, slice_get}
+use Rattle.std.proofs.Common.{◌≡◌, ℕ, zero, suc, List, [], ◌∷◌, ◌++◌, length, map, Option, Some, None, Result, Ok, Err, refl, sym, ap, ap₂, ◌∙◌, subst, ⊎_elim, append-nil, arith}
+use Rattle.std.specs.Prelude.{slice_get}
 use Rattle.std.specs.Option.{option_map_or}
-use Rattle.std.proofs.lemmas.List.{map-append}
-use Rattle.std.proofs.lemmas.List.Concat.{flat_map-append}
+use Rattle.std.proofs.lemmas.List.{append_cancel_left, map-append}
 use Rattle.jwk_set.specs.declared.set.JwkSet.{JwkSet}
 use Rattle.entity_statement.specs.Claims.{Claims, Identifier}
 use Rattle.trust_mark.specs.Counts.{counted}
@@ -25,22 +24,22 @@ use Rattle.resolve_round.specs.declared.trace.Search.{Search}
 use Rattle.resolve_round.specs.declared.trace.Trace.{Trace}
 use Rattle.resolve_round.specs.Courses.{Course, Stop, finished, found, out_of_calls, out_of_paths, search_of}
 use Rattle.resolve_round.specs.Pages.{Query}
-use Rattle.resolve_round.specs.Rounds.{AreRounds, AreRoundsForEach, EndsAs, FoundPath, IsLast, Round, last_course}
+use Rattle.resolve_round.specs.Rounds.{AreRounds, AreRoundsForEach, EndsAs, FoundPath, IsLast, Round}
 use Rattle.resolve_round.specs.Told.{IsTrueSoFar, ProvesGood}
-use Rattle.resolve_round.specs.Traces.{IsWork, looks_in, looks_of, puts_in, puts_of}
+use Rattle.resolve_round.specs.Traces.{IsWork}
 use Rattle.resolve_search.specs.declared.round.RoundEnd.{RoundEnd}
 use Rattle.resolve_search.specs.Turning.{query_at}
 use Rattle.fed_resolver.specs.declared.outcome.Refusal.{Refusal}
 use Rattle.fed_resolver.specs.declared.outcome.Refusal.TheVariants.{NoAnchor, NotFound, PolicyOnly, NoChain, Unavailable, Budget, Worn, Memory}
 use Rattle.fed_resolver.specs.Calls.{WornOnly}
-use Rattle.fed_resolver.specs.Going.{AddsCourses, HasLeafRounds, HasRounds, IsBegun, faults_in, last_search, usual_aim}
+use Rattle.fed_resolver.specs.Going.{AddsCourses, HasLeafRounds, HasRounds, IsBegun, last_search, usual_aim}
 use Rattle.fed_resolver.specs.Outcomes.{IsAnswered, IsResult, IsWhole, asked_query}
 use Rattle.fed_resolver.specs.Refusals.{WholeBy, outcome_of, refused_by}
-use Rattle.fed_resolver.specs.Searches.{Ends, both_ends, ends_of, if_found, issuers_after, marks_tested, said_in, tests_after}
+use Rattle.fed_resolver.specs.Searches.{Ends, both_ends, ends_of, if_found, issuers_after, marks_tested, said_in}
 use Rattle.fed_resolver.specs.Stretches.{SameKeys}
-use Rattle.fed_resolver.specs.Told.{Situation, ToldSearches, ToldWhole, query_of, situation_of, usual}
+use Rattle.fed_resolver.specs.Told.{DidRounds, Situation, ToldSearches, ToldWhole, query_of, situation_of, usual}
 use Rattle.fed_resolver.specs.Uses.{CountsAll, CountsTests}
-use Rattle.fed_resolver.proofs.CourseLaws.{adds-none}
+use Rattle.fed_resolver.proofs.CourseLaws.{adds-none, did-then}
 
 -- ---- the last round
 
@@ -79,10 +78,8 @@ module _ (request : ResolveRequest) (age t : ℕ) (old new : Trace) (begun : IsB
     works = works;
     leaf = has.courses;
     searches = has.added.searches ∙ ap (λ l. l ++ map search_of has.courses) begun.searches;
-    looks = sym (ap looks_in begins-with) ∙ has.added.looks ∙ ap (λ l. l ++ flat_map (looks_of old.moment) has.courses) (ap looks_in begun.events)
-        ∙ ap (λ m. flat_map (looks_of m) has.courses) begun.moment;
-    puts = sym (ap puts_in begins-with) ∙ has.added.puts ∙ ap (λ l. l ++ flat_map (puts_of old.moment age) has.courses) (ap puts_in begun.events)
-        ∙ ap (λ m. flat_map (puts_of m age) has.courses) begun.moment;
+    did = subst (DidRounds t age has.courses) (append_cancel_left old.events has.added.more more (sym has.added.events ∙ events))
+        (subst (λ m. DidRounds m age has.courses has.added.more) begun.moment has.added.did);
     rounds = subst (λ q. AreRounds q has.courses) leaf-query has.are;
     last = has.last;
     is_last = has.is_last;
@@ -101,15 +98,10 @@ module _ (here : Situation) (mid new : Trace) (leaf : HasLeafRounds here mid) (s
   pub whole-query : asked_query here mid ≡ asked_query here new
   whole-query = ap (λ (k : JwkSet). query_of here k.keys) (sym same.keys)
 
-  pub whole-looks : looks_in (leaf.work ++ more) ≡ flat_map (looks_of here.moment) (leaf.leaf ++ others)
-  whole-looks =
-      sym (ap looks_in whole-begins) ∙ added.looks ∙ ap (λ l. l ++ flat_map (looks_of mid.moment) others) (ap looks_in leaf.begins ∙ leaf.looks)
-      ∙ ap (λ m. flat_map (looks_of here.moment) leaf.leaf ++ flat_map (looks_of m) others) leaf.moment ∙ sym (flat_map-append (looks_of here.moment) leaf.leaf others)
-
-  pub whole-puts : puts_in (leaf.work ++ more) ≡ flat_map (puts_of here.moment here.age) (leaf.leaf ++ others)
-  whole-puts =
-      sym (ap puts_in whole-begins) ∙ added.puts ∙ ap (λ l. l ++ flat_map (puts_of mid.moment here.age) others) (ap puts_in leaf.begins ∙ leaf.puts)
-      ∙ ap (λ m. flat_map (puts_of here.moment here.age) leaf.leaf ++ flat_map (puts_of m here.age) others) leaf.moment ∙ sym (flat_map-append (puts_of here.moment here.age) leaf.leaf others)
+  pub whole-did : DidRounds here.moment here.age (leaf.leaf ++ others) (leaf.work ++ more)
+  whole-did = did-then here.moment here.age leaf.leaf others leaf.work more leaf.did
+      (subst (DidRounds here.moment here.age others) (append_cancel_left mid.events added.more more (sym added.events ∙ events))
+      (subst (λ m. DidRounds m here.age others added.more) leaf.moment added.did))
 
   abbrev whole_base : ToldSearches here new
   whole_base = record {
@@ -132,7 +124,7 @@ module _ (here : Situation) (mid new : Trace) (leaf : HasLeafRounds here mid) (s
   }
 
   abbrev pub whole_told : ToldWhole here new
-  whole_told = record { base = whole_base; looks = whole-looks; puts = whole-puts; proved = good; proves = told.proves }
+  whole_told = record { base = whole_base; did = whole-did; proved = good; proves = told.proves }
 
 -- ---- a refusal
 

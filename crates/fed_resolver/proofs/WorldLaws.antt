@@ -1,12 +1,10 @@
 -- In a world each reply carries a valid chain, under the keys that its anchor had at the session's last Read.
 use Rattle.std.proofs.Common.{◌≡◌, ◌<◌, ◌+◌, ◌⊎◌, ℕ, List, [], ◌∷◌, ◌++◌, length, Bool, true, false, cond, Some, None, refl, sym, ap, ◌∙◌, subst, inl, inr, append_assoc, eq-eqb, arith}
 use Rattle.std.specs.Prelude.{nat_eq, slice_index_or, IfSome}
-use Rattle.std.specs.List.{filter_map}
 use Rattle.std.proofs.lemmas.List.Elements.{filter_map-append}
 use Rattle.fed_base.specs.Places.{HoldsBelow}
 use Rattle.jwk_set.specs.declared.jwk.Jwk.{Jwk}
 use Rattle.sealed.specs.Seals.{IsSealed, IsSealedBy, Pair, pair_of}
-use Rattle.entity_statement.specs.Claims.{Identifier}
 use Rattle.entity_statement.specs.Signed.{statement_of}
 use Rattle.turn_log.specs.Runs.{Runs}
 use Rattle.statement_shelf.specs.declared.calls.AnchorKeys.{AnchorKeys}

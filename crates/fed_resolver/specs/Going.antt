@@ -1,5 +1,5 @@
 -- What holds of a call between its rounds, and what its rounds have added.
-use Rattle.std.specs.Prelude.{◌≡◌, ◌⊎◌, ◌-◌, ℕ, List, [], ◌∷◌, ◌++◌, length, map, flat_map, nat_eq, slice_get, Bool, true, ◌||◌, is_some, Option, Some, None, Result, Ok, Err}
+use Rattle.std.specs.Prelude.{◌≡◌, ◌-◌, ℕ, List, [], ◌∷◌, ◌++◌, length, map, nat_eq, slice_get, Bool, true, ◌||◌, is_some, Option, Some, None, Result, Ok, Err}
 use Rattle.std.specs.Option.{option_map_or}
 use Rattle.jwk_set.specs.declared.set.JwkSet.{JwkSet}
 use Rattle.entity_statement.specs.Claims.{Claims, Identifier}
@@ -21,7 +21,7 @@ use Rattle.resolve_round.specs.declared.trace.Trace.{Trace}
 use Rattle.resolve_round.specs.Courses.{Course, found, search_of}
 use Rattle.resolve_round.specs.Pages.{case_in}
 use Rattle.resolve_round.specs.Rounds.{AreRounds, AreRoundsForEach, EndsAs, IsLast, Round, pages_in}
-use Rattle.resolve_round.specs.Traces.{IsWork, looks_in, looks_of, puts_in, puts_of}
+use Rattle.resolve_round.specs.Traces.{IsWork}
 use Rattle.resolve_pages.specs.declared.aim.Aim.{Aim}
 use Rattle.resolve_search.specs.declared.round.FoundChain.{FoundChain}
 use Rattle.resolve_search.specs.declared.round.RoundEnd.{RoundEnd}
@@ -32,7 +32,7 @@ use Rattle.fed_resolver.specs.declared.texts.Ends.{Ends}
 use Rattle.fed_resolver.specs.declared.outcome.Refusal.TheVariants as refusal
 use Rattle.fed_resolver.specs.Outcomes.{asked_query}
 use Rattle.fed_resolver.specs.Searches.{found_keys, said_in}
-use Rattle.fed_resolver.specs.Told.{GaveSome, Situation, usual}
+use Rattle.fed_resolver.specs.Told.{DidRounds, GaveSome, Situation, usual}
 
 -- ---- the beginning
 
@@ -112,8 +112,9 @@ is_settled end searches = is_some end.chain || nat_eq (hits_in (last_search sear
 -- these rounds were added to the trace, with the calls on the cache that they call for
 pub record AddsCourses (age : ℕ) (courses : List Course) (old new : Trace) : Type 0 where
   pub searches : new.searches ≡ old.searches ++ map search_of courses
-  pub looks : looks_in new.events ≡ looks_in old.events ++ flat_map (looks_of old.moment) courses
-  pub puts : puts_in new.events ≡ puts_in old.events ++ flat_map (puts_of old.moment age) courses
+  pub more : List Event
+  pub events : new.events ≡ old.events ++ more
+  pub did : DidRounds old.moment age courses more
 
 -- the rounds for an entity were added, and the last of them ended so
 pub record HasRounds (aim : Aim) (old new : Trace) (end : RoundEnd) : Type 0 where
@@ -156,8 +157,7 @@ pub record HasLeafRounds (here : Situation) (trace : Trace) : Type 0 where
   pub works : (event : Event) → Among event work → IsWork event
   pub leaf : List Course
   pub searches : trace.searches ≡ map search_of leaf
-  pub looks : looks_in work ≡ flat_map (looks_of here.moment) leaf
-  pub puts : puts_in work ≡ flat_map (puts_of here.moment here.age) leaf
+  pub did : DidRounds here.moment here.age leaf work
   pub rounds : AreRounds (asked_query here trace) leaf
   pub last : Course
   pub is_last : IsLast leaf last

@@ -1,5 +1,5 @@
 -- What a refusal is by how a call's search ended.
-use Rattle.std.specs.Prelude.{◌≡◌, ◌⊎◌, ℕ, zero, suc, List, Result, Ok, Err}
+use Rattle.std.specs.Prelude.{◌⊎◌, ℕ, zero, suc, Result, Err}
 use Rattle.chain_climb.specs.declared.want.End.{End}
 use Rattle.chain_climb.specs.declared.want.End.TheVariants as end
 use Rattle.resolve_pages.specs.declared.halt.Halt.{Halt}

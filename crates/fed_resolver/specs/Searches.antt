@@ -1,8 +1,7 @@
 -- What the rounds for the issuers of a leaf's marks say of these marks (OpenID Federation 1.0 section 7.3).
-use Rattle.std.specs.Prelude.{ℕ, List, [], bytes_eq, Option, Some, None, option_and_then, option_map}
+use Rattle.std.specs.Prelude.{ℕ, List, [], bytes_eq, Option, None, option_and_then, option_map}
 use Rattle.std.specs.List.{filter}
 use Rattle.std.specs.Option.{option_map_or}
-use Rattle.jwk_set.specs.declared.jwk.Jwk.{Jwk}
 use Rattle.entity_statement.specs.Claims.{Claims, Identifier}
 use Rattle.chain_climb.specs.Climbs.{configuration_of}
 use Rattle.resolve_round.specs.Courses.{Course, Stop, finished, found, out_of_calls, out_of_paths}

@@ -1,5 +1,5 @@
 -- What the trace of a call tells: whole, and of a call that ended for want of memory or at a worn object.
-use Rattle.std.specs.Prelude.{◌≡◌, ◌⊎◌, ℕ, List, [], ◌∷◌, ◌++◌, map, flat_map}
+use Rattle.std.specs.Prelude.{◌≡◌, ◌⊎◌, ℕ, List, [], ◌∷◌, ◌++◌, map}
 use Rattle.jwk_set.specs.declared.jwk.Jwk.{Jwk}
 use Rattle.chain_climb.specs.declared.want.Bounds.{Bounds}
 use Rattle.chain_climb.specs.Elements.{Among}
@@ -81,13 +81,24 @@ pub record ToldSearches (here : Situation) (trace : Trace) : Type 0 where
   -- the tests of signatures, each once
   pub checks : AreChecks trace
 
+-- what a round did on the shelf
+pub record DidRound (moment age : ℕ) (course : Course) (events : List Event) : Type 0 where
+  -- each URL of a first round was looked up before anything else, once, and what was hit is what was got; a second round looks nothing up
+  pub looks : looks_in events ≡ looks_of moment course
+  -- each page that is kept was put with its end, and no other
+  pub puts : puts_in events ≡ puts_of moment age course
+
+-- what these rounds did there, one behind the other
+abbrev pub DidRounds : ℕ → ℕ → List Course → List Event → Type 0
+DidRounds moment age [] events = events ≡ []
+DidRounds moment age (course ∷ courses) events =
+    (own : List Event) × (later : List Event) × (events ≡ own ++ later) × DidRound moment age course own × DidRounds moment age courses later
+
 -- the same, and what it tells of the shelf
 pub record ToldWhole (here : Situation) (trace : Trace) : Type 0 where
   pub base : ToldSearches here trace
-  -- each URL of a first round was looked up before anything else, once, and what was hit is what was got; a second round looks nothing up
-  pub looks : looks_in base.work ≡ flat_map (looks_of here.moment) (base.leaf ++ base.others)
-  -- each page that is kept was put with its end, and no other
-  pub puts : puts_in base.work ≡ flat_map (puts_of here.moment here.age) (base.leaf ++ base.others)
+  -- its Looks, Puts and Proves are those of the rounds, round by round
+  pub did : DidRounds here.moment here.age (base.leaf ++ base.others) base.work
   -- each good check was proved, and nothing else than good checks and what hits showed
   pub proved : ProvesGood trace
   pub proves : ProvesAreKnown trace

@@ -34,15 +34,15 @@ use Rattle.resolve_once.specs.Alone.{HitsAreFetched, ResolvesAlone}
 -- ---- calls in a run
 
 -- a call of a run, with those before it
-record IsAnswered (first : Part) (calls : List ShelfEvent) (e : ShelfEvent) : Type 0 where
-  before : List ShelfEvent
-  part : Part
-  next : Part
-  run : Runs ShelfStep first before part
-  step : ShelfStep part e.0 e.1 next
-  inside : (x : ShelfEvent) → Among x before → Among x calls
+pub record IsAnswered (first : Part) (calls : List ShelfEvent) (e : ShelfEvent) : Type 0 where
+  pub before : List ShelfEvent
+  pub part : Part
+  pub next : Part
+  pub run : Runs ShelfStep first before part
+  pub step : ShelfStep part e.0 e.1 next
+  pub inside : (x : ShelfEvent) → Among x before → Among x calls
 
-answered : (calls : List ShelfEvent) (first last : Part) (e : ShelfEvent) → Among e calls → Runs ShelfStep first calls last → IsAnswered first calls e
+pub answered : (calls : List ShelfEvent) (first last : Part) (e : ShelfEvent) → Among e calls → Runs ShelfStep first calls last → IsAnswered first calls e
 answered [] first last e among run = absurd among
 answered (x ∷ calls) first last e (inl same) run = record {
   before = [];
@@ -72,10 +72,10 @@ some-of (Some a) b x is = inl is
 some-same : {X : Type 0} (x y : X) → Some x ≡ Some y → x ≡ y
 some-same x y is = cc is
 
-not-none : {X : Type 0} (x : X) → None ≡ Some x → ⊥
+pub not-none : {X : Type 0} (x : X) → None ≡ Some x → ⊥
 not-none x is = cc is
 
-abbrev put_event : List ℕ → List ℕ → ℕ → ShelfEvent
+abbrev pub put_event : List ℕ → List ℕ → ℕ → ShelfEvent
 put_event url text until = (Put url text until, Done)
 
 put-by : (b : Bool) (url u text t : List ℕ) (until end : ℕ) → (b ≡ true → url ≡ u) → cond {A = Option (List ℕ × ℕ)} b (Some (t, end)) None ≡ Some (text, until) → put_event url text until ≡ put_event u t end
@@ -90,7 +90,7 @@ put-of : (url : List ℕ) (call : ShelfCall) (reply : ShelfReply) (text : List �
 put-of url (Put u t end) Done text until is = put-by (bytes_eq url u) url u text t until end (equal-bytes_eq url u) is
 put-of url call reply text until is = absurd (not-none {X = List ℕ × ℕ} (text, until) is)
 
-put-among : (url : List ℕ) (calls : List ShelfEvent) (text : List ℕ) (until : ℕ) → last_put url calls ≡ Some (text, until) → Among (put_event url text until) calls
+pub put-among : (url : List ℕ) (calls : List ShelfEvent) (text : List ℕ) (until : ℕ) → last_put url calls ≡ Some (text, until) → Among (put_event url text until) calls
 put-among url [] text until is = not-none {X = List ℕ × ℕ} (text, until) is
 put-among url ((call, reply) ∷ calls) text until is =
     ⊎_elim
@@ -101,12 +101,12 @@ put-among url ((call, reply) ∷ calls) text until is =
 -- ---- calls of events
 
 module _ {E F : Type 0} (on : E → List F) where
-  calls-among : (e : E) (f : F) (events : List E) → Among e events → Among f (on e) → Among f (calls_of on events)
+  pub calls-among : (e : E) (f : F) (events : List E) → Among e events → Among f (on e) → Among f (calls_of on events)
   calls-among e f [] among here = absurd among
   calls-among e f (x ∷ events) (inl same) here = among-left f (on x) (calls_of on events) (subst (λ y. Among f (on y)) same here)
   calls-among e f (x ∷ events) (inr among) here = among-right f (on x) (calls_of on events) (calls-among e f events among here)
 
-  among-calls : (f : F) (events : List E) → Among f (calls_of on events) → (e : E) × Among e events × Among f (on e)
+  pub among-calls : (f : F) (events : List E) → Among f (calls_of on events) → (e : E) × Among e events × Among f (on e)
   among-calls f [] among = absurd among
   among-calls f (x ∷ events) among =
       ⊎_elim
@@ -115,7 +115,7 @@ module _ {E F : Type 0} (on : E → List F) where
       (among-split f (on x) (calls_of on events) among)
 
 -- a Look is told on its URL's part
-look-there : (url : List ℕ) (e : ShelfEvent) → Among e (told_there (part_of url) url e)
+pub look-there : (url : List ℕ) (e : ShelfEvent) → Among e (told_there (part_of url) url e)
 look-there url e = subst (λ b. Among e (cond b (e ∷ []) [])) (sym (eq-eqb (part_of url) (part_of url) refl)) (inl refl)
 
 one-of : (b : Bool) (f x : ShelfEvent) → Among f (cond b (x ∷ []) []) → f ≡ x
@@ -124,7 +124,7 @@ one-of true f x (inr none) = absurd none
 one-of false f x none = absurd none
 
 -- what stands as a Put on a part is one of the events
-put-told : (p : ℕ) (event : Event) (url text : List ℕ) (until : ℕ) → Among (put_event url text until) (on_part p event)
+pub put-told : (p : ℕ) (event : Event) (url text : List ℕ) (until : ℕ) → Among (put_event url text until) (on_part p event)
     → put_in event ≡ Some (record { url = url; text = text; until = until })
 put-told p (Shelf (Look u m) r) url text until among =
     ap (λ (x : ShelfEvent). put_in (Shelf x.0 x.1)) (sym (one-of (nat_eq (part_of u) p) (put_event url text until) (Look u m, r) among))
@@ -152,7 +152,7 @@ told-part law here signer outcome (Err Memory) tells = tells
 
 module _ (here : Situation) (signer : Signer) (anchors : List AnchorKeys) (outcome : Outcome) (alone : ResolvesAlone here signer anchors outcome) where
   -- the calls that its trace tells of a part are legal from the empty part on
-  legal-part : (p : ℕ) → p < part_count → IsLegal ShelfStep [] (calls_of (on_part p) outcome.trace.events)
+  pub legal-part : (p : ℕ) → p < part_count → IsLegal ShelfStep [] (calls_of (on_part p) outcome.trace.events)
   legal-part p less = subst (IsLegal ShelfStep []) (alone.all.parts p) (alone.history.parts_legal p less)
 
   -- what was hit was put before, and what was put was fetched

@@ -6,5 +6,6 @@ mod HitLaws
 mod KeyLaws
 mod OwnCalls
 mod PassLaws
+mod RoundLaws
 mod SignerLaws
 mod WebLaws

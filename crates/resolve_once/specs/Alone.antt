@@ -1,5 +1,5 @@
 -- A call on a cache and a book that nobody else uses, and that were just opened.
-use Rattle.std.specs.Prelude.{◌≡◌, ℕ, List, []}
+use Rattle.std.specs.Prelude.{◌≡◌, ℕ, List, [], ◌∷◌}
 use Rattle.turn_log.specs.Gains.{calls_of}
 use Rattle.turn_log.specs.Groups.{IsHistory}
 use Rattle.turn_log.specs.Passes.{unused}
@@ -13,6 +13,7 @@ use Rattle.resolve_reply.specs.declared.signer.Signer.{Signer}
 use Rattle.resolve_round.specs.declared.trace.Event.{Event}
 use Rattle.resolve_round.specs.declared.trace.Got.TheVariants.{Hit}
 use Rattle.resolve_round.specs.declared.trace.Search.{Search}
+use Rattle.resolve_round.specs.Courses.{Course}
 use Rattle.resolve_round.specs.Told.{FetchedText}
 use Rattle.resolve_round.specs.Traces.{asks_in}
 use Rattle.resolve_pages.specs.Acts.{on_book, on_part}
@@ -42,6 +43,12 @@ pub record ResolvesAlone (here : Situation) (signer : Signer) (anchors : List An
   -- book with these anchors
   pub all : HasSeenOnly outcome.trace.events last
   pub history : IsHistory ShelfStep [] BookStep (opened_with anchors) last
+
+-- there is one round, to which the cache gave nothing, or none where the anchor isn't listed
+abbrev pub HasOneRound : List Course → Type 0
+HasOneRound [] = Unit {0}
+HasOneRound (only ∷ []) = only.search.hits ≡ 0
+HasOneRound courses = ⊥
 
 -- each text that the cache gave was fetched by the same call, at the same URL
 abbrev pub HitsAreFetched : List Search → Type 0

@@ -8,10 +8,10 @@ ghost use Rattle.resolve_round.specs.declared.request.ResolveRequest.{ResolveReq
 ghost use Rattle.resolve_round.specs.declared.trace.Search.{Search as AnySearch};
 ghost use Rattle.fed_resolver.specs.declared.outcome.Outcome.{Outcome as AnyOutcome};
 ghost use Rattle.fed_resolver.specs.Completeness.{HitsAgree};
-ghost use Rattle.fed_resolver.specs.Outcomes.{IsAnswered};
+ghost use Rattle.fed_resolver.specs.Outcomes.{IsAnswered, IsWhole};
 ghost use Rattle.fed_resolver.specs.Told.{situation_of};
 ghost use Rattle.fed_resolver.specs.Uses.{SpeaksFor};
-ghost use Rattle.resolve_once.specs.Alone.{HitsAreFetched};
+ghost use Rattle.resolve_once.specs.Alone.{HasOneRound, HitsAreFetched};
 ghost use Rattle.resolve_once.specs.Calls.{Around, IsCallBy};
 ghost use Rattle.resolve_once.specs.Nodes.{signer_of};
 ghost use Rattle.resolve_once.specs.Webs.{ShowsWeb};
@@ -25,6 +25,15 @@ pub fn hits()
 {
     traces();
 }
+
+/// The entity that was asked for has one round, to which the cache gives nothing, since it is empty when that begins; or none, where its
+/// anchor isn't listed. So a call's refusal is the end of this round. It does nothing.
+pub fn one_round()
+    ensures { (node : Node) (resolver : Resolver) (request : AnyRequest) (before now : Around) (outcome : AnyOutcome)
+        → (call : IsCallBy node resolver request before now outcome)
+        → (whole : IsWhole (situation_of request resolver.age now.clock.last) (signer_of node resolver call.seeds) outcome)
+        → HasOneRound whole.told.base.leaf }
+{}
 
 /// Where the network tells its exchanges and doesn't fail, what a call answers speaks of each web that these show, as it would over a link
 /// that tells this web. It does nothing.

@@ -1,4 +1,4 @@
-use Rattle.std.proofs.Common.{◌≡◌, List, [], ◌∷◌, ◌++◌, refl, sym, ap, ◌∙◌}
+use Rattle.std.proofs.Common.{List, [], ◌∷◌, ◌++◌, sym, ap, ◌∙◌}
 use Rattle.turn_log.specs.Groups.{known}
 use Rattle.statement_shelf.specs.declared.calls.BookCall.TheVariants.{Read}
 use Rattle.resolve_round.specs.declared.trace.Event.{Event}

@@ -1,12 +1,9 @@
-use Rattle.std.proofs.Common.{◌≡◌, ℕ, List, [], ◌∷◌, get_or, refl, sym, ap, ◌∙◌, subst, inr, rules}
-use Rattle.std.proofs.lemmas.Result.{err_from_is_err_and}
+use Rattle.std.proofs.Common.{◌≡◌, ℕ, List, [], ◌∷◌, get_or, sym, ap, ◌∙◌, rules}
 use Rattle.statement_shelf.specs.declared.calls.BookCall.{BookCall}
 use Rattle.statement_shelf.specs.declared.calls.BookCall.TheVariants.{Read}
 use Rattle.statement_shelf.specs.declared.calls.BookReply.{BookReply}
-use Rattle.statement_shelf.specs.declared.calls.BookReply.TheVariants.{Keys, Memory}
 use Rattle.resolve_round.specs.declared.trace.Event.{Event}
 use Rattle.resolve_round.specs.declared.trace.Event.TheVariants.{Book}
-use Rattle.fed_resolver.specs.Told.{GaveSome}
 use Rattle.fed_resolver.proofs.book.take_keys.Goals as goal
 
 -- the reply of the one event

@@ -1,14 +1,13 @@
-use Rattle.std.proofs.Common.{◌≡◌, Err, None, Ok, Some, length, refl, sym, ap, ◌∙◌, subst, inl}
+use Rattle.std.proofs.Common.{Err, length, sym, ap, ◌∙◌, subst, inl}
 use Rattle.std.proofs.lemmas.Result.{err_from_is_err_and}
 use Rattle.turn_log.specs.Groups.{known}
 use Rattle.trust_mark.specs.Counts.{counted}
 use Rattle.resolve_round.specs.Told.{IsTrueSoFar}
 use Rattle.resolve_pages.specs.declared.aim.Aim.{Aim}
 use Rattle.resolve_pages.specs.Linking.{link_seen}
-use Rattle.fed_resolver.specs.declared.outcome.Refusal.TheVariants.{Memory}
 use Rattle.fed_resolver.specs.Calls.{WornOnly}
-use Rattle.fed_resolver.specs.Going.{HasRounds, faults_in, last_search, usual_aim}
-use Rattle.fed_resolver.specs.Refusals.{GoesBy, WalksBy, WholeBy, broken_off, outcome_of, refused_by}
+use Rattle.fed_resolver.specs.Going.{HasRounds, faults_in, last_search}
+use Rattle.fed_resolver.specs.Refusals.{GoesBy, WalksBy, WholeBy, outcome_of, refused_by}
 use Rattle.fed_resolver.specs.Stretches.{Goes, GoesTo, moment_at}
 use Rattle.fed_resolver.specs.Told.{situation_of}
 use Rattle.fed_resolver.specs.Uses.{CountsTests}

@@ -1,4 +1,4 @@
-use Rattle.std.proofs.Common.{[], ◌∷◌, ◌++◌, refl, sym, ap, ◌∙◌, subst}
+use Rattle.std.proofs.Common.{[], ◌∷◌, ◌++◌, sym, ap, ◌∙◌, subst}
 use Rattle.fed_resolver.specs.Going.{KeepsBy}
 use Rattle.fed_resolver.proofs.ResultLaws.{ok-on}
 use Rattle.fed_resolver.proofs.issuers.keep_issuer.Goals as goal

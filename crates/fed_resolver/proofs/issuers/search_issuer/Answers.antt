@@ -1,14 +1,11 @@
-use Rattle.std.proofs.Common.{◌≡◌, IsSome, None, Some, refl, sym, ap, ◌∙◌, subst, inl}
+use Rattle.std.proofs.Common.{IsSome, refl, sym, ap, ◌∙◌, subst, inl}
 use Rattle.std.proofs.lemmas.Result.{err_from_is_err_and}
 use Rattle.turn_log.specs.Groups.{known}
 use Rattle.entity_statement.specs.Signed.{statement_of}
 use Rattle.resolve_pages.specs.declared.aim.Aim.{Aim}
 use Rattle.resolve_pages.specs.Linking.{link_seen}
-use Rattle.resolve_pages.proofs.PassLaws.{kept-same}
-use Rattle.resolve_pages.proofs.TestingLaws.{counts-none}
-use Rattle.resolve_round.specs.Told.{IsTrueSoFar}
 use Rattle.fed_resolver.specs.Going.{HasRounds, KeepsBy, first_text, usual_aim}
-use Rattle.fed_resolver.specs.Stretches.{Goes, GoesTo, moment_at}
+use Rattle.fed_resolver.specs.Stretches.{moment_at}
 use Rattle.fed_resolver.proofs.KeptLaws.{issuer-kept, issuer-none, issuer-reads}
 use Rattle.fed_resolver.proofs.StretchLaws.{goes-still, stumbled-still, stumbles-none}
 use Rattle.fed_resolver.proofs.issuers.search_issuer.Goals as goal

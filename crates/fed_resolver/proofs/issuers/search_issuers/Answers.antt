@@ -1,4 +1,4 @@
-use Rattle.std.proofs.Common.{◌≡◌, ◌<◌, [], length, take, get_or, refl, sym, ap, ◌∙◌, subst, inl, rules}
+use Rattle.std.proofs.Common.{◌≡◌, ◌<◌, [], length, take, get_or, refl, sym, ◌∙◌, subst, inl, rules}
 use Rattle.std.proofs.lemmas.Result.{err_from_is_err_and}
 use Rattle.std.proofs.lemmas.List.{take_all}
 use Rattle.turn_log.specs.Groups.{known}

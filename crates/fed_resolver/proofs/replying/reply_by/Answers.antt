@@ -1,9 +1,8 @@
-use Rattle.std.proofs.Common.{rules, ◌≡◌, ◌+◌, IsSome, IsTrue, List, length, ℕ, Some, refl, sym, ap, ◌∙◌, subst, inl}
+use Rattle.std.proofs.Common.{◌≡◌, ◌+◌, IsTrue, length, Some, refl, sym, subst, inl}
 use Rattle.std.specs.List.{list_all}
 use Rattle.std.specs.Str.{is_utf8}
 use Rattle.std.proofs.lemmas.Result.{err_from_is_err_and}
 use Rattle.turn_log.specs.Groups.{known}
-use Rattle.chain_check.specs.Judging.{texts_of}
 use Rattle.entity_statement.specs.Signed.{statement_of}
 use Rattle.entity_statement.specs.Told.{told}
 use Rattle.trust_mark.specs.Counts.{counted}
@@ -18,9 +17,8 @@ use Rattle.fed_resolver.specs.Stretches.{GoesTo, moment_at}
 use Rattle.fed_resolver.specs.Told.{situation_of}
 use Rattle.fed_resolver.proofs.AnswerLaws.{reply-all}
 use Rattle.fed_resolver.proofs.ChainTexts.{valid-utf8}
-use Rattle.fed_resolver.proofs.EndTexts.{first-says, last-says}
 use Rattle.fed_resolver.proofs.MarkCounts.{leaf-tests}
-use Rattle.fed_resolver.proofs.StretchLaws.{goes-still, stumbled-still, stumbles-none}
+use Rattle.fed_resolver.proofs.StretchLaws.{stumbles-none}
 use Rattle.fed_resolver.proofs.TickLaws.{checks-counted, marks-counted, some-counted, some-marks}
 use Rattle.fed_resolver.proofs.replying.reply_by.Goals as goal
 

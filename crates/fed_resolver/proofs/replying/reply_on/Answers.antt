@@ -1,27 +1,15 @@
-use Rattle.std.proofs.Common.{rules, ◌≡◌, ◌+◌, IsSome, IsTrue, List, length, ℕ, Some, refl, sym, ap, ◌∙◌, subst, inl}
-use Rattle.std.specs.List.{list_all}
-use Rattle.std.specs.Str.{is_utf8}
+use Rattle.std.proofs.Common.{IsSome, refl, sym, ap, ◌∙◌, subst, inl}
 use Rattle.std.proofs.lemmas.Result.{err_from_is_err_and}
 use Rattle.turn_log.specs.Groups.{known}
-use Rattle.chain_check.specs.Judging.{texts_of}
 use Rattle.entity_statement.specs.Signed.{statement_of}
-use Rattle.entity_statement.specs.Told.{told}
-use Rattle.trust_mark.specs.Counts.{counted}
-use Rattle.resolve_reply.specs.Marks.{judging_by, looked_at, tests_of_marks}
-use Rattle.resolve_round.specs.Pages.{chain_of}
-use Rattle.resolve_round.specs.Rounds.{pages_in}
-use Rattle.resolve_pages.specs.Acts.{IsHalt}
 use Rattle.resolve_pages.specs.Linking.{link_seen}
 use Rattle.fed_resolver.specs.Going.{first_text, last_text}
 use Rattle.fed_resolver.specs.Outcomes.{asked_query}
-use Rattle.fed_resolver.specs.Stretches.{GoesTo, moment_at}
+use Rattle.fed_resolver.specs.Stretches.{moment_at}
 use Rattle.fed_resolver.specs.Told.{situation_of}
-use Rattle.fed_resolver.proofs.AnswerLaws.{reply-all}
-use Rattle.fed_resolver.proofs.ChainTexts.{valid-utf8}
 use Rattle.fed_resolver.proofs.EndTexts.{first-says, last-says}
-use Rattle.fed_resolver.proofs.MarkCounts.{leaf-tests}
-use Rattle.fed_resolver.proofs.StretchLaws.{goes-still, stumbled-still, stumbles-none}
-use Rattle.fed_resolver.proofs.TickLaws.{checks-counted, marks-counted, some-counted, some-marks}
+use Rattle.fed_resolver.proofs.StretchLaws.{goes-still, stumbled-still}
+use Rattle.fed_resolver.proofs.TickLaws.{some-counted}
 use Rattle.fed_resolver.proofs.replying.reply_on.Goals as goal
 
 pub read_ends-requires-clause-first : goal.read_ends-requires-clause-first

@@ -39,7 +39,8 @@ pub returns-then-is_settled-clause-rounds : goal.returns-then-is_settled-clause-
 returns-then-is_settled-clause-rounds g c =
     let is : is_settled c.in_ok-first.first c.search_round.new.trace.searches ≡ true =
     sym (c.is_settled.ensures ∙ ap (is_settled c.in_ok-first.first) c.as_slice.ensures) ∙ c.if-is_settled.true in
-    rounds-settled c.args.aim.now c.requires.looks c.args.trace.now c.search_round.new.trace c.in_ok-first.first c.in_ok-first.ensures.round is
+    rounds-settled c.args.aim.now c.requires.looks c.args.trace.now c.search_round.new.trace c.in_ok-first.first c.in_ok-first.ensures.round
+    c.in_ok-first.ensures.continues.more c.in_ok-first.ensures.continues.are is
 
 -- ---- another round
 
@@ -91,5 +92,6 @@ returns-clause-rounds g c =
     let is : is_settled c.in_ok-first.first c.search_round.new.trace.searches ≡ false =
     sym (c.is_settled.ensures ∙ ap (is_settled c.in_ok-first.first) c.as_slice.ensures) ∙ c.if-is_settled.false in
     ok-if c.search_round-2.result _ _ c.search_round-2.ensures.round
-    (λ end has. rounds-again c.args.aim.now c.requires.looks c.args.trace.now c.search_round.new.trace c.in_ok-first.first c.in_ok-first.ensures.round (record c.args.aim.now { looks = false }) refl
-    c.in_ok-first.ensures.call c.search_round-2.new.trace end has is)
+    (λ end has. rounds-again c.args.aim.now c.requires.looks c.args.trace.now c.search_round.new.trace c.in_ok-first.first c.in_ok-first.ensures.round
+    c.in_ok-first.ensures.continues.more c.in_ok-first.ensures.continues.are (record c.args.aim.now { looks = false }) refl c.in_ok-first.ensures.call c.search_round-2.new.trace end has
+    c.search_round-2.ensures.continues.more c.search_round-2.ensures.continues.are is)
