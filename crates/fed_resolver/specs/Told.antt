@@ -97,7 +97,7 @@ DidRounds moment age (course ∷ courses) events =
 -- the same, and what it tells of the shelf
 pub record ToldWhole (here : Situation) (trace : Trace) : Type 0 where
   pub base : ToldSearches here trace
-  -- its Looks, Puts and Proves are those of the rounds, round by round
+  -- its work falls into one part for each round, in their order, with the Looks and the Puts of this round
   pub did : DidRounds here.moment here.age (base.leaf ++ base.others) base.work
   -- each good check was proved, and nothing else than good checks and what hits showed
   pub proved : ProvesGood trace

@@ -44,7 +44,7 @@ pub record ResolvesAlone (here : Situation) (signer : Signer) (anchors : List An
   pub all : HasSeenOnly outcome.trace.events last
   pub history : IsHistory ShelfStep [] BookStep (opened_with anchors) last
 
--- there is one round, to which the cache gave nothing, or none where the anchor isn't listed
+-- there is one round at most, and the cache gave nothing to it
 abbrev pub HasOneRound : List Course → Type 0
 HasOneRound [] = Unit {0}
 HasOneRound (only ∷ []) = only.search.hits ≡ 0

@@ -26,8 +26,8 @@ pub fn hits()
     traces();
 }
 
-/// The entity that was asked for has one round, to which the cache gives nothing, since it is empty when that begins; or none, where its
-/// anchor isn't listed. So a call's refusal is the end of this round. It does nothing.
+/// The entity that was asked for has one round at most, and the cache gives nothing to it, since it is empty when that begins. So what the
+/// last of its rounds says is what this one says. It does nothing.
 pub fn one_round()
     ensures { (node : Node) (resolver : Resolver) (request : AnyRequest) (before now : Around) (outcome : AnyOutcome)
         → (call : IsCallBy node resolver request before now outcome)
