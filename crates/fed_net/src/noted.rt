@@ -58,17 +58,15 @@ impl Noted {
         }
     }
 
-    /// Notes what was read, up to the end of the first line.
+    /// Notes what was read, up to the end of the first line that isn't empty: whoever reads a request passes over those before it.
     pub fn read(&mut self, bytes: &[u8]) {
         for byte in bytes {
             if *byte == b'\r' || *byte == b'\n' {
-                self.ended = true;
+                self.ended |= self.kept > 0;
+            } else if !self.ended && self.kept < KEPT {
+                self.request[self.kept] = shown(*byte);
+                self.kept += 1;
             }
-            if self.ended || self.kept >= KEPT {
-                return;
-            }
-            self.request[self.kept] = shown(*byte);
-            self.kept += 1;
         }
     }
 
