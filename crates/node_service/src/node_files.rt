@@ -101,9 +101,22 @@ fn read_ring(
     match KeyRing::open(alloc, bytes.as_slice()) {
         Ok(ring) => Ok(ring),
         Err(fault) => {
-            explain_ring_file(alloc, name, bytes.as_slice(), notes);
+            explain_ring_fault(alloc, name, bytes.as_slice(), &fault, notes);
             Err(fault_of(&fault))
         }
+    }
+}
+
+// Says what is amiss with a ring's file. Where memory was wanting nothing is: the end of the command says so.
+fn explain_ring_fault(
+    alloc: Global,
+    name: &Text,
+    bytes: &[u8],
+    fault: &RingFault,
+    notes: &mut Notes,
+) {
+    if matches!(fault, RingFault::Shape | RingFault::Known(_)) {
+        explain_ring_file(alloc, name, bytes, notes);
     }
 }
 

@@ -1,13 +1,13 @@
 // What a person reads where an entity wasn't resolved.
 
 use crate::pages::explain_pages;
-use crate::path::explain_last_path;
+use crate::path::explain_path;
 use fed_resolver::{Outcome, Refusal, ResolveRequest};
 use plain_notes::{Notes, Sentence, explain_memory, explain_worn};
 use std::alloc::Global;
 
-/// Says why there is no reply: first the answer in words, then each page of the last round that wasn't good, and what failed on the path
-/// that came to the trust anchor last.
+/// Says why there is no reply: first the answer in words, then each page of the last round that wasn't good, and what failed on a path up
+/// to the trust anchor. Of a search that broke off, for want of memory or at a worn object, it says the answer alone.
 pub fn explain_outcome(
     alloc: Global,
     request: &ResolveRequest,
@@ -18,10 +18,13 @@ pub fn explain_outcome(
         return;
     };
     explain_refusal(alloc, refusal, notes);
+    if matches!(refusal, Refusal::Worn(_) | Refusal::Memory) {
+        return;
+    }
     if let Some(search) = outcome.trace.searches.as_slice().last() {
         explain_pages(alloc, &outcome.trace, search, notes);
         if search.paths > 0 {
-            explain_last_path(alloc, request, &outcome.trace, search, notes);
+            explain_path(alloc, request, &outcome.trace, search, notes);
         }
     }
 }

@@ -1,7 +1,7 @@
-// What a person reads of the path that came to the trust anchor last.
+// What a person reads of a path up to the trust anchor.
 
 use crate::reading::{belongs, read_at, read_of};
-use chain_check::check_chain;
+use chain_check::{Verdict, check_chain};
 use entity_id::EntityId;
 use entity_statement::{SignedStatement, Statement};
 use fed_base::{Duplicate, Plain, Seq, Steps, Text};
@@ -13,8 +13,9 @@ use std::alloc::Global;
 // The most statements of superiors in a chain.
 const DEPTH: u64 = 8;
 
-// Says what failed on the path that came to the trust anchor last.
-pub(crate) fn explain_last_path(
+// Says what failed on a path up to the trust anchor, that of the anchor's statement which was got last. It may be valid where the search
+// ended at its bound before this path was judged.
+pub(crate) fn explain_path(
     alloc: Global,
     request: &ResolveRequest,
     trace: &Trace,
@@ -38,11 +39,15 @@ pub(crate) fn explain_last_path(
         keys: &trace.keys,
         moment: trace.moment,
     };
-    notes.say(path_sentence(alloc, chain.as_slice()));
+    let told: &[u8] = match &verdict {
+        Verdict::Valid(_) => b"the search ended before it judged a path that is valid:",
+        Verdict::Refused { .. } => b"a path up to the trust anchor is refused:",
+    };
+    notes.say(path_sentence(alloc, told, chain.as_slice()));
     explain_verdict(alloc, &chain, &asked, &verdict, notes);
 }
 
-// The texts of the path that came to the trust anchor last, from the leaf's configuration up.
+// The texts of such a path, from the leaf's configuration up.
 fn last_chain(alloc: Global, request: &ResolveRequest, search: &Search) -> Option<Seq<Text>> {
     let mut chain = Seq::new(alloc);
     if has_path(alloc, request, search, &mut chain) {
@@ -214,9 +219,9 @@ fn is_by(alloc: Global, search: &Search, ask: &Ask, entity: &EntityId) -> bool {
     }
 }
 
-// The path of a chain: who issued its texts, but for the configuration at its end.
-fn path_sentence(alloc: Global, chain: &[Text]) -> Sentence {
-    let mut sentence = Sentence::of(alloc, b"the last path up to the trust anchor is refused:");
+// What is told of a path, and the path: who issued the texts of its chain, but for the configuration at its end.
+fn path_sentence(alloc: Global, told: &[u8], chain: &[Text]) -> Sentence {
+    let mut sentence = Sentence::of(alloc, told);
     for (at, text) in chain.iter().enumerate() {
         if at == 0 || at.saturating_add(1) < chain.len() {
             sentence = with_issuer(alloc, sentence, text);
