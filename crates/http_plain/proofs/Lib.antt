@@ -1,6 +1,7 @@
 pub mod Appending
 pub mod Ends
 pub mod Exchanging
+pub mod Pages
 pub mod Showing
 pub mod Sizes
 pub mod Takings

@@ -48,7 +48,8 @@ head_of x r b = subst (λ y. BeginsWithHead y b.is_text.head) (sym b.bytes) (hea
 parts_agree : (g h : List ℕ) (a b : RequestHead) → g ≡ h → IsHead g a → IsHead h b → a ≡ b
 parts_agree g h a b e p q = same_head h a b (subst (λ y. IsHead y a) e p) q
 
-back_of : (head body : List ℕ) → drop (length head) (head ++ body) ≡ body
+-- what stands behind a text
+pub back_of : (head body : List ℕ) → drop (length head) (head ++ body) ≡ body
 back_of [] body = refl
 back_of (b ∷ head) body = back_of head body
 

@@ -22,7 +22,7 @@ mod sources;
 mod target;
 mod write;
 
-pub use laws::one_answer;
+pub use laws::{one_answer, one_client_page, one_page};
 pub use link::HttpLink;
 pub use read::{ReadEnd, read_request};
 pub use request::{Incoming, Method, Pair, Request};
