@@ -62,7 +62,7 @@ pub record Inspects {S D C : Type 0} (inspection : Inspection) (before after : W
   -- a status up to 2 comes only with the reply, whose whole text is written
   pub done : status ≤ 2 → (reply : Reply) × IsInspected inspection after.readings.last before.files before.left after.left reply × (status ≡ reply.status)
       × Appends before.held after.held reply.text
-  -- and where these are told there is one such reply, which comes and is written, but for a fault of the outside or want of memory
+  -- and where these are told and there is such a reply, it comes and is written, but for a fault of the outside or want of memory
   pub exact : (left : Option (List ℕ)) (reply : Reply) → AreTold inspection before.files before.left
       → IsInspected inspection after.readings.last before.files before.left left reply → Or ((status ≡ reply.status) × Appends before.held after.held reply.text) status
   -- after a fault of the sink a beginning of it is written

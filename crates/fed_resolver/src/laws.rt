@@ -42,7 +42,7 @@ pub fn replies()
 
 /// What holds of every trace that is told. It does nothing.
 pub fn traces()
-    // It calls for one result, whichever way it is told.
+    // It calls for a reply or for one refusal, and never for two of these, whichever way it is told.
     ensures one_cause { (here : Situation) (signer : AnySigner) (trace : AnyTrace) (told other : ToldWhole here trace) (result also : Result AnyReply AnyRefusal)
         → IsResult here signer trace told result → IsResult here signer trace other also → SameCause result also }
     // One that is told whole is told in part.

@@ -12,7 +12,7 @@ pub enum Refusal {
     NoAnchor,
     /// The entity's configuration isn't good.
     NotFound,
-    /// Each chain fails, if at all, by its policies alone, and one does.
+    /// No chain is valid, and at least one fails by its policies alone.
     PolicyOnly,
     /// There is no valid chain.
     NoChain,

@@ -63,7 +63,7 @@ TestsSome node handling before now = now ≡ before
 
 -- ---- worn objects
 
--- a shared object that was called had counted this many calls, which are all that it can
+-- a shared object had counted this many calls, which are all that it can
 abbrev pub IsWornBy : Handling → ℕ → Type 0
 IsWornBy (resolved resolution outcome) count = outcome.result ≡ Err (Worn count)
 IsWornBy (dealt change worn) count = count ≡ call_limit

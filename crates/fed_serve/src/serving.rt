@@ -37,7 +37,7 @@ pub enum ServeFault {
     /// The peer's bytes ended before the request did. Nothing was written.
     #[error("the request ends early")]
     Ended,
-    /// A shared object that was called had counted this many calls, which are all that it can. Nothing was written.
+    /// A shared object had counted this many calls, which are all that it can. Nothing was written.
     #[error("a shared object is worn")]
     Worn(u64),
 }
