@@ -5,7 +5,7 @@
 set -eu
 entity=$1 keys=$2 seconds=$3
 url=${4:-${entity%/}/.well-known/openid-federation}
-text=$(curl --silent --show-error --fail --max-time 20 --retry 20 --retry-connrefused --retry-delay 1 "$url")
+text=$(curl --silent --show-error --fail --max-time 20 --retry 20 --retry-max-time 20 --retry-connrefused --retry-delay 1 "$url")
 said=$(echo "[\"$text\"]" | fed check --anchor "$entity" --keys "$keys") || {
     echo "probe: $url: $said" >&2
     exit 1

@@ -14,6 +14,8 @@ TOP = os.path.dirname(os.path.dirname(os.path.abspath(__file__)))
 passed, faults = 0, []
 lock = threading.Lock()
 given = set()
+# the servers of rows: what still runs once all rows are over, as where one failed, is ended
+started = []
 
 
 def stands_on(name):
@@ -93,6 +95,10 @@ def tried(name, rows):
         thread.start()
     for thread in threads:
         thread.join()
+    for running in started:
+        if running.poll() is None:
+            running.kill()
+            running.wait()
     print(f"{name}: {passed} passed, {len(faults)} failed")
     return 1 if faults else 0
 
