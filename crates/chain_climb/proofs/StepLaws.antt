@@ -266,6 +266,22 @@ module _ (anchor : Identifier) (depth : ℕ) where
       let e : n ≡ suc n - 1 = omega arith in
       next_level queue level_end n found ∙ ap (λ m. path_rest anchor depth queue level_end (length queue) m found) e
 
+  -- where a level has no path, none follows
+  from-none : (n : ℕ) (found : Findings) → climb_from found anchor depth n [] ≡ []
+  unfolding climb_from
+  from-none zero found = refl
+  from-none (suc n) found = from-none n found
+
+  below-none : (left : ℕ) (found : Findings) → below found anchor depth left [] ≡ []
+  below-none zero found = refl
+  below-none (suc n) found = from-none n found
+
+  pub levels-none : (queue : List Path) (level_end left : ℕ) → level_end ≡ length queue → (found : Findings) → path_rest anchor depth queue level_end level_end left found ≡ []
+  levels-none queue level_end left all found =
+      over_rest queue level_end left found
+      ∙ ap (λ ps. below found anchor depth left (ps ++ [])) (drop_all level_end queue (omega (arith, all)))
+      ∙ below-none left found
+
 module _ (pages : List PageAnswer) (bounds : Bounds) (anchor : Identifier) (steps : Findings → List Step) (first between : List Path) where
   -- a place that is reached from where these steps led
   pub reaches-then : (B : Findings → List Step) (after : List Path) (place : Place) → Walked pages bounds.paths [] steps B (from_to first between) → Reaches anchor bounds pages B (from_to between after) place
@@ -287,13 +303,21 @@ module _ (pages : List PageAnswer) (bounds : Bounds) (anchor : Identifier) (step
         walked-then pages bounds.paths [] [] steps (path_rest anchor bounds.depth between from level_end left) (path_rest anchor bounds.depth after level_end level_end left) first between after w
         (subst (LevelLooked pages bounds anchor (level_of from level_end left) (from_to between after)) is looked)
 
-    pub levels_arm-ended : found_place ≡ None → left ≡ 0 → Reaches anchor bounds pages steps (from_to first after) (record { stage = Ended; at = 0; hint = 0; level_end = 0; left = 0 })
-    levels_arm-ended is none = record {
+    abbrev Ends : Type 0
+    Ends = Reaches anchor bounds pages steps (from_to first after) (record { stage = Ended; at = 0; hint = 0; level_end = 0; left = 0 })
+
+    ended : found_place ≡ None → ((found : Findings) → path_rest anchor bounds.depth after level_end level_end left found ≡ []) → Ends
+    ended is over = record {
       is_open = tt;
-      walked = walked-to pages bounds.paths [] steps (path_rest anchor bounds.depth after level_end level_end 0) (λ found. []) first after (λ found extends. levels-over anchor bounds.depth after level_end found)
-          (subst (λ n. Walked pages bounds.paths [] steps (path_rest anchor bounds.depth after level_end level_end n) (from_to first after)) none (passed is));
+      walked = walked-to pages bounds.paths [] steps (path_rest anchor bounds.depth after level_end level_end left) (λ found. []) first after (λ found extends. over found) (passed is);
       stops = tt;
     }
+
+    pub levels_arm-ended : found_place ≡ None → left ≡ 0 → Ends
+    levels_arm-ended is none = ended is (λ found. ap (λ n. path_rest anchor bounds.depth after level_end level_end n found) none ∙ levels-over anchor bounds.depth after level_end found)
+
+    pub levels_arm-empty : found_place ≡ None → (last : ℕ) → last ≡ length after → last ≡ level_end → Ends
+    levels_arm-empty is last all none = ended is (levels-none anchor bounds.depth after level_end left (sym none ∙ all))
 
     pub levels_arm-more : found_place ≡ None → (left ≡ 0 → ⊥) → (last : ℕ) → last ≡ length after → Walked pages bounds.paths [] steps (path_rest anchor bounds.depth after level_end last (left - 1)) (from_to first after)
     levels_arm-more is some last all =

@@ -3,7 +3,8 @@
 use crate::path::Path;
 use entity_id::EntityId;
 use entity_statement::Statement;
-use fed_base::Text;
+use fed_base::{Duplicate, Memory, Text};
+use std::alloc::Global;
 
 /// Where a page came from.
 #[derive(Clone, Copy, Drop)]
@@ -31,6 +32,20 @@ pub enum Answer {
     PolicyFails,
     /// The chain is refused for another reason.
     Invalid,
+}
+
+impl Duplicate for Answer {
+    fn copy(&self, alloc: Global) -> Result<Self, Memory> {
+        match self {
+            Answer::Good(statement, origin) => Ok(Answer::Good(statement.copy(alloc)?, *origin)),
+            Answer::Useless(origin) => Ok(Answer::Useless(*origin)),
+            Answer::Fault => Ok(Answer::Fault),
+            Answer::Spent => Ok(Answer::Spent),
+            Answer::Valid => Ok(Answer::Valid),
+            Answer::PolicyFails => Ok(Answer::PolicyFails),
+            Answer::Invalid => Ok(Answer::Invalid),
+        }
+    }
 }
 
 /// What was answered of a page.

@@ -230,7 +230,7 @@ fn look_level(
     Ok(None)
 }
 
-// Looks at the paths of this level from this one on, and then at the levels that follow.
+// Looks at the paths of this level from this one on, and then at the levels that follow, up to the first that has no path.
 fn look_levels(
     alloc: Global,
     pages: &[PageAnswer],
@@ -254,7 +254,9 @@ fn look_levels(
         if let Some(place) = look_level(alloc, pages, anchor, bounds, first, end, more, queue)? {
             return Ok(place);
         }
-        if more == 0 {
+        // Where a level has no path, none follows.
+        let next_end = queue.len();
+        if more == 0 || next_end == end {
             return Ok(Place {
                 stage: Stage::Ended,
                 at: 0,
@@ -264,7 +266,7 @@ fn look_levels(
             });
         }
         first = end;
-        end = queue.len();
+        end = next_end;
         more -= 1;
     }
 }

@@ -7,7 +7,7 @@ ghost use Rattle.resolve_reply.specs.Replies.{IsReplyOf, IsWritable};
 use crate::claims::reply_claims;
 use crate::said::Said;
 use crate::signer::Signer;
-use fed_base::{Memory, Text};
+use fed_base::{Duplicate, Memory, Text};
 use fed_json::Json;
 use sealed::seal;
 use std::alloc::Global;
@@ -22,6 +22,14 @@ pub struct Reply {
     pub claims: Json,
     /// The claims, sealed, as compact text.
     pub text: Text,
+}
+
+impl Duplicate for Reply {
+    fn copy(&self, alloc: Global) -> Result<Self, Memory> {
+        let text = self.text.copy(alloc)?;
+        let claims = self.claims.copy(alloc)?;
+        Ok(Reply { claims, text })
+    }
 }
 
 /// The reply that says this, signed: its claims in compact JSON, under the type `resolve-response+jwt`. It makes one
