@@ -10,7 +10,7 @@ use std::alloc::Global;
 pub enum Page {
     /// The body of an answer with status 200, at most 262,144 bytes.
     Document(Text),
-    /// Any other status, 100 to 999.
+    /// Any other status, 0 to 999.
     Refusal(u16),
     /// What came is no answer of HTTP in a form that is read here.
     Garbled,

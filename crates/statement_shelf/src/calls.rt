@@ -12,7 +12,7 @@ use sealed::Sealed;
 pub struct Proven {
     /// The text.
     pub text: Text,
-    /// The keys, PK.seed and PK.root each, at most four; the one that was proved last comes first.
+    /// The keys, PK.seed and PK.root each, at most four; the one that was added last comes first.
     pub keys: Seq<[u8; 32]>,
     pub ghost proved: { IsTrue (are_sealed text keys) },
 }
