@@ -5,6 +5,8 @@
 //! 1,000,000,000 times; where it looked so often, something fails, and its line is another.
 #![tactic(auto)]
 
+mod authority;
+mod command;
 mod desks;
 mod federation;
 mod flag;
@@ -34,6 +36,7 @@ fn answer<R: Threads + Wait + Sync>(
         "link_waits_alone" => desks::link_waits_alone(rt, alloc, web),
         "shared_hit" => desks::shared_hit(rt, alloc, web),
         "lone_client" => lone::lone_client(rt, alloc),
+        "authority_in_memory" => authority::authority_in_memory(rt, alloc),
         _ => Text::of(alloc, b"no such test"),
     }
 }

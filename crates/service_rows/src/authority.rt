@@ -1,0 +1,49 @@
+// The service of an authority over a network in memory.
+
+use crate::command::{Command, add_held, ran};
+use fed_base::{Memory, Seq, Text};
+use fed_net::{MemoryNetwork, MemoryPeer};
+use std::alloc::Global;
+use std::sync::Wait;
+use std::thread::Threads;
+
+// What the program is asked to do. The seeds of the ring are the bytes 48 to 95.
+const COMMAND: Command = Command {
+    words: "authority --config node --port 443 --connections 1",
+    node: b"{\"entity_id\":\"https://im.example/fed\",\"ring\":\"ring\",\"lifetime\":86400}",
+    ring: b"{\"keys\":[{\"exp\":1900000000,\"iat\":1800000000,\"seeds\":\"303132333435363738393a3b3c3d3e3f404142434445464748494a4b4c4d4e4f505152535455565758595a5b5c5d5e5f\",\"state\":\"live\"}],\"version\":1}",
+};
+
+// A statement about nobody whom the node knows is asked for.
+const FETCH: &[u8] =
+    b"GET /fed/fetch?sub=https%3A%2F%2Fno.example HTTP/1.1\r\nHost: im.example\r\n\r\n";
+
+// How many bytes a response may have, and how many calls the network and its caller answer.
+const ROOM: usize = 1000;
+
+const CALLS: u64 = 1000;
+
+/// One caller asks for a statement: the status of the program, what it wrote, and what the caller holds that was settled.
+pub(crate) fn authority_in_memory<R: Threads + Wait + Sync>(
+    rt: &R,
+    alloc: Global,
+) -> Result<Text, Memory> {
+    let mut callers = Seq::new(alloc);
+    callers.push(MemoryPeer::new(alloc, FETCH, ROOM, &[], &[], CALLS)?)?;
+    let mut net = MemoryNetwork::new(alloc, Seq::new(alloc), callers, ROOM, &[], CALLS)?;
+    let told = served(rt, alloc, &mut net);
+    drop(net);
+    told
+}
+
+fn served<R: Threads + Wait + Sync>(
+    rt: &R,
+    alloc: Global,
+    net: &mut MemoryNetwork,
+) -> Result<Text, Memory> {
+    let mut told = ran(rt, alloc, COMMAND, net)?;
+    for peer in net.settled() {
+        add_held(&mut told, peer.as_slice())?;
+    }
+    Ok(told)
+}
