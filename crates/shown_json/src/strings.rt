@@ -59,9 +59,11 @@ fn is_calm(text: &[u8]) -> bool
     true
 }
 
-// Whether two bytes of UTF-8 begin such a character.
+// Whether two bytes of UTF-8 are or begin such a character.
 fn turns(a: u8, b: u8) -> bool
     ensures { result ≡ turns a b }
 {
-    (a == 0xc2 && 0x80 <= b && b <= 0x9f) || (a == 0xe2 && 0x80 <= b && b <= 0x81)
+    (a == 0xc2 && 0x80 <= b && b <= 0x9f)
+        || (a == 0xd8 && b == 0x9c)
+        || (a == 0xe2 && 0x80 <= b && b <= 0x81)
 }
