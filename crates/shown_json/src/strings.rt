@@ -11,10 +11,18 @@ use std::alloc::Global;
 pub fn string(alloc: Global, text: &[u8]) -> Result<Text, Memory>
     ensures { IfOk result (λ string'. string' ≡ string text.now) }
 {
-    let mut string = Text::of(alloc, b"\"")?;
-    append_shown(&mut string, is_calm(text), text)?;
-    string.push(b'"')?;
+    let mut string = Text::new(alloc);
+    append_string(&mut string, text)?;
     Ok(string)
+}
+
+/// Appends such a text.
+pub(crate) fn append_string(out: &mut Text, text: &[u8]) -> Result<(), Memory>
+    ensures { OnOk result (out.new ≡ out.old ++ string text.now) }
+{
+    out.push(b'"')?;
+    append_shown(out, is_calm(text), text)?;
+    out.push(b'"')
 }
 
 fn append_shown(string: &mut Text, calm: bool, text: &[u8]) -> Result<(), Memory>
