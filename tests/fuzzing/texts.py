@@ -298,7 +298,7 @@ def policies(case):
 # ---- what is shown
 
 # what a terminal acts on: control characters but the line end, and marks of direction
-LOUD = re.compile(rb"[\x00-\x09\x0b-\x1f\x7f]|\xc2[\x80-\x9f]|\xe2[\x80-\x81]")
+LOUD = re.compile(rb"[\x00-\x09\x0b-\x1f\x7f]|\xc2[\x80-\x9f]|\xd8\x9c|\xe2[\x80-\x81]")
 LAST, WRONG = b"nothing was verified\n", re.compile(rb"^refused ", re.M)
 
 

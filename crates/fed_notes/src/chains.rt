@@ -145,7 +145,9 @@ fn explain_conflict(
         .and(entity_type.as_slice())
         .and(b" ")
         .and(parameter.as_slice());
-    notes.say(if first == second {
+    notes.say(if first == Operator::OneOf && second == Operator::OneOf {
+        about.and(b" from the anchor down to it leave no value in one_of")
+    } else if first == second {
         about
             .and(b" from the anchor down to it have two values of ")
             .and(first.name().as_bytes())

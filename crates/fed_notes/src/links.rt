@@ -138,7 +138,7 @@ fn signer_sentence(
             &above.statement.jwks,
             b" in the jwks of the next text",
         ),
-        None => key_sentence(about, kid, keys, b" among the keys of the anchor's file"),
+        None => key_sentence(about, kid, keys, b" among the anchor's keys"),
     }
 }
 

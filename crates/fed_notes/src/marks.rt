@@ -24,12 +24,13 @@ fn about_claim(alloc: Global, claim: &[u8]) -> Sentence {
     Sentence::of(alloc, b"standard input: the claim ").and(claim)
 }
 
-// The form of a claim of a mark.
+// The form of a claim of a mark, of a delegation or of a status.
 fn form_of(claim: &[u8]) -> &'static [u8] {
     match std::str::from_utf8(claim) {
         Ok("iss" | "sub") =>
             b"an identifier: a URL of https or http without query, fragment and user",
         Ok("iat" | "exp") => b"a whole number from 0 to 2^62 - 1, in seconds since 1970",
+        Ok("status") => b"active, expired, revoked or invalid",
         _ => b"a text",
     }
 }

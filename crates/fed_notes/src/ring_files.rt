@@ -55,7 +55,7 @@ fn whole_fault(members: &[Member], keys: &[Json]) -> &'static [u8] {
             b" has no live key"
         }
     } else {
-        b" has a version that isn't 1"
+        b" has no version 1"
     }
 }
 
@@ -95,9 +95,38 @@ fn is_lower_hex(byte: &u8) -> bool {
 
 fn state_fault(members: &[Member]) -> &'static [u8] {
     match find(members, b"state") {
-        Some(_) => b"",
+        Some(state) => if is_state(state) {
+            b""
+        } else {
+            b" has a state that isn't live, retired or a revocation"
+        },
         None => b" has no state",
     }
+}
+
+fn is_state(state: &Json) -> bool {
+    match state {
+        Json::Text(word) => word.as_slice() == b"live".as_slice()
+            || word.as_slice() == b"retired".as_slice(),
+        Json::Object(members) => is_revocation(members.as_slice()),
+        _ => false,
+    }
+}
+
+fn is_revocation(members: &[Member]) -> bool {
+    match (
+        moment_at(members, b"revoked_at"),
+        text_at(members, b"reason"),
+    ) {
+        (Some(_), Some(reason)) => is_reason(reason.as_slice()),
+        _ => false,
+    }
+}
+
+fn is_reason(word: &[u8]) -> bool {
+    word == b"unspecified".as_slice()
+        || word == b"compromised".as_slice()
+        || word == b"superseded".as_slice()
 }
 
 fn moment_at(members: &[Member], name: &[u8]) -> Option<u64> {

@@ -64,7 +64,7 @@ fn parts_fault(text: &[u8]) -> &'static [u8] {
     if text.is_empty() {
         b"the text is empty"
     } else if is_json(text) {
-        b"the text is JSON, and not a signed text"
+        b"the text begins as JSON does, and is no signed text"
     } else {
         b"the text isn't three parts with full stops between them"
     }

@@ -29,7 +29,11 @@ fn behind_front<'a, 'b>(word: &'a [u8], other: &'b [u8]) -> (&'a [u8], &'b [u8])
 // Whether two letters changed places, and the rest is the same.
 fn changed_places(a: u8, rest: &[u8], b: u8, others: &[u8]) -> bool {
     match (rest, others) {
-        ([c, rest @ ..], [d, others @ ..]) => a == *d && b == *c && rest == others,
+        ([c, rest @ ..], [d, others @ ..]) => {
+            a.eq_ignore_ascii_case(d)
+                && b.eq_ignore_ascii_case(c)
+                && rest.eq_ignore_ascii_case(others)
+        }
         _ => false,
     }
 }

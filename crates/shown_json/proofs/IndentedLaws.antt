@@ -1,15 +1,16 @@
--- One level of a tree as it is shown, and loops over its parts.
-use Rattle.std.proofs.Common.{◌≡◌, ◌<◌, ◌+◌, length, ℕ, ℤ, pos, negsuc, List, [], ◌∷◌, ◌++◌, map, take, get_or, flat_map, Bool, true, false, Option, Some, None, Result, Ok, Err, option_map, unwrap_or, nat_lt, cond, refl, sym, ap, ap₂, ◌∙◌, subst, append-nil, rules}
-use Rattle.std.specs.Prelude.{IfOk}
-use Rattle.std.proofs.lemmas.List.{map_push, take_more}
-use Rattle.std.proofs.lemmas.Grind.{flat_map-append}
+-- One level of a tree as it is shown.
+use Rattle.std.proofs.Common.{◌≡◌, ℕ, List, [], ◌∷◌, ◌++◌, map, Bool, true, false, None, Result, option_map, unwrap_or, cond, refl, sym, ap, ap₂, ◌∙◌, subst, append_assoc, rules}
+use Rattle.std.specs.Prelude.{OnOk}
 use Rattle.fed_base.specs.Moments.{moment_limit}
-use Rattle.fed_json.specs.declared.tree.Json.{Json, Null, Bool as Truth, Int, Odd, Text, List as ListOf, Object, out-Json, the_lemmas}
+use Rattle.fed_json.specs.declared.tree.Json.{Json, Odd, Text, List as ListOf, Object, out-Json, the_lemmas}
 use Rattle.fed_json.specs.declared.tree.Json.TheOpen.{Json-F}
 use Rattle.fed_json.specs.declared.tree.Json.TheViews.{roll-Json}
 use Rattle.fed_json.specs.declared.tree.Member.{Member}
-use Rattle.fed_json.specs.Trees.{count_below, if_below}
-use Rattle.shown_json.specs.Indented.{Shown, alone, block, indented, is_moment, led, member_text, moment_text, moment_under, number_shown, shown, value_under}
+use Rattle.fed_json.specs.Trees.{count_below}
+use Rattle.shown_json.specs.Indented.{Shown, alone, block, indented, inset_by, is_moment, member_text, moment_text, moment_under, odd_text, shown, value_under}
+use Rattle.shown_json.specs.Strings.{string}
+use Rattle.shown_json.proofs.MarginLaws.{inset-append}
+use Rattle.shown_json.proofs.StringLaws.{string-line}
 
 -- ---- one level
 
@@ -28,17 +29,6 @@ indented-List ts = ap (λ (s : Shown). s.plain) (shown-List ts) ∙ ap (block 91
 
 pub indented-Object : (ms : List Member) → indented (Object ms) ≡ block 123 125 (map member_text ms)
 indented-Object ms = ap (λ (s : Shown). s.plain) (shown-Object ms)
-
--- the text of a list, and that of an object
-pub list-shown : {E : Type 0} → (result : Result (List ℕ) E) (tree : Json) (items items' : List Json) → tree ≡ ListOf items → items' ≡ items
-    → IfOk result (λ text. text ≡ block 91 93 (map indented items')) → IfOk result (λ text. text ≡ indented tree)
-list-shown result tree items items' is same made =
-    subst (λ wanted. IfOk result (λ text. text ≡ wanted)) (ap (λ xs. block 91 93 (map indented xs)) same ∙ sym (indented-List items) ∙ ap indented (sym is)) made
-
-pub object-shown : {E : Type 0} → (result : Result (List ℕ) E) (tree : Json) (members members' : List Member) → tree ≡ Object members → members' ≡ members
-    → IfOk result (λ text. text ≡ block 123 125 (map member_text members')) → IfOk result (λ text. text ≡ indented tree)
-object-shown result tree members members' is same made =
-    subst (λ wanted. IfOk result (λ text. text ≡ wanted)) (ap (λ xs. block 123 125 (map member_text xs)) same ∙ sym (indented-Object members) ∙ ap indented (sym is)) made
 
 -- ---- what stands under a name
 
@@ -67,13 +57,31 @@ under false tree = refl
 pub value-under : (m : Member) → value_under m.name (shown m.value) ≡ unwrap_or (option_map moment_text (moment_under m)) (indented m.value)
 value-under m = under (is_moment m.name) m.value
 
--- ---- loops
+-- ---- what is appended
 
--- one piece more
-pub led-more : {X : Type 0} (f : X → List ℕ) (xs : List X) (i : ℕ) (x : X) (inside new piece : List ℕ) → i < length xs → x ≡ get_or xs i x
-    → inside ≡ flat_map led (map f (take i xs)) → piece ≡ f x → new ≡ inside ++ led piece → new ≡ flat_map led (map f (take (i + 1) xs))
-led-more f xs i x inside new piece within is so_far shows more =
-    let longer : take (i + 1) xs ≡ take i xs ++ x ∷ [] = take_more xs i x within ∙ ap (λ y. take i xs ++ y ∷ []) (sym is) in
-    let last : flat_map led (map f (take (i + 1) xs)) ≡ flat_map led (map f (take i xs)) ++ (led (f x) ++ []) =
-    ap (λ l. flat_map led (map f l)) longer ∙ ap (flat_map led) (map_push f (take i xs) x) ∙ flat_map-append led (map f (take i xs)) (f x ∷ []) in
-    more ∙ ap₂ (λ a b. a ++ led b) so_far shows ∙ sym (last ∙ ap (λ z. flat_map led (map f (take i xs)) ++ z) (append-nil (led (f x))))
+-- the same bytes in another form
+pub shown-as : {E : Type 0} → (result : Result Unit E) (old new bytes wanted : List ℕ) → wanted ≡ bytes → OnOk result (new ≡ old ++ bytes) → OnOk result (new ≡ old ++ wanted)
+shown-as result old new bytes wanted same made = subst (λ b. OnOk result (new ≡ old ++ b)) (sym same) made
+
+pub indented-Odd : indented Odd ≡ odd_text
+indented-Odd = search (rules, the_lemmas)
+
+pub indented-Text : (bytes : List ℕ) → indented (Text bytes) ≡ string bytes
+indented-Text bytes = search (rules, the_lemmas)
+
+regrouped : (a b c d e : List ℕ) → (((a ++ b) ++ c) ++ d) ++ e ≡ a ++ (b ++ (c ++ (d ++ e)))
+regrouped a b c d e = simp append_assoc
+
+-- a member on a line of its own
+pub member-shown : {E : Type 0} → (result : Result Unit E) (m : List ℕ) (member : Member) (before : ℕ) (old begun named parted new name : List ℕ) → name ≡ member.name
+    → begun ≡ old ++ (before ∷ 10 ∷ m) → named ≡ begun ++ string name → parted ≡ named ++ (58 ∷ 32 ∷ [])
+    → OnOk result (new ≡ parted ++ inset_by m (value_under member.name (shown member.value)))
+    → OnOk result (new ≡ old ++ (before ∷ 10 ∷ (m ++ inset_by m (member_text member))))
+member-shown result m member before old begun named parted new name is begins names parts made =
+    let under : List ℕ = value_under member.name (shown member.value) in
+    let whole : inset_by m (member_text member) ≡ string member.name ++ (58 ∷ 32 ∷ inset_by m under) =
+    inset-append m (string member.name) (58 ∷ 32 ∷ under) ∙ ap (λ x. x ++ (58 ∷ 32 ∷ inset_by m under)) (string-line m member.name) in
+    let so_far : parted ≡ ((old ++ (before ∷ 10 ∷ m)) ++ string member.name) ++ (58 ∷ 32 ∷ []) =
+    parts ∙ ap (λ x. x ++ (58 ∷ 32 ∷ [])) (names ∙ ap₂ (λ x y. x ++ string y) begins is) in
+    subst (λ y. OnOk result (new ≡ y)) (ap (λ x. x ++ inset_by m under) so_far ∙ regrouped old (before ∷ 10 ∷ m) (string member.name) (58 ∷ 32 ∷ []) (inset_by m under)
+    ∙ sym (ap (λ x. old ++ (before ∷ 10 ∷ (m ++ x))) whole)) made

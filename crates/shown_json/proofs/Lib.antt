@@ -1,1 +1,4 @@
+mod BlockLaws
 mod IndentedLaws
+mod MarginLaws
+mod StringLaws

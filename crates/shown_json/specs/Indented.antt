@@ -26,12 +26,19 @@ moment_text moment = decimal moment ++ (codes " (" ++ (date_text moment ++ codes
 abbrev pub number_shown : ℤ → Shown
 number_shown n = record { plain = signed_decimal n; dated = unwrap_or (option_map moment_text (if_below moment_limit (Some n))) (signed_decimal n) }
 
--- each line but the first stands in by two places
-abbrev pub inset_byte : ℕ → List ℕ
-inset_byte byte = if nat_eq byte 10 then 10 ∷ 32 ∷ 32 ∷ [] else byte ∷ []
+-- each line but the first stands in by a margin
+abbrev pub inset_byte : List ℕ → ℕ → List ℕ
+inset_byte margin byte = byte ∷ (if nat_eq byte 10 then margin else [])
+
+abbrev pub inset_by : List ℕ → List ℕ → List ℕ
+inset_by margin bytes = flat_map (inset_byte margin) bytes
+
+-- a level further in: by two places
+abbrev pub level : List ℕ
+level = 32 ∷ 32 ∷ []
 
 abbrev pub inset : List ℕ → List ℕ
-inset bytes = flat_map inset_byte bytes
+inset bytes = inset_by level bytes
 
 -- a piece on a line behind another
 abbrev pub led : List ℕ → List ℕ

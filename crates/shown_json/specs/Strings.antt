@@ -1,9 +1,10 @@
 -- Texts between quotation marks, as a terminal may be given them: none moves its cursor or turns its letters round.
 use Rattle.std.specs.Prelude.{ℕ, ◌+◌, ◌/◌, ◌%◌, List, [], ◌∷◌, ◌++◌, flat_map, nat_lt, nat_le, nat_eq, Bool, true, not, ◌&&◌, ◌||◌, if◌then◌else◌}
 
--- two bytes of UTF-8 begin a control character from U+0080 to U+009F, or one from U+2000 to U+207F, among which are the marks of direction
+-- two bytes of UTF-8 are or begin a control character from U+0080 to U+009F, or a mark of direction: U+061C, and those that are among
+-- U+2000 to U+207F
 abbrev pub turns : ℕ → ℕ → Bool
-turns a b = (nat_eq a 194 && nat_le 128 b && nat_le b 159) || (nat_eq a 226 && nat_le 128 b && nat_le b 129)
+turns a b = (nat_eq a 194 && nat_le 128 b && nat_le b 159) || (nat_eq a 216 && nat_eq b 156) || (nat_eq a 226 && nat_le 128 b && nat_le b 129)
 
 -- no such character stands in the text, behind this byte
 abbrev pub calm_after : ℕ → List ℕ → Bool

@@ -11,10 +11,18 @@ use std::alloc::Global;
 pub fn string(alloc: Global, text: &[u8]) -> Result<Text, Memory>
     ensures { IfOk result (λ string'. string' ≡ string text.now) }
 {
-    let mut string = Text::of(alloc, b"\"")?;
-    append_shown(&mut string, is_calm(text), text)?;
-    string.push(b'"')?;
+    let mut string = Text::new(alloc);
+    append_string(&mut string, text)?;
     Ok(string)
+}
+
+/// Appends such a text.
+pub(crate) fn append_string(out: &mut Text, text: &[u8]) -> Result<(), Memory>
+    ensures { OnOk result (out.new ≡ out.old ++ string text.now) }
+{
+    out.push(b'"')?;
+    append_shown(out, is_calm(text), text)?;
+    out.push(b'"')
 }
 
 fn append_shown(string: &mut Text, calm: bool, text: &[u8]) -> Result<(), Memory>
@@ -59,9 +67,11 @@ fn is_calm(text: &[u8]) -> bool
     true
 }
 
-// Whether two bytes of UTF-8 begin such a character.
+// Whether two bytes of UTF-8 are or begin such a character.
 fn turns(a: u8, b: u8) -> bool
     ensures { result ≡ turns a b }
 {
-    (a == 0xc2 && 0x80 <= b && b <= 0x9f) || (a == 0xe2 && 0x80 <= b && b <= 0x81)
+    (a == 0xc2 && 0x80 <= b && b <= 0x9f)
+        || (a == 0xd8 && b == 0x9c)
+        || (a == 0xe2 && 0x80 <= b && b <= 0x81)
 }

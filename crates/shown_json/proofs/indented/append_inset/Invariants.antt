@@ -3,4 +3,4 @@ use Rattle.shown_json.specs.Indented.{inset_byte}
 use Rattle.shown_json.proofs.indented.append_inset.Given as goal
 
 abbrev pub invariant-loop-byte : goal.invariant-loop-byte
-invariant-loop-byte l = l.text ≡ l.initial.text ++ flat_map inset_byte (take l.byte-index l.lines)
+invariant-loop-byte l = l.text ≡ l.initial.text ++ flat_map (inset_byte l.margin) (take l.byte-index l.bytes)
