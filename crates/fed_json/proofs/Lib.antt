@@ -1,6 +1,7 @@
 pub mod Accessors
 pub mod Among
 pub mod Booleans
+pub mod CodeParts
 pub mod Compacts
 pub mod Firsts
 pub mod Layers
@@ -11,6 +12,7 @@ pub mod NamesOfBoth
 pub mod Onces
 pub mod Options
 pub mod Order
+pub mod PlaceLaws
 pub mod Readings
 pub mod Sames
 pub mod SetLaws

@@ -1,3 +1,4 @@
+pub mod Codes
 pub mod Compact
 pub mod Forms
 pub mod Members

@@ -5,6 +5,7 @@
 //! texts that they sign and answer from trees.
 #![tactic(auto)]
 
+mod codes;
 mod copies;
 mod equal;
 mod fault;
@@ -13,6 +14,7 @@ mod lookup;
 mod members;
 mod metadata;
 mod named;
+mod places;
 mod read;
 mod sets;
 mod sides;
@@ -27,7 +29,7 @@ pub use members::text_member;
 pub use metadata::is_metadata;
 pub use named::{HasName, Named};
 pub use read::read_tree;
-pub use sets::{includes, intersect, is_member, union};
+pub use sets::{includes, includes_each, intersect, is_member, union};
 pub use sides::{Side, Sides};
 pub use tree::{Json, Member};
 pub use write::write_tree;

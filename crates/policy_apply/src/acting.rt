@@ -9,7 +9,7 @@ ghost use Rattle.policy_apply.specs.Acting.{Gives, acted as acted_on, by_value a
 
 use crate::stop::Stop;
 use fed_base::{Duplicate, Memory, Seq, Text};
-use fed_json::{Json, includes, intersect, is_member, union};
+use fed_json::{Json, includes_each, intersect, is_member, union};
 use policy_merge::{Operator, Operators, is_scope, members, words_in};
 use std::alloc::Global;
 
@@ -188,7 +188,7 @@ fn is_superset_of(
     };
     let words = words_in(alloc, name, value)?;
     match members(words.as_ref(), value) {
-        Some(members) => Ok(includes(members, list)),
+        Some(members) => includes_each(alloc, members, list),
         None => Ok(false),
     }
 }

@@ -16,7 +16,7 @@ use crate::operator::Operator;
 use crate::operators::Operators;
 use crate::scope::{members, words_in};
 use fed_base::{Duplicate, Memory, Seq, Text};
-use fed_json::{Json, Named, includes, is_member, is_null};
+use fed_json::{Json, Named, includes_each, is_member, is_null};
 use std::alloc::Global;
 
 // The pairs that may not stand together, in the order in which a conflict is named.
@@ -50,27 +50,35 @@ pub(crate) fn clash(
     let default_words = given_words(alloc, name, &operators.default)?;
     let value_members = given_members(&value_words, &operators.value);
     let default_members = given_members(&default_words, &operators.default);
-    Ok(first_apart(operators, value_members, default_members, &PAIRS))
+    first_apart(alloc, operators, value_members, default_members, &PAIRS)
 }
 
 fn first_apart(
+    alloc: Global,
     operators: &Operators,
     value_members: Option<&Seq<Json>>,
     default_members: Option<&Seq<Json>>,
     pairs: &[(Operator, Operator)],
-) -> Option<(Operator, Operator)>
-    ensures { result ≡ find (λ pair. not (stands (record {
+) -> Result<Option<(Operator, Operator)>, Memory>
+    ensures { IfOk result (λ found. found ≡ find (λ pair. not (stands (record {
       operators = operators.now;
       value_members = option_copied value_members.entry;
       default_members = option_copied default_members.entry;
-    }) pair.0 pair.1)) pairs.now }
+    }) pair.0 pair.1)) pairs.now) }
 {
     for (first, second) in pairs {
-        if !stand(operators, value_members, default_members, *first, *second) {
-            return Some((*first, *second));
+        if !stand(
+            alloc,
+            operators,
+            value_members,
+            default_members,
+            *first,
+            *second,
+        )? {
+            return Ok(Some((*first, *second)));
         }
     }
-    None
+    Ok(None)
 }
 
 /// Whether the operators of each parameter stand together, else the first conflict.
@@ -148,113 +156,145 @@ fn given_members<'a>(words: &'a Option<Seq<Json>>, value: &'a Option<Json>) -> O
 // Whether the two operators stand together. The members are those of `value` and of `default`.
 #[tactic(auto, unfolding(crate::specs::Combining::stand))]
 fn stand(
+    alloc: Global,
     operators: &Operators,
     value_members: Option<&Seq<Json>>,
     default_members: Option<&Seq<Json>>,
     first: Operator,
     second: Operator,
-) -> bool
-    ensures { result ≡ stands (record {
+) -> Result<bool, Memory>
+    ensures { IfOk result (λ together. together ≡ stands (record {
       operators = operators.now;
       value_members = option_copied value_members.entry;
       default_members = option_copied default_members.entry;
-    }) first second }
+    }) first second) }
 {
     match (first, second) {
-        (Operator::OneOf, Operator::OneOf) => match &operators.one_of {
-            Some(list) => !list.is_empty(),
-            None => true,
-        },
-        (Operator::Value, _) => value_stands(operators, value_members, second),
-        (Operator::Default, _) => default_stands(operators, default_members, second),
-        (Operator::Add, Operator::SubsetOf) => lists_stand(&operators.subset_of, &operators.add),
+        (Operator::Value, _) => value_stands(alloc, operators, value_members, second),
+        (Operator::Default, _) => default_stands(alloc, operators, default_members, second),
+        (Operator::Add, Operator::SubsetOf) => lists_stand(
+            alloc,
+            &operators.subset_of,
+            &operators.add,
+        ),
         (Operator::SubsetOf, Operator::SupersetOf) => lists_stand(
+            alloc,
             &operators.subset_of,
             &operators.superset_of,
         ),
-        (Operator::Add, Operator::OneOf) => operators.add.is_none() || operators.one_of.is_none(),
-        (Operator::OneOf, Operator::SubsetOf) => operators.one_of.is_none()
-            || operators.subset_of.is_none(),
-        (Operator::OneOf, Operator::SupersetOf) => operators.one_of.is_none()
-            || operators.superset_of.is_none(),
-        _ => true,
+        (Operator::OneOf, Operator::OneOf) => match &operators.one_of {
+            Some(list) => Ok(!list.is_empty()),
+            None => Ok(true),
+        },
+        (Operator::Add, Operator::OneOf) => Ok(
+            operators.add.is_none() || operators.one_of.is_none(),
+        ),
+        (Operator::OneOf, Operator::SubsetOf) => Ok(
+            operators.one_of.is_none() || operators.subset_of.is_none(),
+        ),
+        (Operator::OneOf, Operator::SupersetOf) => Ok(
+            operators.one_of.is_none() || operators.superset_of.is_none(),
+        ),
+        _ => Ok(true),
     }
 }
 
 #[tactic(auto, unfolding(crate::specs::Combining::stand))]
-fn value_stands(operators: &Operators, members: Option<&Seq<Json>>, second: Operator) -> bool
-    ensures { (others : Option (List Tree)) → result ≡ stands (record {
+fn value_stands(
+    alloc: Global,
+    operators: &Operators,
+    members: Option<&Seq<Json>>,
+    second: Operator,
+) -> Result<bool, Memory>
+    ensures { (others : Option (List Tree)) → IfOk result (λ together. together ≡ stands (record {
       operators = operators.now;
       value_members = option_copied members.entry;
       default_members = others;
-    }) Operator.Value second }
+    }) Operator.Value second) }
 {
     let Some(value) = &operators.value else {
-        return true;
+        return Ok(true);
     };
     match second {
-        Operator::Add => has_all(members, &operators.add),
-        Operator::Default => !is_null(value) || operators.default.is_none(),
+        Operator::Add => has_all(alloc, members, &operators.add),
+        Operator::Default => Ok(!is_null(value) || operators.default.is_none()),
         Operator::OneOf => match &operators.one_of {
-            Some(list) => !is_null(value) && is_member(list, value),
-            None => true,
+            Some(list) => Ok(!is_null(value) && is_member(list, value)),
+            None => Ok(true),
         },
-        Operator::SubsetOf => all_in(members, &operators.subset_of),
-        Operator::SupersetOf => has_all(members, &operators.superset_of),
-        Operator::Essential => !is_null(value) || operators.essential != Some(true),
-        Operator::Value => true,
+        Operator::SubsetOf => all_in(alloc, members, &operators.subset_of),
+        Operator::SupersetOf => has_all(alloc, members, &operators.superset_of),
+        Operator::Essential => Ok(!is_null(value) || operators.essential != Some(true)),
+        Operator::Value => Ok(true),
     }
 }
 
 #[tactic(auto, unfolding(crate::specs::Combining::stand))]
-fn default_stands(operators: &Operators, members: Option<&Seq<Json>>, second: Operator) -> bool
-    ensures { (others : Option (List Tree)) → result ≡ stands (record {
+fn default_stands(
+    alloc: Global,
+    operators: &Operators,
+    members: Option<&Seq<Json>>,
+    second: Operator,
+) -> Result<bool, Memory>
+    ensures { (others : Option (List Tree)) → IfOk result (λ together. together ≡ stands (record {
       operators = operators.now;
       value_members = others;
       default_members = option_copied members.entry;
-    }) Operator.Default second }
+    }) Operator.Default second) }
 {
     let Some(default) = &operators.default else {
-        return true;
+        return Ok(true);
     };
     match second {
         Operator::OneOf => match &operators.one_of {
-            Some(list) => is_member(list, default),
-            None => true,
+            Some(list) => Ok(is_member(list, default)),
+            None => Ok(true),
         },
-        Operator::SubsetOf => all_in(members, &operators.subset_of),
-        Operator::SupersetOf => has_all(members, &operators.superset_of),
-        _ => true,
+        Operator::SubsetOf => all_in(alloc, members, &operators.subset_of),
+        Operator::SupersetOf => has_all(alloc, members, &operators.superset_of),
+        _ => Ok(true),
     }
 }
 
-fn lists_stand(list: &Option<Seq<Json>>, part: &Option<Seq<Json>>) -> bool
-    ensures { result ≡ if_both are_among list.now part.now }
+fn lists_stand(
+    alloc: Global,
+    list: &Option<Seq<Json>>,
+    part: &Option<Seq<Json>>,
+) -> Result<bool, Memory>
+    ensures { IfOk result (λ together. together ≡ if_both are_among list.now part.now) }
 {
     match (list, part) {
-        (Some(list), Some(part)) => includes(list, part),
-        _ => true,
+        (Some(list), Some(part)) => includes_each(alloc, list, part),
+        _ => Ok(true),
     }
 }
 
 // Whether there are members, and each value of the part is one of them.
-fn has_all(members: Option<&Seq<Json>>, part: &Option<Seq<Json>>) -> bool
-    ensures { result ≡ option_map_or (λ part. have_members (λ members. are_among members part) (option_copied members.entry)) part.now true }
+fn has_all(
+    alloc: Global,
+    members: Option<&Seq<Json>>,
+    part: &Option<Seq<Json>>,
+) -> Result<bool, Memory>
+    ensures { IfOk result (λ all. all ≡ option_map_or (λ part. have_members (λ members. are_among members part) (option_copied members.entry)) part.now true) }
 {
     match (members, part) {
-        (_, None) => true,
-        (Some(members), Some(part)) => includes(members, part),
-        (None, Some(_)) => false,
+        (_, None) => Ok(true),
+        (Some(members), Some(part)) => includes_each(alloc, members, part),
+        (None, Some(_)) => Ok(false),
     }
 }
 
 // Whether there are members, and each of them is in the list.
-fn all_in(members: Option<&Seq<Json>>, list: &Option<Seq<Json>>) -> bool
-    ensures { result ≡ option_map_or (λ list. have_members (λ members. are_among list members) (option_copied members.entry)) list.now true }
+fn all_in(
+    alloc: Global,
+    members: Option<&Seq<Json>>,
+    list: &Option<Seq<Json>>,
+) -> Result<bool, Memory>
+    ensures { IfOk result (λ all. all ≡ option_map_or (λ list. have_members (λ members. are_among list members) (option_copied members.entry)) list.now true) }
 {
     match (members, list) {
-        (_, None) => true,
-        (Some(members), Some(list)) => includes(list, members),
-        (None, Some(_)) => false,
+        (_, None) => Ok(true),
+        (Some(members), Some(list)) => includes_each(alloc, list, members),
+        (None, Some(_)) => Ok(false),
     }
 }

@@ -1,0 +1,79 @@
+// Codes of trees.
+
+ghost use Rattle.std.specs.Prelude.{◌≡◌, ◌++◌, ◌∷◌, [], map, IfOk, OnOk};
+ghost use Rattle.std.specs.Fmt.{signed_decimal};
+ghost use Rattle.std.specs.List.{concat};
+ghost use Rattle.fed_json.specs.Codes.{code_of as code_in, counted, member_code};
+
+use crate::tree::{Json, Member};
+use fed_base::{Memory, Text};
+use std::alloc::Global;
+
+/// The code of the tree: bytes of its own for each value, as bencode has them, with `n`, `t`, `f` and `o` for null, true, false and `Odd`.
+pub(crate) fn code_of(alloc: Global, tree: &Json) -> Result<Vec<u8>, Memory>
+    ensures { IfOk result (λ code. code.items ≡ code_in tree.now) }
+{
+    let mut code = Text::new(alloc);
+    add_code(alloc, &mut code, tree)?;
+    Ok(code.into_vec())
+}
+
+#[cycle(code)]
+fn add_code(alloc: Global, code: &mut Text, tree: &Json) -> Result<(), Memory>
+    ensures { OnOk result (code.new ≡ code.old ++ code_in tree.now) }
+{
+    match tree {
+        Json::Null => code.push(b'n'),
+        Json::Bool(true) => code.push(b't'),
+        Json::Bool(false) => code.push(b'f'),
+        Json::Int(n) => add_int(alloc, code, *n),
+        Json::Odd => code.push(b'o'),
+        Json::Text(text) => add_counted(alloc, code, text),
+        Json::List(items) => {
+            code.push(b'l')?;
+            add_items(alloc, code, items.as_slice())?;
+            code.push(b'e')
+        }
+        Json::Object(members) => {
+            code.push(b'd')?;
+            add_members(alloc, code, members.as_slice())?;
+            code.push(b'e')
+        }
+    }
+}
+
+#[cycle(code)]
+fn add_items(alloc: Global, code: &mut Text, items: &[Json]) -> Result<(), Memory>
+    ensures { OnOk result (code.new ≡ code.old ++ concat (map code_in items.now)) }
+{
+    for item in items {
+        add_code(alloc, code, item)?;
+    }
+    Ok(())
+}
+
+#[cycle(code)]
+fn add_members(alloc: Global, code: &mut Text, members: &[Member]) -> Result<(), Memory>
+    ensures { OnOk result (code.new ≡ code.old ++ concat (map member_code members.now)) }
+{
+    for member in members {
+        add_counted(alloc, code, &member.name)?;
+        add_code(alloc, code, &member.value)?;
+    }
+    Ok(())
+}
+
+fn add_int(alloc: Global, code: &mut Text, n: i128) -> Result<(), Memory>
+    ensures { OnOk result (code.new ≡ code.old ++ 105 ∷ (signed_decimal n ++ 101 ∷ [])) }
+{
+    let digits = format!(in alloc; "i{n}e")?;
+    code.append(digits.as_bytes())
+}
+
+fn add_counted(alloc: Global, code: &mut Text, bytes: &Text) -> Result<(), Memory>
+    ensures { OnOk result (code.new ≡ code.old ++ counted bytes.now) }
+{
+    let digits = format!(in alloc; "{}:", bytes.len())?;
+    code.append(digits.as_bytes())?;
+    code.append(bytes.as_slice())
+}
