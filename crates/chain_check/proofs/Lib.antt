@@ -1,3 +1,4 @@
+pub mod Halves
 pub mod JudgedLaws
 pub mod JudgingLaws
 pub mod MergeLaws

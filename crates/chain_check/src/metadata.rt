@@ -1,7 +1,7 @@
 // The leaf's metadata before policies.
 
 ghost use Rattle.std.specs.Prelude.{◌≡◌, ◌<◌, [], IfOk, IsTrue, length, map};
-ghost use Rattle.std.specs.Option.{option_map_or};
+ghost use Rattle.std.specs.Option.{option_copied, option_map_or};
 ghost use Rattle.fed_json.specs.Forms.{rising};
 ghost use Rattle.fed_json.specs.Trees.{find as find_in, member_name, object_members as members_of};
 ghost use Rattle.fed_json.specs.Metadata.{IsMetadata};
@@ -11,7 +11,7 @@ ghost use Rattle.chain_check.specs.Reading.{claims_in};
 use chain_limits::{Place, allowed_types};
 use entity_statement::SignedStatement;
 use fed_base::{Duplicate, Memory, Seq};
-use fed_json::{Json, Member, Sides, find, object_members};
+use fed_json::{Json, Member, Sides, object_members};
 use std::alloc::Global;
 
 /// The leaf's metadata before policies: with its superior's put over it, and without the types that aren't allowed.
@@ -58,11 +58,12 @@ fn put_over(alloc: Global, upper: &Json, metadata: &Json) -> Result<Json, Memory
 
 // An entity type with what the superior says of it.
 fn type_over(alloc: Global, upper: &[Member], own: &Member) -> Result<Member, Memory>
+    requires types { IsTrue (rising (map member_name upper.now)) }
     requires upper { IsTrue (rising (map member_name (option_map_or members_of (find_in own.now.name upper.now) []))) }
     requires own { IsTrue (rising (map member_name (members_of own.now.value))) }
     ensures { IfOk result (λ m. m ≡ type_put upper.now own.now) }
 {
-    let above = match find(upper, own.name.as_slice()) {
+    let above = match find_in_order(upper, own.name.as_slice()) {
         Some(tree) => object_members(tree),
         None => &[],
     };
@@ -71,6 +72,17 @@ fn type_over(alloc: Global, upper: &[Member], own: &Member) -> Result<Member, Me
         name: own.name.copy(alloc)?,
         value: Json::Object(parameters),
     })
+}
+
+// The value of the member of that name. The members stand in rising byte order of their names, so it is searched for by halves.
+fn find_in_order<'a>(members: &'a [Member], name: &[u8]) -> Option<&'a Json>
+    requires { IsTrue (rising (map member_name members.now)) }
+    ensures { option_copied result ≡ find_in name.now members.now }
+{
+    match members.binary_search_by(|member| member.name.as_slice().cmp(name)) {
+        Ok(at) => Some(&members[at].value),
+        Err(_) => None,
+    }
 }
 
 // The parameters of both, in byte order of their names; of two with one name the superior's.

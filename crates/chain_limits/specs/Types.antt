@@ -1,6 +1,9 @@
 -- The entity types that are left of an entity's metadata (OpenID Federation 1.0 section 6.2.3).
-use Rattle.std.specs.Prelude.{◌≡◌, ◌⊎◌, ◌↔◌, ◌||◌, ℕ, List, Bool, true, bytes_eq, codes, filter, All, Contains, IfSome, Some, unwrap_or, option_map}
+use Rattle.std.specs.Prelude.{◌≡◌, ◌⊎◌, ◌↔◌, ◌||◌, ℕ, List, Option, Bool, true, bytes_eq, codes, filter, All, Contains, IfSome, Some, None, Vec, unwrap_or, option_map}
+use Rattle.std.specs.BTreeSet.{BTreeSet, contains_by}
+use Rattle.std.specs.Cmp.Lexicographic.{slice_cmp}
 use Rattle.std.specs.Option.{option_map_or}
+use Rattle.std.specs.Ordering.{nat_cmp}
 use Rattle.std.specs.List.{list_all, list_any}
 use Rattle.fed_json.specs.declared.tree.Json.{Json, Object}
 use Rattle.fed_json.specs.declared.tree.Member.{Member}
@@ -15,6 +18,14 @@ names_type entity_type limits = option_map_or (list_any (bytes_eq entity_type)) 
 -- every list of the chain names the type; federation_entity needs no naming (section 6.2.3)
 abbrev pub is_allowed : List Place → List ℕ → Bool
 is_allowed places entity_type = bytes_eq entity_type (codes "federation_entity") || list_all (λ place. names_type entity_type place.limits) places
+
+-- the names in a set, or all where there is none; for private clauses, as is `stays`
+abbrev pub in_set : {Z : Type 0} → Option (BTreeSet (Vec ℕ Z)) → List ℕ → Bool
+in_set None name = true
+in_set (Some set) name = contains_by (λ key. slice_cmp nat_cmp name key.items) set
+
+abbrev pub stays : {Z : Type 0} → Option (BTreeSet (Vec ℕ Z)) → List ℕ → Bool
+stays names entity_type = bytes_eq entity_type (codes "federation_entity") || in_set names entity_type
 
 -- the members whose types are allowed (section 6.2.3)
 abbrev pub members_allowed : List Place → List Member → List Member

@@ -4,10 +4,10 @@ use crate::json_rows::written;
 use crate::port_rows::joined;
 use crate::spelling::{cut, told, word};
 use fed_base::{Memory, Seq, Text};
-use fed_json::{Json, includes, intersect, read_tree, union};
+use fed_json::{Json, includes, includes_each, intersect, read_tree, union};
 use std::alloc::Global;
 
-/// The union and the intersection of two lists, and whether the first includes the second.
+/// The union and the intersection of two lists, and whether the first includes the second, by a scan and by codes.
 pub fn sets(alloc: Global, given: &str) -> Result<Text, Memory> {
     let (first, second) = cut(given);
     match (
@@ -24,6 +24,7 @@ fn of_lists(alloc: Global, first: &Seq<Json>, second: &Seq<Json>) -> Result<Text
     parts.push(items(alloc, union(alloc, first, second)?)?)?;
     parts.push(items(alloc, intersect(alloc, first, second)?)?)?;
     parts.push(told(alloc, &includes(first, second))?)?;
+    parts.push(told(alloc, &includes_each(alloc, first, second)?)?)?;
     joined(alloc, parts.as_slice(), b" | ")
 }
 

@@ -3,8 +3,12 @@ use Rattle.fed_json.specs.declared.tree.Member.{Member}
 use Rattle.fed_json.specs.Forms.{rising}
 use Rattle.fed_json.specs.Metadata.{IsMetadata}
 use Rattle.fed_json.specs.Trees.{member_name, object_members}
+use Rattle.fed_json.proofs.Booleans.{left_true}
 use Rattle.chain_check.proofs.Overrides.{formed-types, metadata-put_over, own-rises, put-all, upper-rises}
 use Rattle.chain_check.proofs.metadata.put_over.Goals as goal
+
+pub type_over-requires-clause-types : goal.type_over-requires-clause-types
+type_over-requires-clause-types c = left_true _ _ (formed-types c.args.upper.now _ c.object_members-upper.ensures c.requires.upper)
 
 pub type_over-requires-clause-upper : goal.type_over-requires-clause-upper
 type_over-requires-clause-upper c =
