@@ -20,7 +20,7 @@ pub fn is_member(list: &Seq<Json>, tree: &Json) -> bool
     list.as_slice().iter().any(|item| json_equal(item, tree))
 }
 
-/// Whether every member of `part` is a member of `list`. It takes no memory and scans the list for each, so it is for short lists.
+/// Whether every member of `part` is a member of `list`.
 pub fn includes(list: &Seq<Json>, part: &Seq<Json>) -> bool
     ensures members { IsTrue result ↔ All (Contains list.now) part.now }
     ensures test { result ≡ are_among list.now part.now }
@@ -33,7 +33,7 @@ pub fn includes(list: &Seq<Json>, part: &Seq<Json>) -> bool
     true
 }
 
-/// Whether every member of `part` is a member of `list`, as `includes` answers, in n log n steps for lists of n values.
+/// Whether every member of `part` is a member of `list`, as `includes` answers. It takes memory, and n log n steps for lists of n values.
 pub fn includes_each(alloc: Global, list: &Seq<Json>, part: &Seq<Json>) -> Result<bool, Memory>
     ensures members { IfOk result (λ all. IsTrue all ↔ All (Contains list.now) part.now) }
     ensures test { IfOk result (λ all. all ≡ are_among list.now part.now) }
