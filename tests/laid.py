@@ -66,7 +66,8 @@ def tell(what, so):
 
 def free_port():
     """Gives a port on which nobody listens, and that no other row was given. It is below those that Linux gives outgoing connections, so that
-    no connection of another row takes it before a server listens there."""
+    no connection of another row takes it before a server listens there. Whoever listens there sets SO_REUSEADDR, as is done here: a program
+    that another row starts meanwhile holds this socket a moment longer."""
     while True:
         port = random.randrange(20000, 32768)
         with lock:
@@ -74,6 +75,7 @@ def free_port():
                 continue
             given.add(port)
         with socket.socket() as it:
+            it.setsockopt(socket.SOL_SOCKET, socket.SO_REUSEADDR, 1)
             try:
                 it.bind(("127.0.0.1", port))
             except OSError:
