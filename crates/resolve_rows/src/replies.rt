@@ -21,22 +21,29 @@ fn parts(alloc: Global, text: &[u8]) -> Result<Compact, FormFault>
     split(alloc, text)
 }
 
+// Adds who says it and about whom, with a comma behind it.
 fn add_statement(out: &mut Text, statement: &Statement) -> Result<(), Memory> {
     add_word(out, name_of(&statement.iss))?;
     if statement.iss != statement.sub {
         add_word(out, b"about")?;
         add_word(out, name_of(&statement.sub))?;
     }
-    Ok(())
+    out.push(b',')
+}
+
+fn add_text(alloc: Global, out: &mut Text, text: &[u8]) -> Result<(), Memory> {
+    let Some(signed) = SignedStatement::read(alloc, text)? else {
+        return Ok(());
+    };
+    let added = add_statement(out, &signed.statement);
+    drop(signed);
+    added
 }
 
 fn add_chain(alloc: Global, out: &mut Text, items: &[Json]) -> Result<(), Memory> {
     for item in items {
         if let Json::Text(text) = item {
-            if let Some(signed) = SignedStatement::read(alloc, text.as_slice())? {
-                add_statement(out, &signed.statement)?;
-                out.push(b',')?;
-            }
+            add_text(alloc, out, text.as_slice())?;
         }
     }
     out.pop();
