@@ -29,6 +29,15 @@ fn seeds(number: u8) -> [u8; 48] {
     seeds
 }
 
+// Adds the set of a public key, as JSON.
+fn add_set(alloc: Global, out: &mut Text, public: &[u8; 32]) -> Result<(), Memory> {
+    out.append(b"{\"keys\":[{\"alg\":\"SLH-DSA-SHA2-128s\",\"kid\":\"")?;
+    out.append(thumbprint(alloc, public)?.as_slice())?;
+    out.append(b"\",\"kty\":\"AKP\",\"pub\":\"")?;
+    out.append(&encode_32(public))?;
+    out.append(b"\"}]}")
+}
+
 impl Keys {
     pub(crate) fn new(alloc: Global) -> Keys {
         Keys {
@@ -59,14 +68,8 @@ impl Keys {
     /// The set of the key of that number, as JSON.
     pub(crate) fn set(&mut self, alloc: Global, number: u8) -> Result<Text, Memory> {
         let public = self.pair(number)?.public();
-        let mut text = Text::of(
-            alloc,
-            b"{\"keys\":[{\"alg\":\"SLH-DSA-SHA2-128s\",\"kid\":\"",
-        )?;
-        text.append(thumbprint(alloc, &public)?.as_slice())?;
-        text.append(b"\",\"kty\":\"AKP\",\"pub\":\"")?;
-        text.append(&encode_32(&public))?;
-        text.append(b"\"}]}")?;
+        let mut text = Text::new(alloc);
+        add_set(alloc, &mut text, &public)?;
         Ok(text)
     }
 }

@@ -17,14 +17,19 @@ pub(crate) fn name_of(id: &EntityId) -> &[u8] {
     id.text().strip_prefix(b"https://").unwrap_or(b"")
 }
 
-/// The words of a part, with a space between two: none where it is `-`.
-pub(crate) fn words(alloc: Global, part: &str) -> Result<Seq<Text>, Memory> {
-    let mut words = Seq::new(alloc);
+fn add_words(alloc: Global, words: &mut Seq<Text>, part: &str) -> Result<(), Memory> {
     for word in part.split(' ') {
         if word != "-" {
             words.push(Text::of(alloc, word.as_bytes())?)?;
         }
     }
+    Ok(())
+}
+
+/// The words of a part, with a space between two: none where it is `-`.
+pub(crate) fn words(alloc: Global, part: &str) -> Result<Seq<Text>, Memory> {
+    let mut words = Seq::new(alloc);
+    add_words(alloc, &mut words, part)?;
     Ok(words)
 }
 
@@ -48,13 +53,18 @@ fn add_named(alloc: Global, entities: &mut Seq<EntityId>, word: &str) -> Result<
     Ok(())
 }
 
+fn add_entities(alloc: Global, entities: &mut Seq<EntityId>, part: &str) -> Result<(), Memory> {
+    for word in part.split(' ') {
+        if word != "-" {
+            add_named(alloc, entities, word)?;
+        }
+    }
+    Ok(())
+}
+
 /// The entities that a part names, with a space between two.
 pub(crate) fn entities(alloc: Global, part: &str) -> Result<Seq<EntityId>, Memory> {
     let mut entities = Seq::new(alloc);
-    for word in part.split(' ') {
-        if word != "-" {
-            add_named(alloc, &mut entities, word)?;
-        }
-    }
+    add_entities(alloc, &mut entities, part)?;
     Ok(entities)
 }

@@ -37,15 +37,28 @@ fn typ_of(alloc: Global, kind: &str) -> Result<Text, Memory>
     }
 }
 
-// A statement of these claims whose signature is of zeros.
-fn unsealed(alloc: Global, claims: &Text) -> Result<Text, Memory> {
+// Adds bytes in base64url.
+fn add_encoded(alloc: Global, out: &mut Text, bytes: &[u8]) -> Result<(), Memory> {
+    let encoded = base64url::encode(alloc, bytes)?;
+    let added = out.append(encoded.as_slice());
+    drop(encoded);
+    added
+}
+
+// Adds a statement of these claims whose signature is of zeros.
+fn add_unsealed(alloc: Global, out: &mut Text, claims: &Text) -> Result<(), Memory> {
     let header =
         b"{\"alg\":\"SLH-DSA-SHA2-128s\",\"kid\":\"none\",\"typ\":\"entity-statement+jwt\"}";
-    let mut text = base64url::encode(alloc, header)?;
-    text.push(b'.')?;
-    text.append(base64url::encode(alloc, claims.as_slice())?.as_slice())?;
-    text.push(b'.')?;
-    text.append(base64url::encode(alloc, &[0; SIGNATURE_BYTES])?.as_slice())?;
+    add_encoded(alloc, out, header)?;
+    out.push(b'.')?;
+    add_encoded(alloc, out, claims.as_slice())?;
+    out.push(b'.')?;
+    add_encoded(alloc, out, &[0; SIGNATURE_BYTES])
+}
+
+fn unsealed(alloc: Global, claims: &Text) -> Result<Text, Memory> {
+    let mut text = Text::new(alloc);
+    add_unsealed(alloc, &mut text, claims)?;
     Ok(text)
 }
 
