@@ -115,11 +115,32 @@ fn add_reply(
 ) -> Result<(), Memory> {
     match read(alloc, call)? {
         Some(call) => {
-            let reply = book.act(alloc, call.copy(alloc)?);
-            push_reply(alloc, out, &reply.copy(alloc)?)
+            let added = make(alloc, book, &call, out);
+            drop(call);
+            added
         },
         None => out.append(b"no call"),
     }
+}
+
+// Makes a copy of the call, and adds a copy of its reply.
+fn make(
+    alloc: Global,
+    book: &mut AnchorBook,
+    call: &BookCall,
+    out: &mut Text,
+) -> Result<(), Memory> {
+    let reply = book.act(alloc, call.copy(alloc)?);
+    let added = push_copy(alloc, out, &reply);
+    drop(reply);
+    added
+}
+
+fn push_copy(alloc: Global, out: &mut Text, reply: &BookReply) -> Result<(), Memory> {
+    let copy = reply.copy(alloc)?;
+    let added = push_reply(alloc, out, &copy);
+    drop(copy);
+    added
 }
 
 fn add_replies(

@@ -67,12 +67,34 @@ fn make(
     counts: &mut Counts,
 ) -> Result<(), Memory> {
     let reply = part.act(alloc, call_of(alloc, number, n)?);
+    let made = compare(alloc, plain, number, n, &reply, counts);
+    drop(reply);
+    made
+}
+
+// Makes the n-th call on the plain form, and counts whether it replies what the other did.
+fn compare(
+    alloc: Global,
+    plain: &mut PlainPart,
+    number: u64,
+    n: u64,
+    reply: &ShelfReply,
+    counts: &mut Counts,
+) -> Result<(), Memory> {
     let other = plain.act(alloc, call_of(alloc, number, n)?);
-    if told(alloc, &reply)?.as_slice() == told(alloc, &other)?.as_slice() {
+    let same = are_same(alloc, reply, &other);
+    drop(other);
+    if same? {
         counts.same = counts.same.saturating_add(1);
     }
-    count(counts, &reply);
+    count(counts, reply);
     Ok(())
+}
+
+fn are_same(alloc: Global, reply: &ShelfReply, other: &ShelfReply) -> Result<bool, Memory> {
+    let reply = told(alloc, reply)?;
+    let other = told(alloc, other)?;
+    Ok(reply.as_slice() == other.as_slice())
 }
 
 // Appends a count and its word.
@@ -81,21 +103,44 @@ fn push_count(alloc: Global, out: &mut Text, count: u64, word: &[u8]) -> Result<
     out.append(word)
 }
 
+// Makes so many calls on both forms.
+fn make_all(
+    alloc: Global,
+    part: &mut ShelfPart,
+    plain: &mut PlainPart,
+    calls: u64,
+    counts: &mut Counts,
+) -> Result<(), Memory> {
+    let mut number = 1;
+    for n in 0..calls {
+        make(alloc, part, plain, number, n, counts)?;
+        number = next(number);
+    }
+    Ok(())
+}
+
+fn counted(alloc: Global, calls: u64, counts: &mut Counts) -> Result<(), Memory> {
+    let mut part = ShelfPart::open(alloc)?;
+    match PlainPart::open(alloc) {
+        Ok(mut plain) => {
+            let made = make_all(alloc, &mut part, &mut plain, calls, counts);
+            drop(part);
+            drop(plain);
+            made
+        },
+        Err(_) => Err(Memory),
+    }
+}
+
 /// Makes so many calls on both forms, and tells how many replies were the same, and of which kind they were.
 pub fn compared(alloc: Global, calls: u64) -> Result<Text, Memory> {
-    let mut part = ShelfPart::open(alloc)?;
-    let mut plain = PlainPart::open(alloc)?;
     let mut counts = Counts {
         same: 0,
         hits: 0,
         misses: 0,
         dropped: 0,
     };
-    let mut number = 1;
-    for n in 0..calls {
-        make(alloc, &mut part, &mut plain, number, n, &mut counts)?;
-        number = next(number);
-    }
+    counted(alloc, calls, &mut counts)?;
     let mut out = Text::new(alloc);
     push_count(alloc, &mut out, counts.same, b" the same, ")?;
     push_count(alloc, &mut out, counts.hits, b" hits, ")?;

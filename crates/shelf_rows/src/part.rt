@@ -129,11 +129,32 @@ fn make<P: Sequential<Call = ShelfCall, Reply = ShelfReply>>(
     }
     match read(alloc, call, sealed)? {
         Some(call) => {
-            let reply = part.act(alloc, call.copy(alloc)?);
-            push_reply(alloc, out, &reply.copy(alloc)?)
+            let added = make_copy(alloc, part, &call, out);
+            drop(call);
+            added
         },
         None => out.append(b"no call"),
     }
+}
+
+// Makes a copy of the call, and appends a copy of its reply.
+fn make_copy<P: Sequential<Call = ShelfCall, Reply = ShelfReply>>(
+    alloc: Global,
+    part: &mut P,
+    call: &ShelfCall,
+    out: &mut Text,
+) -> Result<(), Memory> {
+    let reply = part.act(alloc, call.copy(alloc)?);
+    let added = push_copy(alloc, out, &reply);
+    drop(reply);
+    added
+}
+
+fn push_copy(alloc: Global, out: &mut Text, reply: &ShelfReply) -> Result<(), Memory> {
+    let copy = reply.copy(alloc)?;
+    let added = push_reply(alloc, out, &copy);
+    drop(copy);
+    added
 }
 
 /// The replies to these calls, made on an empty part.

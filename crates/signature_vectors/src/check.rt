@@ -7,6 +7,7 @@ ghost use Rattle.signature_vectors.specs.Copies.{turned, place_of_copy};
 use crate::reading::{next, number, value};
 use fed_base::{Plain, Steps};
 use slh_dsa::verify;
+use std::alloc::Global;
 use std::fs;
 use std::rt::Files;
 
@@ -57,17 +58,47 @@ pub(crate) fn check<R: Files + AllocGlobal>(rt: &R, given: &str) -> Option<Strin
     let (file, rest) = next(rest);
     let (length, _) = number(rest)?;
     let message = hex::decode(alloc, message).ok()?;
+    let told = check_file(rt, &public, message.as_slice(), file, length);
+    drop(message);
+    told
+}
+
+fn check_file<R: Files + AllocGlobal>(
+    rt: &R,
+    public: &[u8; 32],
+    message: &[u8],
+    file: &str,
+    length: u64,
+) -> Option<String> {
     let mut signature = fs::read(rt, file).ok()?;
     signature.push(0).ok()?;
-    if length as usize > signature.len() {
+    let told = check_bytes(
+        rt.alloc(),
+        public,
+        message,
+        signature.as_mut_slice(),
+        length,
+    );
+    drop(signature);
+    told
+}
+
+fn check_bytes(
+    alloc: Global,
+    public: &[u8; 32],
+    message: &[u8],
+    bytes: &mut [u8],
+    length: u64,
+) -> Option<String> {
+    if length as usize > bytes.len() {
         return None;
     }
-    let signature = &mut signature[..length as usize];
-    let valid = is_valid(&public, message.as_slice(), signature);
+    let signature = &mut bytes[..length as usize];
+    let valid = is_valid(public, message, signature);
     if signature.is_empty() {
         return format!(in alloc; "valid {valid}, no copies").ok();
     }
-    let copies = copies_valid(&public, message.as_slice(), signature);
+    let copies = copies_valid(public, message, signature);
     let count = copies.iter().filter(|valid| **valid).count();
     format!(in alloc;
         "valid {valid}, with a bit turned {count} of {}",

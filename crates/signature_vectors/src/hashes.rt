@@ -87,30 +87,45 @@ pub(crate) fn each(alloc: Global, given: &str) -> Option<String> {
     if count > 11 {
         return None;
     }
-    let count = count as usize;
+    let all = addresses();
+    let addresses = &all[..count as usize];
     let seed = SeedHash::new(&seed);
+    format!(in alloc;
+        "{} {} {} {}",
+        Hex(&hashed(&seed, addresses, &left)),
+        Hex(&secrets(&seed, addresses, &secret)),
+        Hex(&pairs(&seed, addresses, &left, &right)),
+        Hex(&ends(&seed, addresses, &left))
+    )
+    .ok()
+}
+
+// Eleven addresses of a FORS tree, with the indices from 0 on.
+fn addresses() -> [Address; 11] {
     let mut adr = Address::new();
     adr.set_layer(1);
     adr.set_tree(2);
     adr.set_type(AddressType::ForsTree);
     adr.set_words(4, 0, 0);
     let mut all = [adr; 11];
-    let addresses = &mut all[..count];
-    adr.fill_indices(0, addresses);
-    let mut hashed = [left; 11];
-    seed.hash_each(addresses, &mut hashed[..count]);
-    let mut secrets = [[0u8; 16]; 11];
-    seed.prf_each(&secret, addresses, &mut secrets[..count]);
-    let pairs = pairs(&seed, addresses, &left, &right);
-    let ends = ends(&seed, addresses, &left);
-    format!(in alloc;
-        "{} {} {} {}",
-        Hex(&short(hashed[..count].as_flattened())),
-        Hex(&short(secrets[..count].as_flattened())),
-        Hex(&pairs),
-        Hex(&ends)
-    )
-    .ok()
+    adr.fill_indices(0, &mut all);
+    all
+}
+
+// F of a value under each address.
+fn hashed(seed: &SeedHash, addresses: &[Address], value: &[u8; 16]) -> [u8; 16] {
+    let mut values = [*value; 11];
+    let count = addresses.len().min(11);
+    seed.hash_each(&addresses[..count], &mut values[..count]);
+    short(values[..count].as_flattened())
+}
+
+// PRF of a secret under each address.
+fn secrets(seed: &SeedHash, addresses: &[Address], secret: &[u8; 16]) -> [u8; 16] {
+    let mut values = [[0u8; 16]; 11];
+    let count = addresses.len().min(11);
+    seed.prf_each(secret, &addresses[..count], &mut values[..count]);
+    short(values[..count].as_flattened())
 }
 
 // H of both values under each address.

@@ -17,7 +17,9 @@ mod store_rows;
 use fed_base::{Memory, Text};
 use spelling::{cut, spelled};
 use std::alloc::Global;
-use std::io;
+use std::io::{self, Eprint, Print};
+use std::rt::Files;
+use std::time::Clock;
 
 // What a row answers that asks for nothing but memory.
 fn answer(alloc: Global, kind: &str, given: &str) -> Result<Text, Memory> {
@@ -46,29 +48,43 @@ fn answer(alloc: Global, kind: &str, given: &str) -> Result<Text, Memory> {
     }
 }
 
+// What is answered to a row.
+fn answer_row<R: Files + AllocGlobal + Eprint + Clock + Sync>(
+    rt: &R,
+    alloc: Global,
+    row: &str,
+    sealed: &mut Text,
+) -> Result<Text, Memory> {
+    let (kind, given) = cut(row);
+    match kind {
+        "real_store" => store_rows::real(rt, alloc, given),
+        "real_clock" => store_rows::clock(rt, alloc),
+        "seal" => seal_rows::seal(alloc, given, sealed),
+        "test" => seal_rows::test(alloc, given, sealed),
+        "check" => seal_rows::check(alloc, given, sealed),
+        "check_text" => seal_rows::check_text(alloc, given),
+        _ => answer(alloc, kind, given),
+    }
+}
+
+// Writes what was answered, as a line.
+fn write<R: Print>(rt: &R, alloc: Global, told: Result<Text, Memory>) -> io::Result<()> {
+    match told.and_then(|told| spelled(alloc, &told)) {
+        Ok(told) => println!(rt; "{}", told.as_str()),
+        Err(Memory) => println!(rt; "out of memory"),
+    }
+}
+
 fn main(rt: HostRuntime) -> io::Result<()> {
     let alloc = rt.alloc();
     let mut sealed = Text::new(alloc);
     for line in rt.lines(alloc) {
         let line = line?;
-        let (kind, given) = cut(line.as_str());
-        let told = match kind {
-            "real_store" => store_rows::real(&rt, alloc, given),
-            "real_clock" => store_rows::clock(&rt, alloc),
-            "seal" => seal_rows::seal(alloc, given, &mut sealed),
-            "test" => seal_rows::test(alloc, given, &sealed),
-            "check" => seal_rows::check(alloc, given, &sealed),
-            "check_text" => seal_rows::check_text(alloc, given),
-            _ => answer(alloc, kind, given),
-        };
-        if line.as_str().starts_with('#') {
-            println!(rt; "{}", line.as_str())?;
+        let row = line.as_str();
+        if row.starts_with('#') {
+            println!(rt; "{row}")?;
         } else {
-            let told = told.and_then(|told| spelled(alloc, &told));
-            match told {
-                Ok(told) => println!(rt; "{}", told.as_str())?,
-                Err(Memory) => println!(rt; "out of memory")?,
-            }
+            write(&rt, alloc, answer_row(&rt, alloc, row, &mut sealed))?;
         }
     }
     Ok(())

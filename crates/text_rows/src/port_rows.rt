@@ -7,6 +7,15 @@ use std::alloc::Global;
 
 /// Three pieces, appended by one call each, then twice in a list that is copied, and 32 bytes in another.
 pub fn lists(alloc: Global, given: &str) -> Result<Text, Memory> {
+    let mut list = Seq::new(alloc);
+    list.push(pieces(alloc, given)?)?;
+    list.push(Text::of(alloc, &[7u8; 32])?)?;
+    let joined = copied(alloc, &list);
+    drop(list);
+    joined
+}
+
+fn pieces(alloc: Global, given: &str) -> Result<Text, Memory> {
     let (first, given) = cut(given);
     let (second, third) = cut(given);
     let mut text = bytes_of(alloc, first)?;
@@ -14,9 +23,10 @@ pub fn lists(alloc: Global, given: &str) -> Result<Text, Memory> {
     for &byte in third.as_bytes() {
         text.push(byte)?;
     }
-    let mut list = Seq::new(alloc);
-    list.push(text)?;
-    list.push(Text::of(alloc, &[7u8; 32])?)?;
+    Ok(text)
+}
+
+fn copied(alloc: Global, list: &Seq<Text>) -> Result<Text, Memory> {
     let copied = list.copy(alloc)?;
     joined(alloc, copied.as_slice(), b" ")
 }
@@ -70,20 +80,34 @@ pub fn sink(alloc: Global, given: &str) -> Result<Text, Memory> {
 
 /// How many bytes a reader of them gives in three calls, and how many a writer takes in one.
 pub fn adapters(alloc: Global, given: &str) -> Result<Text, Memory> {
+    let mut counts = Text::new(alloc);
+    add_taken(alloc, given, &mut counts)?;
+    add_given(alloc, &mut counts)?;
+    Ok(counts)
+}
+
+fn add_count(alloc: Global, count: usize, counts: &mut Text) -> Result<(), Memory> {
+    counts.append(told(alloc, &count)?.as_slice())
+}
+
+fn add_taken(alloc: Global, given: &str, counts: &mut Text) -> Result<(), Memory> {
     let mut source = RealSource::new(given.as_bytes());
     let mut buffer = [0u8; 4];
-    let mut counts = Text::new(alloc);
     for _ in 0..3 {
         let n = source.take(&mut buffer).unwrap_or(9);
-        counts.append(told(alloc, &n)?.as_slice())?;
+        add_count(alloc, n, counts)?;
     }
+    Ok(())
+}
+
+fn add_given(alloc: Global, counts: &mut Text) -> Result<(), Memory> {
     let mut sink = RealSink::new(Vec::<u8>::new(alloc));
     let n = match sink.give(b"ab") {
         Ok(n) => n,
         Err(_) => 0,
     };
-    counts.append(told(alloc, &n)?.as_slice())?;
-    Ok(counts)
+    drop(sink);
+    add_count(alloc, n, counts)
 }
 
 fn add_reading(alloc: Global, clock: &mut MemoryClock, readings: &mut Text) -> Result<(), Memory> {

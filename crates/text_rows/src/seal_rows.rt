@@ -112,9 +112,26 @@ pub fn check_text(alloc: Global, given: &str) -> Result<Text, Memory> {
 }
 
 fn check_bytes(alloc: Global, text: &[u8], set: &str) -> Result<Text, Memory> {
-    match (taken_apart(alloc, text), set_of(alloc, set.as_bytes())) {
-        (Ok(compact), Ok(set)) => checked(alloc, &compact, &set),
-        _ => word(alloc, "no text or no set"),
+    match taken_apart(alloc, text) {
+        Ok(compact) => {
+            let told = check_compact(alloc, &compact, set);
+            drop(compact);
+            told
+        },
+        Err(_) => word(alloc, "no text or no set"),
+    }
+}
+
+fn check_compact(alloc: Global, compact: &Compact, set: &str) -> Result<Text, Memory>
+    requires { IsCompact compact.now.whole compact.now }
+{
+    match set_of(alloc, set.as_bytes()) {
+        Ok(set) => {
+            let told = checked(alloc, compact, &set);
+            drop(set);
+            told
+        },
+        Err(_) => word(alloc, "no text or no set"),
     }
 }
 

@@ -21,11 +21,31 @@ pub fn sets(alloc: Global, given: &str) -> Result<Text, Memory> {
 
 fn of_lists(alloc: Global, first: &Seq<Json>, second: &Seq<Json>) -> Result<Text, Memory> {
     let mut parts = Seq::new(alloc);
-    parts.push(items(alloc, union(alloc, first, second)?)?)?;
-    parts.push(items(alloc, intersect(alloc, first, second)?)?)?;
-    parts.push(told(alloc, &includes(first, second))?)?;
-    parts.push(told(alloc, &includes_each(alloc, first, second)?)?)?;
+    add_lists(alloc, first, second, &mut parts)?;
+    add_included(alloc, first, second, &mut parts)?;
     joined(alloc, parts.as_slice(), b" | ")
+}
+
+// Adds the union and the intersection.
+fn add_lists(
+    alloc: Global,
+    first: &Seq<Json>,
+    second: &Seq<Json>,
+    parts: &mut Seq<Text>,
+) -> Result<(), Memory> {
+    parts.push(items(alloc, union(alloc, first, second)?)?)?;
+    parts.push(items(alloc, intersect(alloc, first, second)?)?)
+}
+
+// Adds whether the first list includes the second.
+fn add_included(
+    alloc: Global,
+    first: &Seq<Json>,
+    second: &Seq<Json>,
+    parts: &mut Seq<Text>,
+) -> Result<(), Memory> {
+    parts.push(told(alloc, &includes(first, second))?)?;
+    parts.push(told(alloc, &includes_each(alloc, first, second)?)?)
 }
 
 fn add_items(alloc: Global, texts: &mut Seq<Text>, list: &[Json]) -> Result<(), Memory> {

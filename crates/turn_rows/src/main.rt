@@ -22,7 +22,7 @@ use crate::team::{
 };
 use crate::worker::{Job, Stop, Told, close_one, open_one, work};
 use std::alloc::Global;
-use std::io;
+use std::io::{self, Print};
 use std::sync::Wait;
 use std::thread::Threads;
 use turn_log::{Kept, Pass};
@@ -114,21 +114,38 @@ fn run<R: Threads + Wait + Sync>(
     }
 }
 
-// What the object holds when all callers are done and their passes joined, and what they were told.
+// Runs the callers of a row, and reads the object when all are done and their passes joined.
+fn read_after<R: Threads + Wait + Sync>(
+    rt: &R,
+    alloc: Global,
+    kept: &Kept<Tally>,
+    pass: &mut Pass<Tally>,
+    row: Row,
+    told: &mut Told,
+) -> Result<Reply, Stop>
+    requires { IsOf TallyStep kept.now pass.old }
+    ensures { IsOf TallyStep kept.now pass.new }
+{
+    run(rt, alloc, kept, pass, row, told)?;
+    Ok(kept.act(rt, alloc, pass, Call::Read)?)
+}
+
+// What the object of a row holds in the end. What the callers were told stands in `told`.
 fn counted<R: Threads + Wait + Sync>(
     rt: &R,
     alloc: Global,
     row: Row,
-) -> Result<(Reply, Told), Stop> {
+    told: &mut Told,
+) -> Result<Reply, Stop> {
     let first = Tally {
         sum: 0,
         values: Vec::new(alloc),
     };
     let (kept, mut pass) = Kept::new(alloc, first)?;
-    let mut told = Told::new(alloc);
-    run(rt, alloc, &kept, &mut pass, row, &mut told)?;
-    let reply = kept.act(rt, alloc, &mut pass, Call::Read)?;
-    Ok((reply, told))
+    let reply = read_after(rt, alloc, &kept, &mut pass, row, told);
+    drop(pass);
+    drop(kept);
+    reply
 }
 
 // Whether the calls that added stand in one order, which leads to what the object holds, and whether it holds each value that was kept.
@@ -150,34 +167,59 @@ fn read_amount(line: &str) -> Option<u64> {
     amount.parse::<u64>().ok()
 }
 
+// Writes what came of a line that asks for the group.
+fn write_sums<R: Print + Wait>(rt: &R, alloc: Global, line: &str, amount: u64) -> io::Result<()> {
+    match nine::sums(rt, alloc, amount) {
+        Ok((parts, book)) => println!(rt; "{line}: parts {parts}, book {book}"),
+        Err(stop) => println!(rt; "{line}: {stop:?}"),
+    }
+}
+
+// Writes what the callers of a row were told.
+fn write_told<R: Print>(rt: &R, line: &str, reply: Reply, told: &mut Told) -> io::Result<()> {
+    match is_in_order(reply, told) {
+        Ok(true) => println!(rt;
+            "{line}: {} added, {} kept, {} wanted memory, in order, {reply:?}",
+            told.sums.len(),
+            told.kept,
+            told.wanting
+        ),
+        _ => println!(rt; "{line}: not in order"),
+    }
+}
+
+// Writes what came of a row.
+fn write_row<R: Print + Threads + Wait + Sync>(
+    rt: &R,
+    alloc: Global,
+    line: &str,
+    row: Row,
+) -> io::Result<()> {
+    let mut told = Told::new(alloc);
+    let done = match counted(rt, alloc, row, &mut told) {
+        Ok(reply) => write_told(rt, line, reply, &mut told),
+        Err(stop) => println!(rt; "{line}: {stop:?}"),
+    };
+    drop(told);
+    done
+}
+
+// Does what a line asks for.
+fn step<R: Print + Threads + Wait + Sync>(rt: &R, alloc: Global, line: &str) -> io::Result<()> {
+    if let Some(amount) = read_amount(line) {
+        return write_sums(rt, alloc, line, amount);
+    }
+    match read_row(line) {
+        Some(row) => write_row(rt, alloc, line, row),
+        None => println!(rt; "no row"),
+    }
+}
+
 fn main(rt: HostRuntime) -> io::Result<()> {
     let alloc = rt.alloc();
     for line in rt.lines(alloc) {
         let line = line?;
-        if let Some(amount) = read_amount(line.as_str()) {
-            match nine::sums(&rt, alloc, amount) {
-                Ok((parts, book)) => println!(rt; "{line}: parts {parts}, book {book}")?,
-                Err(stop) => println!(rt; "{line}: {stop:?}")?,
-            }
-            continue;
-        }
-        let Some(row) = read_row(line.as_str()) else {
-            println!(rt; "no row")?;
-            continue;
-        };
-        match counted(&rt, alloc, row) {
-            Ok((reply, mut told)) => {
-                let added = told.sums.len();
-                let (kept, wanting) = (told.kept, told.wanting);
-                match is_in_order(reply, &mut told) {
-                    Ok(true) => println!(rt;
-                        "{line}: {added} added, {kept} kept, {wanting} wanted memory, in order, {reply:?}"
-                    )?,
-                    _ => println!(rt; "{line}: not in order")?,
-                }
-            }
-            Err(stop) => println!(rt; "{line}: {stop:?}")?,
-        }
+        step(&rt, alloc, line.as_str())?;
     }
     Ok(())
 }

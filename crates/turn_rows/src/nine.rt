@@ -33,12 +33,29 @@ fn call_each<R: Wait>(
     Ok((parts, book))
 }
 
+// The same after another pass called each.
+fn call_by_both<R: Wait>(
+    rt: &R,
+    alloc: Global,
+    nine: &Nine,
+    pass: &mut NinePass,
+    amount: u64,
+) -> Result<(u64, u64), Stop>
+    requires { AreOf CountStep none_counted CountStep nine.now pass.old }
+{
+    let mut other = nine.split(rt, alloc, pass)?;
+    let called = call_each(rt, alloc, nine, &mut other, amount);
+    nine.join(rt, pass, other);
+    called?;
+    nine.is_history(pass);
+    call_each(rt, alloc, nine, pass, 0)
+}
+
 /// The sums of the parts together, and that of the book, after each was called by one pass and read by the first.
 pub fn sums<R: Wait>(rt: &R, alloc: Global, amount: u64) -> Result<(u64, u64), Stop> {
     let (nine, mut pass) = KeptGroup::new(alloc, Counter { sum: 0 })?;
-    let mut other = nine.split(rt, alloc, &mut pass)?;
-    call_each(rt, alloc, &nine, &mut other, amount)?;
-    nine.join(rt, &mut pass, other);
-    nine.is_history(&pass);
-    call_each(rt, alloc, &nine, &mut pass, 0)
+    let sums = call_by_both(rt, alloc, &nine, &mut pass, amount);
+    drop(pass);
+    drop(nine);
+    sums
 }
