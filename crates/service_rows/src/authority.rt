@@ -28,12 +28,19 @@ pub(crate) fn authority_in_memory<R: Threads + Wait + Sync>(
     rt: &R,
     alloc: Global,
 ) -> Result<Text, Memory> {
-    let mut callers = Seq::new(alloc);
-    callers.push(MemoryPeer::new(alloc, FETCH, ROOM, &[], &[], CALLS)?)?;
+    let callers = caller(alloc)?;
     let mut net = MemoryNetwork::new(alloc, Seq::new(alloc), callers, ROOM, &[], CALLS)?;
     let told = served(rt, alloc, &mut net);
     drop(net);
     told
+}
+
+// The one caller.
+fn caller(alloc: Global) -> Result<Seq<MemoryPeer>, Memory> {
+    let peer = MemoryPeer::new(alloc, FETCH, ROOM, &[], &[], CALLS)?;
+    let mut callers = Seq::new(alloc);
+    callers.push(peer)?;
+    Ok(callers)
 }
 
 fn served<R: Threads + Wait + Sync>(
@@ -42,8 +49,14 @@ fn served<R: Threads + Wait + Sync>(
     net: &mut MemoryNetwork,
 ) -> Result<Text, Memory> {
     let mut told = ran(rt, alloc, COMMAND, net)?;
-    for peer in net.settled() {
-        add_held(&mut told, peer.as_slice())?;
-    }
+    add_settled(&mut told, net)?;
     Ok(told)
+}
+
+// Adds what each caller holds that was settled.
+fn add_settled(told: &mut Text, net: &MemoryNetwork) -> Result<(), Memory> {
+    for peer in net.settled() {
+        add_held(told, peer.as_slice())?;
+    }
+    Ok(())
 }

@@ -22,24 +22,32 @@ pub(crate) struct Command {
     pub(crate) ring: &'static [u8],
 }
 
-fn words(alloc: Global, command: Command) -> Result<Seq<Text>, Memory> {
-    let mut words = Seq::new(alloc);
+fn add_words(alloc: Global, command: Command, words: &mut Seq<Text>) -> Result<(), Memory> {
     for word in command.words.split(' ') {
         words.push(Text::of(alloc, word.as_bytes())?)?;
     }
-    Ok(words)
+    Ok(())
 }
 
-fn file(alloc: Global, name: &[u8], bytes: &[u8]) -> Result<NamedFile, Memory> {
+fn add_file(
+    alloc: Global,
+    name: &[u8],
+    bytes: &[u8],
+    files: &mut Seq<NamedFile>,
+) -> Result<(), Memory> {
     let name = Text::of(alloc, name)?;
     let bytes = Text::of(alloc, bytes)?;
-    Ok(NamedFile { name, bytes })
+    files.push(NamedFile { name, bytes })
+}
+
+fn add_files(alloc: Global, command: Command, files: &mut Seq<NamedFile>) -> Result<(), Memory> {
+    add_file(alloc, b"node", command.node, files)?;
+    add_file(alloc, b"ring", command.ring, files)
 }
 
 fn store(alloc: Global, command: Command) -> Result<MemoryStore, Memory> {
     let mut files = Seq::new(alloc);
-    files.push(file(alloc, b"node", command.node)?)?;
-    files.push(file(alloc, b"ring", command.ring)?)?;
+    add_files(alloc, command, &mut files)?;
     MemoryStore::new(alloc, files, ROOM, false, &[], CALLS)
 }
 
@@ -73,12 +81,20 @@ fn run_with<R: Threads + Wait + Sync, N: Network + Drop>(
 where
     N::Peer: Drop,
 {
-    let words = words(alloc, command)?;
-    let mut store = store(alloc, command)?;
-    let status = run_over(rt, alloc, &words, &mut store, net, out);
-    drop(words);
-    drop(store);
-    status
+    let mut words = Seq::new(alloc);
+    add_words(alloc, command, &mut words)?;
+    match store(alloc, command) {
+        Ok(mut store) => {
+            let status = run_over(rt, alloc, &words, &mut store, net, out);
+            drop(words);
+            drop(store);
+            status
+        }
+        Err(Memory) => {
+            drop(words);
+            Err(Memory)
+        }
+    }
 }
 
 fn run_over<R: Threads + Wait + Sync, N: Network + Drop>(

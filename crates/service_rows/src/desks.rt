@@ -157,11 +157,27 @@ fn serve_at<'a, R: Threads + Wait + Sync>(
     requires { IfSome node.now.resolver (λ part. IsPassOfAll part.commons pass.old) }
 {
     let mut desks = Vec::new(alloc);
-    add_desk(node, rt, alloc, pass, web, plan.first, &mut desks)?;
-    add_desk(node, rt, alloc, pass, web, plan.second, &mut desks)?;
-    let told = serve_desks(node, rt, alloc, plan, desks.as_mut_slice());
+    let told = serve_added(node, rt, alloc, pass, web, plan, &mut desks);
     drop(desks);
     told
+}
+
+// Adds the two desks, and serves them.
+fn serve_added<'a, R: Threads + Wait + Sync>(
+    node: &Node,
+    rt: &R,
+    alloc: Global,
+    pass: &mut FedPass,
+    web: &Seq<NamedPage>,
+    plan: Plan<'a>,
+    desks: &mut Vec<TestDesk<'a>>,
+) -> Result<Text, Memory>
+    requires of { IfSome node.now.resolver (λ part. IsPassOfAll part.commons pass.old) }
+    requires free { All (IsFree node.now) desks.old.items }
+{
+    add_desk(node, rt, alloc, pass, web, plan.first, desks)?;
+    add_desk(node, rt, alloc, pass, web, plan.second, desks)?;
+    serve_desks(node, rt, alloc, plan, desks.as_mut_slice())
 }
 
 // Adds a desk whose pass is split from this one.
@@ -288,20 +304,31 @@ fn tell_desk(alloc: Global, out: &mut Text, desk: &TestDesk<'_>) -> Result<(), M
     add_word(out, b"hits")
 }
 
+// Adds whether the network failed, and what is told of each desk.
+fn tell_desks(
+    alloc: Global,
+    out: &mut Text,
+    served: Result<(), Failed>,
+    desks: &[TestDesk<'_>],
+) -> Result<(), Memory> {
+    if served.is_err() {
+        add_word(out, b"the network failed")?;
+    }
+    for desk in desks {
+        if !out.is_empty() {
+            out.push(b';')?;
+        }
+        tell_desk(alloc, out, desk)?;
+    }
+    Ok(())
+}
+
 fn desks_told(
     alloc: Global,
     served: Result<(), Failed>,
     desks: &[TestDesk<'_>],
 ) -> Result<Text, Memory> {
     let mut out = Text::new(alloc);
-    if served.is_err() {
-        add_word(&mut out, b"the network failed")?;
-    }
-    for desk in desks {
-        if !out.is_empty() {
-            out.push(b';')?;
-        }
-        tell_desk(alloc, &mut out, desk)?;
-    }
+    tell_desks(alloc, &mut out, served, desks)?;
     Ok(out)
 }

@@ -45,8 +45,14 @@ fn served<R: Threads + Wait + Sync>(
     net: &mut TwoCallers<'_>,
 ) -> Result<Text, Memory> {
     let mut told = ran(rt, alloc, COMMAND, net)?;
-    for peer in net.settled() {
-        add_held(&mut told, peer.as_slice())?;
-    }
+    add_settled(&mut told, net)?;
     Ok(told)
+}
+
+// Adds what each caller holds that was settled.
+fn add_settled(told: &mut Text, net: &TwoCallers<'_>) -> Result<(), Memory> {
+    for peer in net.settled() {
+        add_held(told, peer.as_slice())?;
+    }
+    Ok(())
 }

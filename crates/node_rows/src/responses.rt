@@ -2,7 +2,8 @@
 
 ghost use Rattle.http_plain.specs.Responses.{HasReason};
 
-use crate::words::{bytes, cut, number, show};
+use crate::wire::{bytes, show};
+use crate::words::{cut, number};
 use fed_base::{Memory, Text};
 use fed_ports::MemorySink;
 use http_plain::{Media, Response, WriteEnd, write_response};

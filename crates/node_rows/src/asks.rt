@@ -1,7 +1,8 @@
 // Requests that are read.
 
 use crate::pieces::Pieces;
-use crate::words::{bytes, counted, cut, number, show};
+use crate::wire::{bytes, counted, show};
+use crate::words::{cut, number};
 use fed_base::{Memory, Text};
 use fed_ports::MemorySource;
 use http_plain::{Incoming, Method, ReadEnd, Request, read_request};
