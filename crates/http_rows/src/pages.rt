@@ -1,7 +1,6 @@
 // Pages that a client gets.
 
-use crate::wire::{add_digits, bytes, counted, show};
-use crate::words::{cut, number};
+use crate::words::{add_number, bytes, counted, cut, number, show};
 use fed_base::{Memory, Seq, Text};
 use fed_net::MemoryNetwork;
 use fed_ports::{Address, Link, LinkFault, Page};
@@ -46,7 +45,7 @@ fn add_page(alloc: Global, out: &mut Text, page: &Page) -> Result<(), Memory> {
         }
         Page::Refusal(status) => {
             out.append(b"Refusal ")?;
-            add_digits(alloc, out, u64::from(*status))
+            add_number(alloc, out, u64::from(*status))
         }
         Page::Garbled => out.append(b"Garbled"),
         Page::TooLong => out.append(b"TooLong"),

@@ -1,4 +1,4 @@
-// Rows on rings taken apart, and their answers put together.
+// Rows taken apart, and answers put together.
 
 ghost use Rattle.std.specs.Prelude.{◌<◌};
 ghost use Rattle.fed_base.specs.Moments.{moment_limit};
@@ -7,6 +7,11 @@ use fed_base::{Duplicate, MOMENT_LIMIT, Memory, Text};
 use hex::FromHex;
 use key_ring::{OrderFault, RevokeReason, RingFault};
 use std::alloc::Global;
+
+/// The part before the first tab and what stands behind it; the whole and nothing where there is no tab.
+pub(crate) fn cut(text: &str) -> (&str, &str) {
+    text.split_once('\t').unwrap_or((text, ""))
+}
 
 /// The word before the first space and what stands behind it; the whole and nothing where there is no space.
 pub(crate) fn cut_word(text: &str) -> (&str, &str) {

@@ -2,8 +2,7 @@
 
 ghost use Rattle.http_plain.specs.Responses.{HasReason};
 
-use crate::wire::{bytes, show};
-use crate::words::{cut, number};
+use crate::words::{bytes, cut, number, show};
 use fed_base::{Memory, Text};
 use fed_ports::MemorySink;
 use http_plain::{Media, Response, WriteEnd, write_response};

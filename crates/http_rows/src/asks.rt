@@ -1,8 +1,7 @@
 // Requests that are read.
 
 use crate::pieces::Pieces;
-use crate::wire::{bytes, counted, show};
-use crate::words::{cut, number};
+use crate::words::{bytes, counted, cut, number, show};
 use fed_base::{Memory, Text};
 use fed_ports::MemorySource;
 use http_plain::{Incoming, Method, ReadEnd, Request, read_request};

@@ -2,8 +2,7 @@
 
 ghost use Rattle.fed_json.specs.Forms.{IsWhole};
 
-use crate::ring_words::{add, add_fault, cut_word, moment, reason, seeds};
-use crate::words::cut;
+use crate::words::{add, add_fault, cut, cut_word, moment, reason, seeds};
 use base64url::encode_32;
 use fed_base::{Memory, Seq, Text};
 use fed_json::{Json, write_tree};
@@ -16,7 +15,7 @@ use std::alloc::Global;
 const ROOM: usize = 40_000;
 
 /// The file of a new ring: its seeds, and the moments that it is for.
-pub(crate) fn first(alloc: Global, given: &str) -> Result<Text, Memory> {
+pub fn first(alloc: Global, given: &str) -> Result<Text, Memory> {
     let (digits, given) = cut(given);
     let (at, exp) = cut(given);
     let mut out = Text::new(alloc);
@@ -39,7 +38,7 @@ fn store_of(alloc: Global, plan: &str, file: &str) -> Result<MemoryStore, Memory
 }
 
 /// The answers of the steps that are taken with a ring: how the store fails, the ring's file, and then each step.
-pub(crate) fn ring(alloc: Global, given: &str) -> Result<Text, Memory> {
+pub fn ring(alloc: Global, given: &str) -> Result<Text, Memory> {
     let (plan, given) = cut(given);
     let (file, steps) = cut(given);
     let mut out = Text::new(alloc);

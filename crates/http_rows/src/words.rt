@@ -1,7 +1,17 @@
-// Bytes of messages, as rows tell them and answers show them.
+// Rows taken apart, and answers put together.
 
 use fed_base::{Memory, Text};
 use std::alloc::Global;
+
+/// The part before the first tab and what stands behind it; the whole and nothing where there is no tab.
+pub(crate) fn cut(text: &str) -> (&str, &str) {
+    text.split_once('\t').unwrap_or((text, ""))
+}
+
+/// The number that the digits say, and 0 where they say none.
+pub(crate) fn number(digits: &str) -> u64 {
+    digits.parse::<u64>().unwrap_or(0)
+}
 
 // Adds the bytes that a text stands for: `^` is CR LF, `~` LF and `` ` `` CR.
 fn add_text(out: &mut Text, text: &str) -> Result<(), Memory> {
@@ -41,7 +51,7 @@ pub(crate) fn bytes(alloc: Global, parts: &str) -> Result<Text, Memory> {
 /// Adds bytes with their line ends made visible, and of more than 400 how many there are alone.
 pub(crate) fn show(alloc: Global, out: &mut Text, bytes: &[u8]) -> Result<(), Memory> {
     if bytes.len() > 400 {
-        add_digits(alloc, out, bytes.len() as u64)?;
+        add_number(alloc, out, bytes.len() as u64)?;
         return out.append(b" bytes");
     }
     for &byte in bytes {
@@ -55,7 +65,7 @@ pub(crate) fn show(alloc: Global, out: &mut Text, bytes: &[u8]) -> Result<(), Me
 }
 
 /// Adds a number in decimal digits.
-pub(crate) fn add_digits(alloc: Global, out: &mut Text, n: u64) -> Result<(), Memory> {
+pub(crate) fn add_number(alloc: Global, out: &mut Text, n: u64) -> Result<(), Memory> {
     match format!(in alloc; "{n}") {
         Ok(digits) => out.append(digits.as_bytes()),
         Err(_) => Err(Memory),
@@ -65,8 +75,8 @@ pub(crate) fn add_digits(alloc: Global, out: &mut Text, n: u64) -> Result<(), Me
 /// How often something was found, of so many times.
 pub(crate) fn counted(alloc: Global, name: &[u8], n: u64, all: u64) -> Result<Text, Memory> {
     let mut out = Text::of(alloc, name)?;
-    add_digits(alloc, &mut out, n)?;
+    add_number(alloc, &mut out, n)?;
     out.append(b" of ")?;
-    add_digits(alloc, &mut out, all)?;
+    add_number(alloc, &mut out, all)?;
     Ok(out)
 }

@@ -1,10 +1,9 @@
 // Peers and links in memory.
 
+use crate::answers::status;
 use crate::asks::told;
 use crate::pages::got;
-use crate::responses::status;
-use crate::wire::{bytes, show};
-use crate::words::cut;
+use crate::words::{bytes, cut, show};
 use fed_base::{Memory, Seq, Text};
 use fed_net::{MemoryLink, MemoryPeer, NamedPage};
 use fed_ports::Page;
