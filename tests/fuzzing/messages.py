@@ -1,4 +1,4 @@
-"""The rules of docs/HTTP.md and AUTHORITY.md once more: which bytes are a request, what a node answers them, and which page the bytes of an
+"""The rules of docs/rules/HTTP.md and AUTHORITY.md once more: which bytes are a request, what a node answers them, and which page the bytes of an
 answer are."""
 
 import json

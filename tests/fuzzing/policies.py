@@ -1,4 +1,4 @@
-"""The tables of docs/POLICY.md once more: what a policy is, how two are merged, and what one makes of metadata."""
+"""The tables of docs/rules/POLICY.md once more: what a policy is, how two are merged, and what one makes of metadata."""
 
 import json
 

@@ -1,4 +1,4 @@
-"""The rules of docs/TEXTS.md, STATEMENTS.md, CHAINS.md, RINGS.md and AUTHORITY.md once more, in another language and by other readers: what
+"""The rules of docs/rules/TEXTS.md, STATEMENTS.md, CHAINS.md, RINGS.md and AUTHORITY.md once more, in another language and by other readers: what
 the program has to answer on texts that were changed. Where this doesn't say (which texts `url` reads), the answer is None, and either will do."""
 
 import base64

@@ -1,4 +1,4 @@
-"""The rules of docs/SEARCH.md, RESOLVING.md and SHELF.md once more: which pages a resolver asks for on an entity, which texts it keeps, and what it
+"""The rules of docs/rules/SEARCH.md, RESOLVING.md and SHELF.md once more: which pages a resolver asks for on an entity, which texts it keeps, and what it
 answers, also on other keys for an anchor. Of entities that signed nothing here it is only said that they aren't found."""
 
 import json
