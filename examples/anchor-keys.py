@@ -5,7 +5,7 @@
 
 RING is the file of a control key's ring, whose newest live key seals; ANCHOR the trust anchor; EPOCH the number of changes that the resolver has
 made since it was started; KEYS a file with the anchor's key set from now on. The text goes to standard output, without a line end, for a POST to
-the resolver's /anchor-keys. The signature is that of another implementation, in tests/, and takes some ten seconds."""
+the resolver's /anchor-keys. The signature is that of another implementation, in tests/lib/, and takes some ten seconds."""
 
 import json
 import os
@@ -13,7 +13,7 @@ import subprocess
 import sys
 
 sys.dont_write_bytecode = True
-sys.path.insert(0, os.path.join(os.path.dirname(os.path.realpath(__file__)), "..", "tests"))
+sys.path.insert(0, os.path.join(os.path.dirname(os.path.realpath(__file__)), "..", "tests", "lib"))
 from sealing import sealed  # noqa: E402
 
 if len(sys.argv) != 5:

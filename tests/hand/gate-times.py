@@ -1,8 +1,8 @@
 #!/usr/bin/env python3
 """Runs the gate from nothing and shows what each crate cost of it, in processor minutes.
 
-    tests/gate-times            runs `rt ci` at the top, from nothing, prints the table, and writes it to docs/proofs/GATE.md
-    tests/gate-times WORD ..    runs `rt ci WORD ..` instead, and prints its table alone
+    tests/hand/gate-times.py            runs `rt ci` at the top, from nothing, prints the table, and writes it to docs/proofs/GATE.md
+    tests/hand/gate-times.py WORD ..    runs `rt ci WORD ..` instead, and prints its table alone
 
 A table on standard output has for each crate its proof, its tests, the whole check that its edits begin with, its edits and its builds.
 Below it stand the edits whose refusal shows little of a contract: a proof misses a name, or the prover met a limit. What the gate says goes
@@ -16,7 +16,7 @@ import subprocess
 import sys
 import time
 
-TOP = os.path.dirname(os.path.dirname(os.path.abspath(__file__)))
+TOP = os.path.dirname(os.path.dirname(os.path.dirname(os.path.abspath(__file__))))
 TICKS = os.sysconf("SC_CLK_TCK")
 KINDS = ("proof", "tests", "seed", "edits", "builds")
 HEADS = {"proof": "Proof", "tests": "Tests", "seed": "Check before edits", "edits": "Edits", "builds": "Builds"}

@@ -306,7 +306,7 @@ def batch(kind, worker, rng, size, report):
 
 
 AGAIN = '''#!/usr/bin/env python3
-"""Calls an authority once, as tests/fuzz did: {what}"""
+"""Calls an authority once, as tests/hand/fuzz.py did: {what}"""
 import os, socket, struct, subprocess, sys, time
 os.chdir(os.path.dirname(os.path.abspath(__file__)))
 pieces, end, wait = [{pieces}], {end!r}, {wait}

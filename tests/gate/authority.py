@@ -15,7 +15,7 @@ import time
 import urllib.parse
 
 sys.dont_write_bytecode = True
-sys.path.insert(0, os.path.dirname(os.path.abspath(__file__)))
+sys.path.insert(0, f"{os.path.dirname(os.path.dirname(os.path.abspath(__file__)))}/lib")
 from laid import TOP, free_port, started, tell, tried  # noqa: E402
 
 FED = f"{TOP}/fed"

@@ -12,7 +12,7 @@ import sys
 import time
 
 sys.dont_write_bytecode = True
-sys.path.insert(0, os.path.dirname(os.path.abspath(__file__)))
+sys.path.insert(0, f"{os.path.dirname(os.path.dirname(os.path.abspath(__file__)))}/lib")
 from laid import free_port, started, tell, tried  # noqa: E402
 from resolving import (  # noqa: E402
     CALLS, CHAIN, END, ENVIRONMENT, FED, IM, IM_OWN, IM_RP, ISSUERS, JM, KEYS, MARK, METADATA, NOW, PATIENCE, POLICY, RESOLVED, RP, RP_OWN, TA, TA_OWN,

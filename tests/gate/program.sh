@@ -1,7 +1,7 @@
 #!/usr/bin/env bash
 # The built program on the repository's examples, as a user runs it. It prints what differs and fails where anything does.
 set -euo pipefail
-cd "$(dirname "$0")/.."
+cd "$(dirname "$0")/../.."
 fed=$PWD/fed
 place=$(mktemp -d)
 trap 'rm -rf "$place"' EXIT

@@ -2,7 +2,7 @@
 # Which claims are those of an entity statement, claim by claim (docs/rules/STATEMENTS.md), as `fed issue` answers. It prints what differs and
 # fails where anything does.
 set -euo pipefail
-cd "$(dirname "$0")/.."
+cd "$(dirname "$0")/../.."
 fed=$PWD/fed
 place=$(mktemp -d)
 trap 'rm -rf "$place"' EXIT

@@ -2,7 +2,7 @@
 # The built program among hostile files: folders and devices in place of files, a full disk, a closed pipe, inputs at their limits.
 # It prints what differs from the table of statuses and fails where anything does.
 set -euo pipefail
-cd "$(dirname "$0")/.."
+cd "$(dirname "$0")/../.."
 fed=$PWD/fed
 examples=$PWD/examples
 place=$(mktemp -d)

@@ -12,7 +12,7 @@ import subprocess
 import sys
 import tempfile
 
-TOP = os.path.dirname(os.path.dirname(os.path.abspath(__file__)))
+TOP = os.path.dirname(os.path.dirname(os.path.dirname(os.path.abspath(__file__))))
 FED = f"{TOP}/out/fed"
 AT = 1800000000
 LATE = 4000000000

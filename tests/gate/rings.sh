@@ -2,7 +2,7 @@
 # What the built program does with a ring's file on a disk: twenty commands that change one file at once, locks that stay, links, and files that
 # others can read. It prints what differs and fails where anything does.
 set -euo pipefail
-cd "$(dirname "$0")/.."
+cd "$(dirname "$0")/../.."
 fed=$PWD/fed
 place=$(mktemp -d)
 trap 'rm -rf "$place"' EXIT

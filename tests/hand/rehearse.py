@@ -2,7 +2,7 @@
 """Every rehearsal that there is. `fed rehearse` is told a number from 0 to 200 and takes nothing else in: no input, file, network or clock. So these
 201 runs, with ample memory, are all that it can do: each has to write the six lines and nothing more, and to end with status 0.
 
-    tests/rehearse [--program PATH]
+    tests/hand/rehearse.py [--program PATH]
 
 The runs share the processors. It takes some minutes, and isn't part of the gate.
 """
@@ -13,7 +13,7 @@ import os
 import subprocess
 import sys
 
-TOP = os.path.dirname(os.path.dirname(os.path.abspath(__file__)))
+TOP = os.path.dirname(os.path.dirname(os.path.dirname(os.path.abspath(__file__))))
 MOST, PATIENCE = 200, 300
 
 

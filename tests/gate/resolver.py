@@ -14,7 +14,7 @@ import time
 import urllib.parse
 
 sys.dont_write_bytecode = True
-sys.path.insert(0, os.path.dirname(os.path.abspath(__file__)))
+sys.path.insert(0, f"{os.path.dirname(os.path.dirname(os.path.abspath(__file__)))}/lib")
 import sealing  # noqa: E402
 from laid import free_port, guarded, tell, tried  # noqa: E402
 from resolving import (  # noqa: E402

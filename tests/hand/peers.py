@@ -2,8 +2,8 @@
 """The real network over loopback, among peers that are slow, silent or gone. Its program is proved and built first, which wants minutes; the
 rows want 40 seconds.
 
-    tests/peers             builds the program and tries it
-    tests/peers FOLDER      keeps the program in that folder: what an earlier run left there isn't built again
+    tests/hand/peers.py             builds the program and tries it
+    tests/hand/peers.py FOLDER      keeps the program in that folder: what an earlier run left there isn't built again
 
 Each row starts a program of its own over `fed_net::RealNetwork`, as a server on 127.0.0.1 or as a client, and has its own bounds of time.
 It prints what differs, and fails where anything does.
@@ -20,8 +20,9 @@ import tempfile
 import time
 
 sys.dont_write_bytecode = True
-import laid
-from laid import free_port, tell
+sys.path.insert(0, f"{os.path.dirname(os.path.dirname(os.path.abspath(__file__)))}/lib")
+import laid  # noqa: E402
+from laid import free_port, tell  # noqa: E402
 
 HEAD = b"GET /path?sub=https://rp.example HTTP/1.1\r\nHost: a\r\n\r\n"
 LINE = r"\d{10,} 127\.0\.0\.1:\d+ %s \d+\n"

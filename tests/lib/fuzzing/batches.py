@@ -15,14 +15,14 @@ ONE_RUN = {**texts.KINDS, **files.KINDS, **lines.KINDS, **webs.KINDS}
 KINDS = [*ONE_RUN, *callers.KINDS, *askers.KINDS]
 TESTS = os.path.dirname(os.path.dirname(os.path.abspath(__file__)))
 RUN = '''#!/usr/bin/env python3
-"""Runs the program once more, as tests/fuzz did."""
+"""Runs the program once more, as tests/hand/fuzz.py did."""
 import os
 os.chdir(os.path.dirname(os.path.abspath(__file__)))
 os.dup2(os.open("input", os.O_RDONLY), 0)
 os.execve({program!r}, [b"fed", *{words!r}], {{**os.environ, **{more!r}}})
 '''
 WEB = '''#!/usr/bin/env python3
-"""Runs the program over the same web once more, as tests/fuzz did."""
+"""Runs the program over the same web once more, as tests/hand/fuzz.py did."""
 import os, subprocess, sys
 os.chdir(os.path.dirname(os.path.abspath(__file__)))
 sys.dont_write_bytecode = True

@@ -1,8 +1,8 @@
 #!/usr/bin/env python3
 """The built program as a resolver under load, on loopback, over authorities that are the program too.
 
-    tests/load            60 seconds of load, and then a crowd of peers that are silent, drip, reset and lie
-    tests/load SECONDS    so many seconds of load
+    tests/hand/load.py            60 seconds of load, and then a crowd of peers that are silent, drip, reset and lie
+    tests/hand/load.py SECONDS    so many seconds of load
 
 Sixteen clients ask a resolver of four workers without a pause. Each reply is looked at: its signature by another implementation, its chain by
 `fed check` under the anchor's keys. In the middle the anchor's keys are rotated, and what is asked for after that stands under the new ones. The
@@ -22,7 +22,7 @@ import time
 import urllib.parse
 
 sys.dont_write_bytecode = True
-sys.path.insert(0, os.path.dirname(os.path.abspath(__file__)))
+sys.path.insert(0, f"{os.path.dirname(os.path.dirname(os.path.abspath(__file__)))}/lib")
 import laid  # noqa: E402
 from laid import TOP, Host, free_port, tell  # noqa: E402
 from sealing import decoded, sealed  # noqa: E402

@@ -2,10 +2,10 @@
 """Hostile inputs by the million, outside the gate: texts, chains, key sets, policies, configurations, rings, claims, command lines, pages and other
 keys for an anchor, and heads, streams and questions of connections, made from a seed by changing good ones, and handed to the built program.
 
-    tests/fuzz [--program PATH] [--seed N] [--texts N] [--connections N] [--batch N] [--keep FOLDER] [--workers N] [KIND ..]
+    tests/hand/fuzz.py [--program PATH] [--seed N] [--texts N] [--connections N] [--batch N] [--keep FOLDER] [--workers N] [KIND ..]
 
 N texts are tried in all, and N connections, of the kinds that are named, or of all. The answer to each is known: the rules of docs/ stand once
-more in tests/fuzzing, in Python, and what the program answers is compared with these. So a run fails where the program crashes, doesn't end in
+more in tests/lib/fuzzing, in Python, and what the program answers is compared with these. So a run fails where the program crashes, doesn't end in
 10 seconds, answers outside the table of statuses, or calls something valid, or refuses it, that isn't so; and where a resolver asks for other
 pages than its search needs.
 
@@ -35,8 +35,8 @@ import tempfile
 import time
 
 sys.dont_write_bytecode = True
-TOP = os.path.dirname(os.path.dirname(os.path.abspath(__file__)))
-sys.path.insert(0, f"{TOP}/tests")
+TOP = os.path.dirname(os.path.dirname(os.path.dirname(os.path.abspath(__file__))))
+sys.path.insert(0, f"{TOP}/tests/lib")
 from fuzzing import batches  # noqa: E402
 from fuzzing.pool import Pool  # noqa: E402
 

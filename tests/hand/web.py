@@ -2,9 +2,9 @@
 """Requests by curl, answered over the real network by `http_plain`, and pages that Python's `http.server` serves, got by its `HttpLink`.
 The program is proved and built first, which wants minutes where nothing of it is kept; the rows want some seconds.
 
-    tests/web                   builds the program and tries it
-    tests/web FOLDER            keeps the program in that folder: what an earlier run left there isn't built again
-    tests/web --build FOLDER    builds it there and tries nothing
+    tests/hand/web.py                   builds the program and tries it
+    tests/hand/web.py FOLDER            keeps the program in that folder: what an earlier run left there isn't built again
+    tests/hand/web.py --build FOLDER    builds it there and tries nothing
 
 All of it goes over 127.0.0.1. Where curl is missing its rows are passed over. It prints what differs, and fails where anything does.
 """
@@ -19,8 +19,9 @@ import tempfile
 import threading
 
 sys.dont_write_bytecode = True
-import laid
-from laid import free_port, tell
+sys.path.insert(0, f"{os.path.dirname(os.path.dirname(os.path.abspath(__file__)))}/lib")
+import laid  # noqa: E402
+from laid import free_port, tell  # noqa: E402
 
 # how many seconds a program or a call may take
 MOST = 60

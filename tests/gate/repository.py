@@ -9,9 +9,10 @@ import re
 import subprocess
 import sys
 
-TOP = os.path.dirname(os.path.dirname(os.path.abspath(__file__)))
+TOP = os.path.dirname(os.path.dirname(os.path.dirname(os.path.abspath(__file__))))
 KIT = set("sha2 base64 serde_json url form_urlencoded hex httparse lru atomic_table thiserror".split())
 # the parts of a crate's page, in their order
+MOST_CHAIN, MOST_PATHS, MOST_LINES = 17, 1_100_000, 1500
 PARTS = ["One call", "Definitions", "What is proved", "What is tested"]
 # the crates that may make a ledger of their own: what they count of it is theirs to say
 LEDGERS = {"fed_base", "fed_commands", "node_service", "rehearsal", "resolve_notes", "resolve_once", "resolver_service"}
@@ -60,6 +61,21 @@ def check_layers(crates):
             elif other not in KIT:
                 fault(f"crates.txt: {name} names the library {other}")
 
+
+def check_ladder(crates):
+    """Looks how many crates stand on one another, which is what a gate on several processors waits for, and on how many ways a crate is reached,
+    each of which some kits walk one by one."""
+    longest, paths = {}, {}
+    for name, (_, _, below) in crates.items():
+        own = [it for it in below if it in longest]
+        longest[name] = 1 + max((longest[it] for it in own), default=0)
+        paths[name] = 1 + sum(paths[it] for it in own)
+    if max(longest.values()) > MOST_CHAIN:
+        fault(f"crates.txt: {max(longest, key=longest.get)} stands on a chain of {max(longest.values())} crates, and not of at most {MOST_CHAIN}")
+    if sum(paths.values()) > MOST_PATHS:
+        fault(f"crates.txt has {sum(paths.values())} paths from a crate down, and not at most {MOST_PATHS}")
+
+
 def check_crate(name, layer, files):
     root = next((it for it in (f"crates/{name}/src/lib.rt", f"crates/{name}/src/main.rt") if it in files), None)
     if root is None:
@@ -88,7 +104,7 @@ def check_crate(name, layer, files):
             others += source.count(".another(")
     if root.endswith("lib.rt") and others != OTHERS.get(name, 0):
         fault(f"crates/{name}/src makes {others} other networks and clocks, and not {OTHERS.get(name, 0)}")
-    if lines > 1500 and root.endswith("lib.rt"):
+    if lines > MOST_LINES and root.endswith("lib.rt"):
         fault(f"crates/{name}/src has {lines} lines")
 
 
@@ -192,6 +208,7 @@ def main():
             check_source(path)
     crates = layers()
     check_layers(crates)
+    check_ladder(crates)
     for name, (layer, _, _) in crates.items():
         check_crate(name, layer, files)
     for path in files:

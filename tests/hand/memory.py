@@ -4,7 +4,7 @@ answer that it may have, with each allocation failing in turn, alone and with al
 writing, files, the network, clocks, starting a thread) failing in turn, in three ways: it does nothing, it does the thing and tells a failure all
 the same, or it moves one byte.
 
-    tests/memory [--program PATH] [--each N] [--part K/N] [NAME ..]
+    tests/hand/memory.py [--program PATH] [--each N] [--part K/N] [NAME ..]
 
 A run must give the right answer and leave the right files. Else it ends with the status of what failed (docs/COMMANDS.md) and has written
 nothing, of an output that fails a beginning; where memory was wanting no file is changed, and where a ring was being kept the file is the old
@@ -38,8 +38,8 @@ import tempfile
 import time
 
 sys.dont_write_bytecode = True
-TOP = os.path.dirname(os.path.dirname(os.path.abspath(__file__)))
-sys.path.insert(0, f"{TOP}/tests")
+TOP = os.path.dirname(os.path.dirname(os.path.dirname(os.path.abspath(__file__))))
+sys.path.insert(0, f"{TOP}/tests/lib")
 from fuzzing.webs import RESET, Web, fetch_of, page_of  # noqa: E402
 from sealing import decoded, sealed  # noqa: E402
 
@@ -558,7 +558,7 @@ def main():
     place = tempfile.mkdtemp()
     options.library = f"{place}/calls.so"
     try:
-        subprocess.run([os.environ.get("CC", "cc"), "-O1", "-shared", "-fPIC", "-o", options.library, f"{TOP}/tests/failing/calls.c", "-ldl"], check=True)
+        subprocess.run([os.environ.get("CC", "cc"), "-O1", "-shared", "-fPIC", "-o", options.library, f"{TOP}/tests/lib/failing/calls.c", "-ldl"], check=True)
         os.mkdir(f"{place}/texts")
         texts = Texts(f"{place}/texts")
         cases = [*commands(texts), *inspections(texts), *resolves(texts), *requests(texts)]

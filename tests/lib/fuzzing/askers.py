@@ -241,7 +241,7 @@ def batch(kind, worker, rng, size, report):
 
 
 AGAIN = '''#!/usr/bin/env python3
-"""Asks a resolver over the same pages once, as tests/fuzz did; it came to this by a batch, which --batch makes again."""
+"""Asks a resolver over the same pages once, as tests/hand/fuzz.py did; it came to this by a batch, which --batch makes again."""
 import os, socket, subprocess, sys, time
 os.chdir(os.path.dirname(os.path.abspath(__file__)))
 sys.dont_write_bytecode = True
