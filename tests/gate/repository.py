@@ -172,12 +172,29 @@ def check_comments(path, lines):
         at = max(end, at + 1)
 
 
+def anchors_of(path):
+    """The names by which a page's headings are linked to."""
+    found = set()
+    for line in text_of(path).split("\n"):
+        at = re.match(r"#+ (.*)$", line)
+        if at:
+            plain = re.sub(r"\[([^\]]*)\]\([^)]*\)", r"\1", re.sub(r"[`*]", "", at[1]))
+            found.add(re.sub(r"[^\w\- ]", "", plain.lower()).replace(" ", "-"))
+    return found
+
+
 def check_links(files):
     for path in files:
-        if path.endswith(".md"):
-            for link in re.findall(r"\]\(([^)#]+)", text_of(path)):
-                if not re.match(r"[a-z]+:", link) and not os.path.exists(os.path.join(TOP, os.path.dirname(path), link)):
-                    fault(f"{path} links to {link}, which isn't there")
+        if not path.endswith(".md"):
+            continue
+        for link, anchor in re.findall(r"\]\(([^)#\s]*)#?([^)\s]*)\)", text_of(path)):
+            if re.match(r"[a-z]+:", link):
+                continue
+            to = os.path.normpath(os.path.join(os.path.dirname(path), link)) if link else path
+            if not os.path.exists(f"{TOP}/{to}"):
+                fault(f"{path} links to {link}, which isn't there")
+            elif anchor and (not os.path.isfile(f"{TOP}/{to}") or anchor not in anchors_of(to)):
+                fault(f"{path} links to {link}#{anchor}, which isn't there")
 
 
 def check_sizes():
