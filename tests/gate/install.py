@@ -27,7 +27,11 @@ FILES = {
     "share/bash-completion/completions/fed": "completions/fed.bash",
     "share/zsh/site-functions/_fed": "completions/_fed",
     "share/fish/vendor_completions.d/fed.fish": "completions/fed.fish",
+    **{f"share/doc/fed/{name}": f"examples/{name}" for name in (
+        "node.json", "resolver.json", "fed-authority@.service", "fed-resolver@.service", "fed-renew.service", "fed-renew.timer", "nginx.conf",
+        "nginx-resolver.conf", "nginx-outward.conf", "newkey.sh", "probe.sh", "renew.sh", "client.py", "asking.py")},
 }
+PROGRAMS = {"bin/fed", *(name for name in FILES if name.startswith("share/doc/fed/") and name.endswith((".sh", ".py")))}
 PAGES = ["man/fed.1", "man/fed-config.5", "man/fed-ring.5"]
 place = tempfile.mkdtemp(prefix="install of fed ")
 
@@ -78,7 +82,7 @@ def look_at(what, root):
     for name, source in FILES.items():
         with open(f"{root}/{name}", "rb") as it, open(f"{TOP}/{source}", "rb") as that:
             tell(f"{what}: {name} isn't {source}", it.read() == that.read())
-        same(f"{what}: the mode of {name}", mode_of(f"{root}/{name}"), 0o755 if name == "bin/fed" else 0o644)
+        same(f"{what}: the mode of {name}", mode_of(f"{root}/{name}"), 0o755 if name in PROGRAMS else 0o644)
         same(f"{what}: the mode of the folder of {name}", mode_of(os.path.dirname(f"{root}/{name}")), 0o755)
 
 
@@ -95,6 +99,36 @@ def below_a_prefix():
     checked = run([f"{root}/bin/fed", "verify", text_of("examples/rp.pub").strip()], text_of("examples/rp.jwt"))
     same("prefix: verify", checked, (0, "valid https://rp.example\n", ""))
     tell("prefix: is silent of the PATH", f"{root}/bin isn't on the PATH" in install(root)[1])
+
+
+def taken_away():
+    root = folder_of("taken away")
+    install(root)
+    with open(f"{root}/share/man/man1/another.1", "w", encoding="utf-8") as it:
+        it.write("another page")
+    same("uninstall: status and faults", install("--uninstall", root)[::2], (0, ""))
+    same("uninstall: files", found(root), ["share/man/man1/another.1"])
+    tell("uninstall: its own folder stays", not os.path.exists(f"{root}/share/doc/fed"))
+    same("uninstall of nothing: status", install("--uninstall", folder_of("empty"))[0], 0)
+
+
+def examples_are_sound():
+    """The configurations that are installed are those of nodes, and the key script makes a key for one."""
+    folder = folder_of("examples to begin with")
+    for name, ring in ("node.json", "node.ring"), ("resolver.json", "resolver.ring"):
+        key = run([f"{TOP}/examples/newkey.sh", ring], folder=folder)
+        same(f"newkey.sh for {name}: status and faults", (key[0], key[2]), (0, ""))
+        same(f"newkey.sh for {name}: the mode of the ring", mode_of(f"{folder}/{ring}"), 0o600)
+        shutil.copy(f"{TOP}/examples/{name}", folder)
+        same(f"{name}: status of check-config", fed("check-config", "--config", name, folder=folder)[0], 0)
+    same("newkey.sh over a ring that is there", run([f"{TOP}/examples/newkey.sh", "node.ring"], folder=folder)[:2], (1, "refused Exists\n"))
+    if shutil.which("systemd-analyze"):
+        for unit in ("fed-authority@.service", "fed-resolver@.service"):
+            named = f"{folder}/{unit.replace('@', '@8300')}"
+            shutil.copy(f"{TOP}/examples/{unit}", named)
+            said = run(["systemd-analyze", "security", "--offline=true", named])[1]
+            level = re.search(r"Overall exposure level for \S+: ([0-9.]+)", said)
+            tell(f"{unit} is rated {level and level[1]}", level is not None and float(level[1]) < 2)
 
 
 def below_a_staging_folder():
@@ -158,7 +192,7 @@ def stopped_half_way():
 def without_a_program():
     copy, root = folder_of("copy"), folder_of("nothing")
     # by other programs: a file that this one still had open for writing when another row starts something couldn't be run
-    run(["cp", "-R", *(f"{TOP}/{name}" for name in ("install", "man", "completions")), copy])
+    run(["cp", "-R", *(f"{TOP}/{name}" for name in ("install", "man", "completions", "examples")), copy])
     run(["sh", "-c", "printf '#!/bin/sh\\necho fed: not built >&2\\nexit 70\\n' >fed && chmod 755 fed"], folder=copy)
     status, out, err = install(root, script=[f"{copy}/install"])
     same("not built: status and output", (status, out), (70, ""))
@@ -434,7 +468,7 @@ def others_complete():
 os.umask(0o022)
 fed("--version")
 ROWS = [
-    below_a_prefix, below_a_staging_folder, over_an_older_one, nothing_half_done, stopped_half_way, without_a_program,
+    below_a_prefix, below_a_staging_folder, taken_away, examples_are_sound, over_an_older_one, nothing_half_done, stopped_half_way, without_a_program,
     words, pages_are_sound, pages_say_what_is, examples_run, configuration_is_served, table_has_the_words, files_are_made,
     bash_completes, others_complete,
 ]

@@ -1,7 +1,7 @@
 #!/usr/bin/env python3
 """nginx with examples/nginx.conf in front of two processes of one node, on loopback, under a key made here: an answer that isn't kept yet and one
-that is, answers while one of the two is ended, and answers from what was kept while both are. Where nginx or openssl is missing it says so
-and tries nothing. It prints what differs and fails where anything does."""
+that is, answers while one of the two is ended, and answers from what was kept while both are. Then each nginx file of examples/ as it stands,
+in a network and a view of the files of its own, which wants root and unshare. Where nginx or openssl is missing it says so and tries nothing. It prints what differs and fails where anything does."""
 
 import http.client
 import json
@@ -78,7 +78,7 @@ def tried_in(place, started):
         config = it.read()
     for old, new in (("127.0.0.1:8300", f"127.0.0.1:{ports[0]}"), ("127.0.0.1:8301", f"127.0.0.1:{ports[1]}"), ("listen 443", f"listen 127.0.0.1:{front}"),
                      ("/etc/ssl/certs/ta.example.pem", f"{place}/cert"), ("/etc/ssl/private/ta.example.key", f"{place}/key"),
-                     ("/var/cache/nginx/fed", f"{place}/kept"), ("/var/log/nginx/fed.log", f"{place}/access")):
+                     ("/var/lib/nginx/fed", f"{place}/kept"), ("/var/log/nginx/fed.log", f"{place}/access")):
         if old not in config:
             raise ValueError(f"examples/nginx.conf says nothing of {old}")
         config = config.replace(old, new)
@@ -113,12 +113,50 @@ def tried_in(place, started):
     tell("what wasn't kept isn't there", asked(front, "/list?intermediate=true")[0] == 502)
 
 
+# what the files name is laid over the view of the files, and nginx listens where nobody else does: on the ports that they say
+AS_IT_STANDS = r"""set -eu
+mount -t tmpfs tmpfs /etc/ssl/private
+for folder in /var/lib/nginx /var/log/nginx; do [ ! -d "$folder" ] || mount -t tmpfs tmpfs "$folder"; done
+mkdir -p "$1/certs" && cp -rL /etc/ssl/certs/. "$1/certs/" && mount --bind "$1/certs" /etc/ssl/certs
+for name in ta op; do
+    cp "$1/cert" "/etc/ssl/certs/$name.example.pem"
+    cp "$1/key" "/etc/ssl/private/$name.example.key"
+done
+[ -f /etc/ssl/certs/ca-certificates.crt ] || cp "$1/cert" /etc/ssl/certs/ca-certificates.crt
+ip link set lo up
+"$2" -t -e "$1/errors" -c "$3"
+"$2" -e "$1/errors" -c "$3" -g "daemon off; pid $1/pid;" &
+started=$!
+for _ in $(seq 100); do
+    (exec 3<>"/dev/tcp/127.0.0.1/$4") 2>/dev/null && break
+    kill -0 "$started"
+    sleep 0.1
+done
+kill "$started"
+wait "$started"
+"""
+
+
+def as_it_stands():
+    if os.geteuid() != 0 or subprocess.run(["unshare", "-m", "-n", "true"], capture_output=True).returncode:
+        print("nginx: its files as they stand: not tried, since no view of the files of its own is to be had")
+        return
+    for name, port in ("nginx.conf", 443), ("nginx-resolver.conf", 443), ("nginx-outward.conf", 8400):
+        with tempfile.TemporaryDirectory() as place:
+            os.chmod(place, 0o755)
+            subprocess.run(["openssl", "req", "-x509", "-newkey", "rsa:2048", "-nodes", "-keyout", f"{place}/key", "-out", f"{place}/cert", "-days", "2",
+                            "-subj", "/CN=ta.example"], check=True, capture_output=True)
+            words = ["unshare", "-m", "-n", "bash", "-c", AS_IT_STANDS, "nginx", place, NGINX, f"{TOP}/examples/{name}", str(port)]
+            done = subprocess.run(words, capture_output=True, text=True, timeout=PATIENCE)
+            tell(f"{name} as it stands: {done.stderr}", done.returncode == 0)
+
+
 def main():
     if NGINX is None or shutil.which("openssl") is None:
         print("nginx: not tried, since nginx or openssl is missing")
         return 0
     subprocess.run([FED, "--version"], check=True, stdout=subprocess.DEVNULL)
-    return tried("nginx", [in_front])
+    return tried("nginx", [in_front, as_it_stands])
 
 
 sys.exit(main())
