@@ -16,6 +16,7 @@ import urllib.parse
 
 sys.dont_write_bytecode = True
 sys.path.insert(0, f"{os.path.dirname(os.path.dirname(os.path.abspath(__file__)))}/lib")
+import program  # noqa: E402
 from laid import TOP, free_port, started, tell, tried  # noqa: E402
 
 FED = f"{TOP}/fed"
@@ -29,10 +30,7 @@ def fed(*words, given=""):
 
 
 def ring(name, number):
-    """Makes a ring file of one key, and gives the key that others see."""
-    done = fed("keygen", "--ring", name, "--at", "1700000000", "--exp", "1900000000", given=f"{number:096x}")
-    os.chmod(f"{place}/{name}", 0o600)
-    return json.loads(done.stdout)
+    return program.ring(place, name, number)
 
 
 def written(name, config):

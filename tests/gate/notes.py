@@ -12,12 +12,14 @@ import subprocess
 import sys
 import tempfile
 
-TOP = os.path.dirname(os.path.dirname(os.path.dirname(os.path.abspath(__file__))))
-FED = f"{TOP}/out/fed"
+sys.dont_write_bytecode = True
+sys.path.insert(0, f"{os.path.dirname(os.path.dirname(os.path.abspath(__file__)))}/lib")
+from laid import TOP  # noqa: E402
+from program import ENVIRONMENT, FED, run  # noqa: E402
+
 AT = 1800000000
 LATE = 4000000000
 STATEMENT = "entity-statement+jwt"
-ENVIRONMENT = {its: value for its, value in os.environ.items() if its != "FED_QUIET"}
 passed, failed = 0, 0
 
 
@@ -28,12 +30,6 @@ def compare(row, got, wanted):
     else:
         failed += 1
         print(f"notes: {row}: {got!r}, not {wanted!r}"[:1200], file=sys.stderr)
-
-
-def run(words, given=b"", out=subprocess.PIPE, **more):
-    given = given if isinstance(given, bytes) else given.encode()
-    done = subprocess.run([FED, *words], input=given, stdout=out, stderr=subprocess.PIPE, check=False, env={**ENVIRONMENT, **more})
-    return done.returncode, (done.stdout or b"").decode(), done.stderr.decode()
 
 
 def said(sentences):

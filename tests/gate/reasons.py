@@ -13,8 +13,11 @@ import subprocess
 import sys
 import tempfile
 
-TOP = os.path.dirname(os.path.dirname(os.path.dirname(os.path.abspath(__file__))))
-FED = f"{TOP}/out/fed"
+sys.dont_write_bytecode = True
+sys.path.insert(0, f"{os.path.dirname(os.path.dirname(os.path.abspath(__file__)))}/lib")
+import program  # noqa: E402
+from laid import TOP  # noqa: E402
+
 AT = 1800000000
 TYP = "entity-statement+jwt"
 RP = "openid_relying_party"
@@ -23,8 +26,7 @@ passed, failed = 0, 0
 
 
 def run(words, given=""):
-    done = subprocess.run([FED, *words], input=given.encode(), capture_output=True, check=False)
-    return done.returncode, done.stdout.decode()
+    return program.run(words, given)[:2]
 
 
 def compare(row, got, wanted):

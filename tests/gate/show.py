@@ -13,8 +13,11 @@ import subprocess
 import sys
 import tempfile
 
-TOP = os.path.dirname(os.path.dirname(os.path.dirname(os.path.abspath(__file__))))
-FED = f"{TOP}/out/fed"
+sys.dont_write_bytecode = True
+sys.path.insert(0, f"{os.path.dirname(os.path.dirname(os.path.abspath(__file__)))}/lib")
+from laid import TOP  # noqa: E402
+from program import FED, run  # noqa: E402
+
 AT = 1800000000
 STATEMENT = "entity-statement+jwt"
 LAST = "nothing was verified\n"
@@ -28,13 +31,6 @@ def compare(row, got, wanted):
     else:
         failed += 1
         print(f"show: {row}: {got!r}, not {wanted!r}"[:2000], file=sys.stderr)
-
-
-def run(words, given=b""):
-    given = given if isinstance(given, bytes) else given.encode()
-    words = words.split(" ") if isinstance(words, str) else words
-    done = subprocess.run([FED, *words], input=given, capture_output=True, check=False)
-    return done.returncode, done.stdout.decode(), done.stderr.decode()
 
 
 def answers(row, words, given, status, text):
