@@ -2,7 +2,7 @@
 use Rattle.std.proofs.Common.{◌≡◌, ap}
 use Rattle.fed_json.specs.Compact.{compact}
 use Rattle.fed_json.specs.declared.tree.Json.{Json, List as ListOf}
-use Rattle.http_plain.specs.declared.response.Media.TheVariants.{Json as JsonMedia}
+use Rattle.http_messages.specs.declared.response.Media.TheVariants.{Json as JsonMedia}
 use Rattle.authority_core.specs.Answers.{good, list_response}
 use Rattle.authority_core.specs.Issued.{ids_of, list_tree}
 use Rattle.authority_core.specs.Nodes.{Node}

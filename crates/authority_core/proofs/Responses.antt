@@ -4,7 +4,7 @@ use Rattle.std.specs.Prelude.{IfOk, IsSome, option_and_then, unwrap_or}
 use Rattle.std.specs.Result.{result_ok}
 use Rattle.fed_base.specs.Moments.{moment_limit}
 use Rattle.fed_base.specs.declared.faults.Memory.{Memory}
-use Rattle.http_plain.specs.declared.response.Response.{Response}
+use Rattle.http_messages.specs.declared.response.Response.{Response}
 use Rattle.fed_json.specs.Compact.{compact}
 use Rattle.fed_json.specs.Forms.{nesting}
 use Rattle.fed_json.specs.Reading.{tree_in}
@@ -18,7 +18,7 @@ use Rattle.sealed.specs.Sealing.{HasParts, IsSealedFor}
 use Rattle.sealed.specs.Seals.{IsSealedBy}
 use Rattle.node_config.specs.Subordinates.{are_below}
 use Rattle.fed_json.specs.declared.tree.Json.{Json, List as ListOf}
-use Rattle.http_plain.specs.declared.response.Media.TheVariants.{Statement, JwkSet, Status}
+use Rattle.http_messages.specs.declared.response.Media.TheVariants.{Statement, JwkSet, Status}
 use Rattle.entity_statement.specs.Claims.{Claims}
 use Rattle.entity_statement.specs.Signed.{statement_of}
 use Rattle.entity_statement.specs.Table.{claims_of, statement_type}

@@ -8,8 +8,8 @@ use Rattle.sha2.proofs.Facts256.{length-sha256}
 use Rattle.fed_json.specs.declared.tree.Json.{Json}
 use Rattle.fed_json.specs.Compact.{compact}
 use Rattle.fed_json.specs.Members.{text_member}
-use Rattle.http_plain.specs.declared.response.Media.{Media}
-use Rattle.http_plain.specs.declared.response.Media.TheVariants.{Statement}
+use Rattle.http_messages.specs.declared.response.Media.{Media}
+use Rattle.http_messages.specs.declared.response.Media.TheVariants.{Statement}
 use Rattle.entity_statement.specs.Table.{statement_type}
 use Rattle.jwk_set.specs.Thumbprints.{required_members, thumbprint_of}
 use Rattle.jws_form.specs.Compact.{max_bytes, signing_input_of}

@@ -3,9 +3,9 @@ use Rattle.std.specs.Prelude.{ℕ, List, [], ◌∷◌, codes, Option, Some, Non
 use Rattle.fed_json.specs.declared.tree.Json.{Object}
 use Rattle.fed_json.specs.Compact.{compact}
 use Rattle.fed_json.specs.Members.{text_member}
-use Rattle.http_plain.specs.declared.response.Media.{Media}
-use Rattle.http_plain.specs.declared.response.Media.TheVariants.{Json, Statement, JwkSet, Status}
-use Rattle.http_plain.specs.declared.response.Response.{Response}
+use Rattle.http_messages.specs.declared.response.Media.{Media}
+use Rattle.http_messages.specs.declared.response.Media.TheVariants.{Json, Statement, JwkSet, Status}
+use Rattle.http_messages.specs.declared.response.Response.{Response}
 use Rattle.entity_statement.specs.Table.{statement_type}
 use Rattle.node_config.specs.Nodes.{Subordinate}
 use Rattle.trust_mark.specs.Claims.{status_type_name}

@@ -1,5 +1,5 @@
 -- What a node states: its configuration, statements about its subordinates, their list, and its historical keys.
-use Rattle.std.specs.Prelude.{ℕ, ◌+◌, ◌-◌, ◌&&◌, ◌||◌, min, List, [], ◌∷◌, ◌++◌, map, filter, codes, bytes_eq, nat_le, length, Bool, true, false, not, Option, Some, None, unwrap_or}
+use Rattle.std.specs.Prelude.{ℕ, ◌+◌, ◌-◌, ◌&&◌, ◌||◌, min, List, [], ◌∷◌, ◌++◌, map, filter, codes, bytes_eq, nat_le, length, Bool, true, not, Option, Some, None, unwrap_or}
 use Rattle.std.specs.List.{list_all, list_any}
 use Rattle.std.specs.Option.{option_map_or}
 use Rattle.fed_base.specs.Moments.{moment_limit}
@@ -13,6 +13,7 @@ use Rattle.jwk_set.specs.declared.jwk.Jwk.{Jwk}
 use Rattle.sealed.specs.Sealing.{sealed_text}
 use Rattle.key_ring.specs.Files.{number_member}
 use Rattle.key_ring.specs.Sets.{historical_keys, live_set, signer_seeds}
+use Rattle.policy_merge.specs.Scope.{is_empty}
 use Rattle.entity_statement.specs.Claims.{Identifier}
 use Rattle.node_config.specs.Nodes.{Settings, Subordinate, subordinate_id}
 use Rattle.authority_core.specs.declared.query.ListQuery.{ListQuery}
@@ -82,10 +83,6 @@ abbrev pub states_all_shortly : Settings → Bool
 states_all_shortly settings = list_all (states_shortly settings) settings.subordinates
 
 -- ---- the list of subordinates (OpenID Federation 1.0 section 8.2)
-
-abbrev pub is_empty : {X : Type 0} → List X → Bool
-is_empty [] = true
-is_empty (x ∷ xs) = false
 
 -- one of the texts is this one
 abbrev pub is_among : List (List ℕ) → List ℕ → Bool

@@ -3,7 +3,8 @@
 ghost use Rattle.std.specs.Prelude.{◌≡◌, ◌||◌, bytes_eq, not, true};
 ghost use Rattle.std.specs.List.{list_any};
 ghost use Rattle.std.specs.Option.{option_map_or};
-ghost use Rattle.authority_core.specs.Issued.{is_among, is_empty, passes};
+ghost use Rattle.policy_merge.specs.Scope.{is_empty};
+ghost use Rattle.authority_core.specs.Issued.{is_among, passes};
 ghost use Rattle.node_config.specs.Told.{told_subordinate};
 
 use fed_base::{Duplicate, Memory, Seq, Text};

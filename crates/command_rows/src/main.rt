@@ -1,4 +1,4 @@
-//! Layer 8, rows: rows that show what the top call answers over an outside of memory, and how a chain is judged by what is known.
+//! Layer 8, rows: rows that show what commands answer over an outside of memory, and how a chain is judged by what is known.
 //!
 //! Each line of the input is a row: its kind, then what it is given, with a tab before each part. For each the program writes a line with
 //! what was answered. A line that begins with `#` tells what the rows behind it are about, and is written as it stands.
@@ -16,7 +16,7 @@ fn main(rt: HostRuntime) -> io::Result<()> {
         let line = line?;
         let row = line.as_str();
         let told = match row.split_once('\t') {
-            Some(("run", given)) => run_rows::told(&rt, alloc, given),
+            Some(("run", given)) => run_rows::told(alloc, given),
             Some(("judge", given)) => judge_rows::told(alloc, given),
             _ => judge_rows::copied(alloc, row),
         };

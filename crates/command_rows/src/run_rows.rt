@@ -1,8 +1,10 @@
-// Rows of the top call.
+// Rows of the commands.
 
 use fed_base::{Memory, Seq, Text};
-use fed_commands::run;
+use fed_commands::perform_command;
 use fed_ports::{MemoryClock, MemorySink, MemorySource, MemoryStore, NamedFile};
+use fed_words::{Call, Command, read_call};
+use plain_notes::Notes;
 use std::alloc::Global;
 use std::str;
 
@@ -86,17 +88,26 @@ fn printed(bytes: &[u8]) -> &str {
     str::from_utf8(bytes).unwrap_or("not UTF-8")
 }
 
-// The status, what is written and the file `r` after a run.
-fn ran<R>(
-    rt: &R,
+// The command that the words give.
+fn command_of(alloc: Global, words: &Seq<Text>) -> Result<Command, Memory> {
+    match read_call(alloc, words.as_slice())? {
+        Call::Command(command) => Ok(command),
+        Call::Inspection(_) | Call::Service(_) => Ok(Command::Faulty),
+    }
+}
+
+// The status, what is written and the file `r` after the words' command.
+fn ran(
     alloc: Global,
     words: &Seq<Text>,
     input: &mut MemorySource,
     out: &mut MemorySink,
     store: &mut MemoryStore,
 ) -> Result<String, Memory> {
+    let command = command_of(alloc, words)?;
     let mut clock = MemoryClock::new(alloc, &[])?;
-    let status = run(rt, alloc, words, input, out, store, &mut clock);
+    let mut notes = Notes::new(alloc, None);
+    let status = perform_command(alloc, &command, input, out, store, &mut clock, &mut notes);
     drop(clock);
     let written = printed(out.as_slice());
     let kept = match store.file(b"r") {
@@ -107,8 +118,7 @@ fn ran<R>(
 }
 
 // The same with a sink and a store of their own.
-fn ran_from<R>(
-    rt: &R,
+fn ran_from(
     alloc: Global,
     words: &Seq<Text>,
     file: &str,
@@ -118,7 +128,7 @@ fn ran_from<R>(
     let mut out = MemorySink::new(alloc, faults.room as usize, &[faults.sink], 99)?;
     let told = match store_of(alloc, file, faults) {
         Ok(mut store) => {
-            let told = ran(rt, alloc, words, input, &mut out, &mut store);
+            let told = ran(alloc, words, input, &mut out, &mut store);
             drop(store);
             told
         }
@@ -134,15 +144,15 @@ fn source_of(alloc: Global, input: &str, faults: Faults) -> Result<MemorySource,
     MemorySource::new(alloc, bytes.as_slice(), &[faults.source], 9)
 }
 
-/// The status, what is written and the file `r` after a run with these words, this fault, this file and this input with a line end.
-pub fn told<R>(rt: &R, alloc: Global, given: &str) -> Result<String, Memory> {
+/// The status, what is written and the file `r` after the command of these words, this fault, this file and this input with a line end.
+pub fn told(alloc: Global, given: &str) -> Result<String, Memory> {
     let (words, given) = given.split_once('\t').unwrap_or((given, ""));
     let (fault, given) = given.split_once('\t').unwrap_or((given, ""));
     let (file, input) = given.split_once('\t').unwrap_or((given, ""));
     let faults = faults_of(fault);
     let words = words_of(alloc, words)?;
     let mut input = source_of(alloc, input, faults)?;
-    let told = ran_from(rt, alloc, &words, file, faults, &mut input);
+    let told = ran_from(alloc, &words, file, faults, &mut input);
     drop(input);
     told
 }

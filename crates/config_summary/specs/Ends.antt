@@ -1,6 +1,6 @@
 -- What ends soon.
 use Rattle.std.specs.Prelude.{ℕ, ◌+◌, List, [], ◌∷◌, ◌++◌, codes, nat_le, if◌then◌else◌}
-use Rattle.shown_json.specs.Indented.{moment_text}
+use Rattle.plain_notes.specs.Moments.{moment_text}
 
 -- 30 days, in seconds
 abbrev pub soon : ℕ

@@ -1,4 +1,3 @@
 pub mod Ends
 pub mod Marks
 pub mod Summaries
-pub mod Terms

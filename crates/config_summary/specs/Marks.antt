@@ -1,22 +1,16 @@
 -- The trust marks that a node is configured with, and the first that is none of the node's (OpenID Federation 1.0 section 7).
 use Rattle.std.specs.Prelude.{ℕ, ◌+◌, List, [], ◌∷◌, ◌++◌, codes, decimal, bytes_eq, ◌&&◌, Option, Some, None, unwrap_or, if◌then◌else◌}
 use Rattle.std.specs.Option.{option_and_then}
-use Rattle.std.specs.Result.{result_ok}
 use Rattle.fed_json.specs.declared.tree.Json.{Json}
-use Rattle.jws_form.specs.Splitting.{splitting}
 use Rattle.entity_statement.specs.Claims.{Identifier}
 use Rattle.entity_statement.specs.Forms.{marks_of}
 use Rattle.entity_statement.specs.declared.marks.MarkEntry.{MarkEntry}
-use Rattle.trust_mark.specs.Claims.{mark_claims}
+use Rattle.trust_mark.specs.Marks.{mark_of}
 use Rattle.trust_mark.specs.declared.mark.Mark.{Mark}
 
 -- the entries of the claim (section 3.1.2)
 abbrev pub entries_of : Option Json → List MarkEntry
 entries_of marks = unwrap_or (option_and_then marks_of marks) []
-
--- the mark that a text is (section 7.1)
-unfoldable pub mark_in : List ℕ → Option Mark
-mark_in text = option_and_then (λ compact. result_ok (mark_claims compact)) (result_ok (splitting text))
 
 -- why the text of an entry isn't a mark about the node of the entry's type, where it isn't
 abbrev pub fault_of : Identifier → MarkEntry → Option Mark → Option (List ℕ)
@@ -30,7 +24,7 @@ fault_here place None later = later
 
 abbrev pub fault_from : Identifier → ℕ → List MarkEntry → Option (List ℕ)
 fault_from id place [] = None
-fault_from id place (entry ∷ entries) = fault_here place (fault_of id entry (mark_in entry.text)) (fault_from id (place + 1) entries)
+fault_from id place (entry ∷ entries) = fault_here place (fault_of id entry (mark_of entry.text)) (fault_from id (place + 1) entries)
 
 -- the first fault of the marks
 unfoldable pub first_fault : Identifier → Option Json → Option (List ℕ)

@@ -10,13 +10,14 @@ use Rattle.http_plain.specs.declared.route.Route.{Route}
 use Rattle.key_ring.specs.Files.{reason_word}
 use Rattle.key_ring.specs.declared.key.KeyState.{KeyState}
 use Rattle.key_ring.specs.declared.key.KeyState.TheVariants.{Live, Retired, Revoked}
+use Rattle.key_ring.specs.declared.term.KeyTerm.{KeyTerm}
 use Rattle.node_config.specs.Nodes.{Entity, Resolver, Settings, Subordinate}
+use Rattle.trust_mark.specs.Marks.{mark_of}
 use Rattle.trust_mark.specs.declared.mark.Mark.{Mark}
-use Rattle.shown_json.specs.Indented.{moment_text}
-use Rattle.shown_json.specs.Strings.{string}
+use Rattle.plain_notes.specs.Moments.{moment_text}
+use Rattle.plain_notes.specs.Strings.{string}
 use Rattle.config_summary.specs.Ends.{end_line}
-use Rattle.config_summary.specs.Marks.{entries_of, mark_in}
-use Rattle.config_summary.specs.declared.told_ring.KeyTerm.{KeyTerm}
+use Rattle.config_summary.specs.Marks.{entries_of}
 
 -- words, and what stands behind them, on a line
 abbrev pub line : List ℕ → List ℕ → List ℕ
@@ -44,7 +45,7 @@ abbrev pub mark_words : MarkEntry → Mark → List ℕ
 mark_words entry mark = string entry.mark_type ++ (codes " by " ++ mark.iss)
 
 abbrev pub mark_line : MarkEntry → List ℕ
-mark_line entry = option_map_or (λ mark. line (codes "mark ") (mark_words entry mark ++ end_words mark.exp)) (mark_in entry.text) []
+mark_line entry = option_map_or (λ mark. line (codes "mark ") (mark_words entry mark ++ end_words mark.exp)) (mark_of entry.text) []
 
 -- ---- other entities
 
@@ -104,7 +105,7 @@ mark_end_at moment entry mark (Some exp) = end_line moment (codes "mark " ++ mar
 mark_end_at moment entry mark None = []
 
 abbrev pub mark_end : ℕ → MarkEntry → List ℕ
-mark_end moment entry = option_map_or (λ mark. mark_end_at moment entry mark mark.exp) (mark_in entry.text) []
+mark_end moment entry = option_map_or (λ mark. mark_end_at moment entry mark mark.exp) (mark_of entry.text) []
 
 -- ---- all of it
 

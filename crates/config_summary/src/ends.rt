@@ -2,11 +2,11 @@
 
 ghost use Rattle.std.specs.Prelude.{◌≡◌, ◌<◌, ◌++◌, ◌∷◌, [], codes, OnOk};
 ghost use Rattle.fed_base.specs.Moments.{moment_limit};
-ghost use Rattle.shown_json.specs.Indented.{moment_text};
+ghost use Rattle.plain_notes.specs.Moments.{moment_text};
 ghost use Rattle.config_summary.specs.Ends.{end_line};
 
 use fed_base::{Memory, Text};
-use shown_json::append_moment;
+use plain_notes::append_moment;
 use std::alloc::Global;
 
 // 30 days, in seconds.

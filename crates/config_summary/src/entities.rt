@@ -9,7 +9,7 @@ use fed_base::{Memory, Text};
 use fed_ports::Address;
 use http_plain::Route;
 use node_config::{AnchorPart, ResolverConfig, SubordinateConfig};
-use shown_json::string;
+use plain_notes::string;
 use std::alloc::Global;
 
 /// Appends a line for each subordinate.

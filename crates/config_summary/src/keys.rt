@@ -2,14 +2,12 @@
 
 ghost use Rattle.std.specs.Prelude.{◌≡◌, ◌<◌, ◌++◌, flat_map, codes, OnOk};
 ghost use Rattle.fed_base.specs.Moments.{moment_limit};
-ghost use Rattle.key_ring.specs.Files.{reason_word};
 ghost use Rattle.config_summary.specs.Summaries.{key_end, key_line, state_words};
 
 use crate::ends::append_end;
-use crate::told_ring::KeyTerm;
 use fed_base::{Memory, Text};
-use key_ring::{KeyState, RevokeReason};
-use shown_json::append_moment;
+use key_ring::{KeyState, KeyTerm};
+use plain_notes::append_moment;
 use std::alloc::Global;
 
 /// Appends a line for each key.
@@ -48,18 +46,8 @@ fn append_state(alloc: Global, out: &mut Text, exp: u64, state: KeyState) -> Res
             out.append(b" revoked since ")?;
             append_moment(alloc, out, at)?;
             out.append(b", ")?;
-            out.append(reason_word(reason))
+            out.append(reason.word())
         }
-    }
-}
-
-fn reason_word(reason: RevokeReason) -> &'static [u8]
-    ensures { result.now ≡ reason_word reason }
-{
-    match reason {
-        RevokeReason::Unspecified => b"unspecified",
-        RevokeReason::Compromised => b"compromised",
-        RevokeReason::Superseded => b"superseded",
     }
 }
 

@@ -3,7 +3,8 @@
 ghost use Rattle.std.specs.Prelude.{◌≡◌, ◌<◌, ◌++◌, ◌∷◌, codes, decimal, flat_map, IfOk, OnOk, Some};
 ghost use Rattle.std.specs.Option.{option_copied};
 ghost use Rattle.fed_base.specs.Moments.{moment_limit};
-ghost use Rattle.config_summary.specs.Marks.{entries_of, fault_from, fault_of, first_fault, mark_in};
+ghost use Rattle.trust_mark.specs.Marks.{mark_of};
+ghost use Rattle.config_summary.specs.Marks.{entries_of, fault_from, fault_of, first_fault};
 ghost use Rattle.config_summary.specs.Summaries.{end_words, line, mark_end, mark_end_at, mark_line, mark_words};
 
 use crate::ends::append_end;
@@ -13,7 +14,7 @@ use entity_statement::{MarkEntry, read_marks};
 use fed_base::{Memory, Seq, Text};
 use fed_json::Json;
 use jws_form::{FormFault, split};
-use shown_json::{append_moment, string};
+use plain_notes::{append_moment, string};
 use std::alloc::Global;
 use trust_mark::{Mark, MarkFault};
 
@@ -73,9 +74,9 @@ fn fault_of(
     id: &EntityId,
     entry: &MarkEntry,
 ) -> Result<Option<&'static [u8]>, Memory>
-    ensures { IfOk result (λ fault. option_copied fault ≡ fault_of id.now entry.now (mark_in entry.now.text)) }
+    ensures { IfOk result (λ fault. option_copied fault ≡ fault_of id.now entry.now (mark_of entry.now.text)) }
 {
-    match mark_in(alloc, entry.text.as_slice())? {
+    match mark_of(alloc, entry.text.as_slice())? {
         None => Ok(Some(b"Form")),
         Some(mark) => {
             let fault = names_fault(id, entry, &mark);
@@ -96,9 +97,9 @@ fn names_fault(id: &EntityId, entry: &MarkEntry, mark: &Mark) -> Option<&'static
 }
 
 // The trust mark that a text is.
-#[tactic(auto, unfolding(crate::specs::Marks::mark_in))]
-fn mark_in(alloc: Global, text: &[u8]) -> Result<Option<Mark>, Memory>
-    ensures { IfOk result (λ mark. mark ≡ mark_in text.now) }
+#[tactic(auto, unfolding(trust_mark::specs::Marks::mark_of))]
+fn mark_of(alloc: Global, text: &[u8]) -> Result<Option<Mark>, Memory>
+    ensures { IfOk result (λ mark. mark ≡ mark_of text.now) }
 {
     let compact = match split(alloc, text) {
         Ok(compact) => compact,
@@ -131,7 +132,7 @@ pub(crate) fn append_marks(
 fn append_mark(alloc: Global, out: &mut Text, entry: &MarkEntry) -> Result<(), Memory>
     ensures { OnOk result (out.new ≡ out.old ++ mark_line entry.now) }
 {
-    match mark_in(alloc, entry.text.as_slice())? {
+    match mark_of(alloc, entry.text.as_slice())? {
         None => Ok(()),
         Some(mark) => {
             let appended = append_mark_line(alloc, out, entry, &mark);
@@ -202,7 +203,7 @@ fn append_mark_end(
     requires { moment < moment_limit }
     ensures { OnOk result (out.new ≡ out.old ++ mark_end moment entry.now) }
 {
-    match mark_in(alloc, entry.text.as_slice())? {
+    match mark_of(alloc, entry.text.as_slice())? {
         None => Ok(()),
         Some(mark) => {
             let appended = append_end_of(alloc, out, moment, entry, &mark);

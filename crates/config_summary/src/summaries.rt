@@ -11,9 +11,9 @@ use crate::keys::{append_key_ends, append_keys};
 use crate::lines::{append_line, append_number};
 use crate::marks::{append_mark_ends, append_marks, entries_of};
 use crate::served::append_served;
-use crate::told_ring::KeyTerm;
 use entity_statement::MarkEntry;
 use fed_base::{Memory, Text};
+use key_ring::KeyTerm;
 use node_config::NodeConfig;
 use std::alloc::Global;
 

@@ -15,7 +15,7 @@ use fed_ports::{
     Memory, RealClock, RealSink, RealSource, RealStore, Seq, Sink, Text, listen_address,
 };
 use fed_run::{run, run_with_notes};
-use fed_words::{Service, explain_waiting, read_service};
+use fed_words::{Call, Service, read_call};
 use named_file::{explain_fault, value_of, warn_of_open_file};
 use plain_notes::{Notes, Sentence, explain_sink};
 use std::alloc::Global;
@@ -24,6 +24,7 @@ use std::io::{Eprint, ErrorKind, IsTerminal};
 use std::process::ExitCode;
 use std::rt::Files;
 use std::{env, str};
+use word_notes::explain_waiting;
 
 // The status of words, or of a file, that aren't of their form.
 const FAULTY: u8 = 2;
@@ -72,10 +73,10 @@ fn address<R: Env + AllocGlobal>(rt: &R) -> Result<Option<[u8; 4]>, Memory> {
 
 // Whether the words ask for a service over the network.
 fn serves(alloc: Global, words: &[Text]) -> bool {
-    match read_service(alloc, words) {
-        Ok(Some(Service::Rehearse { params: _ })) => false,
-        Ok(service) => service.is_some(),
-        Err(_) => false,
+    match read_call(alloc, words) {
+        Ok(Call::Service(Service::Rehearse { params: _ })) => false,
+        Ok(Call::Service(_)) => true,
+        Ok(Call::Command(_) | Call::Inspection(_)) | Err(_) => false,
     }
 }
 

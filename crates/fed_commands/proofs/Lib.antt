@@ -1,11 +1,8 @@
 pub mod CheckLaws
 pub mod FindingLaws
-pub mod KeygenLaws
 pub mod NotedLaws
 pub mod ReadLaws
 pub mod ReplyLaws
-pub mod RingLaws
-pub mod RotateLaws
 pub mod SealingLaws
 pub mod StreamLaws
 pub mod TopLaws

@@ -1,18 +1,10 @@
 -- Notes that were handed over.
-use Rattle.std.proofs.Common.{◌≡◌, ℕ, List, [], ◌++◌, length, take, Option, Some, None, Result, Ok, Err, refl, sym, ap, subst, append-nil}
+use Rattle.std.proofs.Common.{ℕ, List, length, Option, Result, Ok, Err, sym, subst}
 use Rattle.std.proofs.Math.Seq.{take-length}
 use Rattle.fed_ports.specs.Bytes.{Appends}
 use Rattle.plain_notes.specs.Notes.{IsNotes}
 use Rattle.fed_commands.specs.Noted.{HandsNotes}
 use Rattle.fed_commands.specs.Streams.{IsWritten}
-
-appends-none : (old : Option (List ℕ)) → Appends old old []
-appends-none None = refl
-appends-none (Some held) = ap Some (sym (append-nil held))
-
--- none were
-pub hands-none : (old : Option (List ℕ)) → HandsNotes old old
-hands-none old = record { text = []; plain = refl; count = 0; written = appends-none old }
 
 -- they were written, or a beginning of them
 pub hands-written : {E : Type 0} → (old new : Option (List ℕ)) (before now : ℕ) (text : List ℕ) (result : Result Unit E) → IsNotes text → IsWritten old new before now text result

@@ -6,9 +6,9 @@ use Rattle.fed_ports.specs.Stores.{Files, IsFile, Loads, Counted, file_limit}
 use Rattle.fed_ports.specs.declared.store.StoreFault.{StoreFault}
 use Rattle.fed_ports.specs.declared.store.StoreFault.TheVariants.{TooLong}
 use Rattle.fed_commands.specs.Answers.{named, IsNamed, IsTextRead}
-use Rattle.fed_commands.specs.Operations.{IsFileOf}
+use Rattle.ring_commands.specs.RingFiles.{IsFileOf}
 use Rattle.fed_commands.specs.declared.answer.Stop.{Stop}
-use Rattle.fed_commands.specs.declared.operation.File.{File}
+use Rattle.ring_commands.specs.declared.ring_file.File.{File}
 use Rattle.fed_ports.specs.Inputs.{EndsAs}
 use Rattle.fed_commands.specs.Streams.{without_line_end}
 use Rattle.fed_words.specs.declared.command.Command.{Command}

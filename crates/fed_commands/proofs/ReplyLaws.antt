@@ -1,36 +1,27 @@
 -- A command has one reply on its file and its input, and what was read gives it.
-use Rattle.std.proofs.Common.{◌≡◌, ◌≤◌, ℕ, List, [], ◌∷◌, ◌++◌, codes, cond, not, lit≤, Bool, Option, Some, None, true, false, refl, sym, ap, ◌∙◌, subst, inl, inr, arith}
-use Rattle.std.specs.Prelude.{IsTrue, IfSome, Result, Ok, Err, unwrap_or}
+use Rattle.std.proofs.Common.{◌≡◌, ◌≤◌, ℕ, List, [], ◌∷◌, ◌++◌, codes, lit≤, Option, Some, None, false, refl, sym, ap, ◌∙◌, subst, inl, inr, arith}
+use Rattle.std.specs.Prelude.{IsTrue, IfSome, unwrap_or}
 use Rattle.fed_ports.specs.Stores.{Files, IsFile}
-use Rattle.std.specs.Result.{result_ok}
-use Rattle.hex.specs.Hex.{decode_sized}
-use Rattle.fed_json.specs.declared.tree.Json.{Json}
-use Rattle.fed_json.specs.Forms.{whole}
-use Rattle.fed_json.specs.Reading.{tree_in}
-use Rattle.fed_commands.specs.Issues.{issue_reply, of_tree, of_object, sealed_reply}
-use Rattle.fed_commands.specs.Keygens.{keygen_reply, of_seeds, made}
-use Rattle.fed_commands.specs.Rotations.{add_reply, by_fault, change_reply, of_new_seeds}
-use Rattle.key_ring.proofs.FileLaws.{one-ring}
-use Rattle.key_ring.specs.Changes.{Change, add_key, after, fault_of, kid_added, retire_key, revoke_key}
-use Rattle.key_ring.specs.Files.{first_text}
+use Rattle.ring_commands.specs.Issues.{issue_reply}
+use Rattle.ring_commands.specs.Rotations.{change_reply}
+use Rattle.key_ring.specs.Changes.{retire_key, revoke_key}
 use Rattle.key_ring.specs.Rings.{Ring}
-use Rattle.key_ring.specs.declared.fault.RingFault.{RingFault}
-use Rattle.key_ring.specs.declared.fault.RingFault.TheVariants.{Shape, Known, Unknown, Order, StoreFault, Memory}
 use Rattle.key_ring.specs.declared.key.RevokeReason.{RevokeReason}
 use Rattle.fed_commands.specs.Answers.{named, wants_input, text_of, IsMomentFor, Readings, IsReply, MayBe, IsNamed, IsReached, IsTextRead, FixesFile, FixesInput}
 use Rattle.fed_commands.specs.Findings.{status_of, line_of}
-use Rattle.fed_commands.specs.Replies.{plain, bad_input, refused}
+use Rattle.ring_commands.specs.Replies.{plain, bad_input, refused}
 use Rattle.fed_commands.specs.Checks.{IsChecked, chain_in, keys_in}
-use Rattle.fed_commands.specs.Operations.{IsFileOf, IsPrepared, IsCheckPrepared, IsKeygenPrepared, IsPerformed, IsOutcome, IsRingFound, IsRingPrepared, issue_prepared, rotate_prepared}
+use Rattle.fed_commands.specs.Operations.{IsPrepared, IsCheckPrepared, IsKeygenPrepared, IsPerformed, IsOutcome, IsRingPrepared, issue_prepared, rotate_prepared}
+use Rattle.ring_commands.specs.RingFiles.{IsFileOf}
 use Rattle.fed_words.specs.declared.act.Act.{Act}
 use Rattle.fed_words.specs.declared.act.Act.TheVariants.{Add, Retire, Revoke}
 use Rattle.fed_words.specs.declared.command.Command.{Command}
 use Rattle.fed_words.specs.declared.command.Command.TheVariants.{Verify, Keygen, Issue, Rotate, Check, Help, Version, Faulty}
 use Rattle.fed_help.specs.declared.overview.TheConstants.{HELP, VERSION}
-use Rattle.fed_commands.specs.declared.reply.Reply.{Reply}
+use Rattle.ring_commands.specs.declared.reply.Reply.{Reply}
 use Rattle.fed_words.specs.declared.text_type.TextType.{TextType}
-use Rattle.fed_commands.specs.declared.operation.File.{File}
-use Rattle.fed_commands.specs.declared.operation.File.TheVariants.{Whole}
+use Rattle.ring_commands.specs.declared.ring_file.File.{File}
+use Rattle.ring_commands.specs.declared.ring_file.File.TheVariants.{Whole}
 use Rattle.fed_commands.specs.declared.operation.Operation.{Operation}
 use Rattle.fed_commands.specs.declared.operation.Operation.TheVariants as operation
 use Rattle.fed_commands.specs.declared.operation.Prepared.{Prepared}
@@ -38,6 +29,8 @@ use Rattle.fed_commands.specs.declared.operation.Prepared.TheVariants.{Answered,
 use Rattle.jwk_set.specs.declared.set.JwkSet.{JwkSet}
 use Rattle.fed_commands.proofs.CheckLaws.{checked_once, checked_small}
 use Rattle.fed_commands.proofs.FindingLaws.{finding_once, status_small}
+use Rattle.ring_commands.proofs.RingLaws.{found_once}
+use Rattle.ring_commands.proofs.SmallLaws.{add_small, change_small, issue_small, keygen_small}
 
 -- ---- what was read gives a reply
 
@@ -75,14 +68,6 @@ check_awaits file found anchor copied at keys is same keyed bytes of_file =
     subst (λ z. IsCheckPrepared anchor at z (WantsInput (operation.Check copied keys at))) (sym there.0) (inl (keys, there.1, keyed, ap (λ z. WantsInput (operation.Check z keys at)) same))
 
 -- ---- a command has one reply
-
--- a file has one ring, or none
-pub found_once : (file : Option (List ℕ)) (a b : Option Ring) → IsRingFound file a → IsRingFound file b → a ≡ b
-found_once None a b p q = p ∙ sym q
-found_once (Some bytes) (Some a) (Some b) (few, p) (few', q) = ap Some (one-ring bytes a b p.0 q.0)
-found_once (Some bytes) (Some a) None (few, p) none = absurd (none a few p)
-found_once (Some bytes) None (Some b) none (few, q) = absurd (none b few q)
-found_once (Some bytes) None None none none' = refl
 
 ring_once : (make : Option Ring → Prepared) (file : Option (List ℕ)) (a b : Prepared) → IsRingPrepared make file a → IsRingPrepared make file b → a ≡ b
 ring_once make file a b (k, r, e) (l, s, d) = e ∙ (ap make (found_once file k l r s) ∙ sym d)
@@ -202,57 +187,6 @@ reached_once c moment files left left' file input r s reached fixed wanted is =
     reply_once c moment reached.file file p.prepared is.prepared (text_of input) r s same p.is_prepared is.is_prepared there is.outcome
 
 -- ---- its status
-
-keygen_small : (at exp : ℕ) (text : List ℕ) → (keygen_reply at exp text).status ≤ 2
-unfolding keygen_reply
-keygen_small at exp text = of_digits (result_ok (decode_sized text 48))
-  where
-    of_file : (seeds : List ℕ) (file : Result (List ℕ) RingFault) → (made seeds file).status ≤ 2
-    of_file seeds (Ok file) = lit≤ tt
-    of_file seeds (Err fault) = lit≤ tt
-
-    of_digits : (seeds : Option (List ℕ)) → (of_seeds at exp seeds).status ≤ 2
-    of_digits None = lit≤ tt
-    of_digits (Some seeds) = of_file seeds (first_text seeds at exp)
-
-change_small : (ring : Ring) (change : Change) (line : List ℕ) → (change_reply ring change line).status ≤ 2
-unfolding change_reply
-change_small ring change line = of_fault (fault_of ring change)
-  where
-    of_fault : (fault : Option RingFault) → (by_fault fault (after ring change) line).status ≤ 2
-    of_fault None = lit≤ tt
-    of_fault (Some Shape) = lit≤ tt
-    of_fault (Some (Known kid)) = lit≤ tt
-    of_fault (Some (Unknown kid)) = lit≤ tt
-    of_fault (Some (Order fault)) = lit≤ tt
-    of_fault (Some StoreFault) = lit≤ tt
-    of_fault (Some Memory) = lit≤ tt
-
-add_small : (ring : Ring) (at exp : ℕ) (text : List ℕ) → (add_reply ring at exp text).status ≤ 2
-unfolding add_reply
-add_small ring at exp text = of_digits (result_ok (decode_sized text 48))
-  where
-    of_digits : (seeds : Option (List ℕ)) → (of_new_seeds ring at exp seeds).status ≤ 2
-    of_digits None = lit≤ tt
-    of_digits (Some seeds) = change_small ring (add_key seeds at exp) (kid_added seeds)
-
-issue_small : (keys : List ℕ) (typ : TextType) (text : List ℕ) → (issue_reply keys typ text).status ≤ 2
-unfolding issue_reply of_tree of_object sealed_reply
-issue_small keys typ text = of_reading (tree_in text)
-  where
-    of_tests : (a b c : Bool) (sealed : List ℕ) → (cond a (refused (codes "Form")) (cond b (refused (codes "TooLong")) (cond c (refused (codes "Form")) (plain 0 sealed)))).status ≤ 2
-    of_tests true b c sealed = lit≤ tt
-    of_tests false true c sealed = lit≤ tt
-    of_tests false false true sealed = lit≤ tt
-    of_tests false false false sealed = lit≤ tt
-
-    of_objects : (b : Bool) (r : Reply) → r.status ≤ 2 → (cond b r bad_input).status ≤ 2
-    of_objects true r small = small
-    of_objects false r small = lit≤ tt
-
-    of_reading : (tree : Option Json) → (of_tree keys typ tree).status ≤ 2
-    of_reading None = lit≤ tt
-    of_reading (Some tree) = of_objects _ (of_object keys typ tree) (of_tests (not (whole tree)) _ _ _)
 
 done_small : (work : Operation) (text : Option (List ℕ)) (r : Reply) → IsPerformed work text r → r.status ≤ 2
 done_small work None r p = subst (λ z. z.status ≤ 2) (sym p) (lit≤ tt)

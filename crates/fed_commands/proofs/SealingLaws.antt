@@ -6,12 +6,14 @@ use Rattle.fed_ports.specs.Stores.{Files}
 use Rattle.key_ring.specs.Rings.{Ring}
 use Rattle.key_ring.specs.Sets.{signer_seeds}
 use Rattle.fed_commands.specs.Answers.{IsEnded, IsNamed, Output}
-use Rattle.fed_commands.specs.Replies.{bad_input}
-use Rattle.fed_commands.specs.Sealings.{IsSealedBySigner, IsSealedReply, IsSealedFrom, RepliesSealed, IssuesSealed}
-use Rattle.fed_commands.specs.Operations.{IsPrepared, IsRingFound, issue_prepared}
+use Rattle.ring_commands.specs.Replies.{bad_input}
+use Rattle.fed_commands.specs.Sealings.{IsSealedBySigner, IsSealedFrom, RepliesSealed, IssuesSealed}
+use Rattle.ring_commands.specs.SealedLines.{IsSealedReply}
+use Rattle.fed_commands.specs.Operations.{IsPrepared, issue_prepared}
+use Rattle.ring_commands.specs.RingFiles.{IsRingFound}
 use Rattle.fed_words.specs.declared.command.Command.{Command}
 use Rattle.fed_words.specs.declared.command.Command.TheVariants.{Issue}
-use Rattle.fed_commands.specs.declared.reply.Reply.{Reply}
+use Rattle.ring_commands.specs.declared.reply.Reply.{Reply}
 use Rattle.fed_words.specs.declared.text_type.TextType.{TextType}
 use Rattle.fed_commands.specs.declared.operation.Operation.{Operation}
 use Rattle.fed_commands.specs.declared.operation.Operation.TheVariants as operation

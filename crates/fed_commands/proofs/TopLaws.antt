@@ -9,7 +9,7 @@ use Rattle.fed_commands.specs.Runs.{IsRun, World, told_of}
 use Rattle.fed_commands.specs.declared.answer.Stop.{Stop}
 use Rattle.fed_commands.specs.declared.answer.Stop.TheVariants.{Source, Store, Memory}
 use Rattle.fed_words.specs.declared.command.Command.{Command}
-use Rattle.fed_commands.specs.declared.reply.Reply.{Reply}
+use Rattle.ring_commands.specs.declared.reply.Reply.{Reply}
 use Rattle.fed_commands.proofs.ReplyLaws.{reached_once, reply_small}
 
 small_of : (c : Command) (moment : ℕ) (files : Option Files) (left left' : Option (List ℕ)) (r : Reply) → IsReached c moment files left left' r → r.status ≤ 2

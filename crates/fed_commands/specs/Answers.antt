@@ -5,13 +5,16 @@ use Rattle.fed_base.specs.Counts.{Rose, next_count}
 use Rattle.fed_ports.specs.Inputs.{AtEnd}
 use Rattle.fed_ports.specs.Stores.{Files, file_limit, IsFile, Keeps}
 use Rattle.fed_ports.specs.Times.{Told}
+use Rattle.fed_ports.specs.declared.clock.Clock.{Ghosts as ClockShows}
+use Rattle.fed_ports.specs.declared.sink.Sink.{Ghosts as SinkShows}
+use Rattle.fed_ports.specs.declared.store.Store.{Ghosts as StoreShows}
 use Rattle.fed_base.specs.declared.faults.Failed.{Failed}
 use Rattle.fed_commands.specs.declared.answer.Stop.{Stop}
 use Rattle.fed_commands.specs.declared.answer.Stop.TheVariants.{Source, Store, Memory}
 use Rattle.fed_words.specs.declared.act.Act.TheVariants.{Retire, Revoke}
 use Rattle.fed_words.specs.declared.command.Command.{Command}
 use Rattle.fed_words.specs.declared.command.Command.TheVariants.{Keygen, Issue, Rotate, Check, Help, Version, Faulty}
-use Rattle.fed_commands.specs.declared.reply.Reply.{Reply}
+use Rattle.ring_commands.specs.declared.reply.Reply.{Reply}
 use Rattle.fed_commands.specs.declared.operation.Prepared.{Prepared}
 use Rattle.fed_commands.specs.declared.operation.Prepared.TheVariants.{Answered, WantsInput}
 use Rattle.fed_commands.specs.Operations.{IsPrepared, IsOutcome}
@@ -144,6 +147,10 @@ pub record Output : Type 0 where
   pub files : Option Files
   pub store_faults : ℕ
 
+abbrev pub output_of : {K D : Type 0} → SinkShows K → StoreShows D → K → D → Output
+output_of sink files out store =
+    record { held = sink.held out; write_faults = sink.write_faults out; files = files.files store; store_faults = files.store_faults store }
+
 -- how a run ends that had a reply: it is kept and written; or kept, and the sink failed in the writing; or the store failed in the keeping
 abbrev pub IsEnded : Command → Reply → Output → Output → ℕ → Type 0
 IsEnded command reply before after status =
@@ -159,6 +166,9 @@ pub record Readings : Type 0 where
   pub count : ℕ
   pub last : ℕ
   pub told : Option (List ℕ)
+
+abbrev pub readings_of : {C : Type 0} → ClockShows C → C → Readings
+readings_of shows clock = record { count = shows.readings clock; last = shows.last clock; told = shows.told clock }
 
 -- one reading was made
 pub record IsOneReading (before now : Readings) : Type 0 where

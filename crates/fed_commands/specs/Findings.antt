@@ -1,8 +1,8 @@
 -- What `verify` finds of a text under a public key, and the line that says so.
 use Rattle.std.specs.Prelude.{◌≡◌, ◌≢◌, ℕ, List, [], ◌∷◌, ◌++◌, codes}
 use Rattle.fed_commands.specs.Configurations.{IsStatementBy}
-use Rattle.fed_commands.specs.Replies.{plain}
-use Rattle.fed_commands.specs.declared.reply.Reply.{Reply}
+use Rattle.ring_commands.specs.Replies.{plain}
+use Rattle.ring_commands.specs.declared.reply.Reply.{Reply}
 use Rattle.fed_commands.specs.declared.verify_finding.Finding.{Finding}
 use Rattle.fed_commands.specs.declared.verify_finding.Finding.TheVariants.{Valid, Form, Names, Signature}
 use Rattle.jws_form.specs.declared.compact.Compact.{Compact}

@@ -2,12 +2,8 @@ pub mod Answers
 pub mod Checks
 pub mod Configurations
 pub mod Findings
-pub mod Issues
-pub mod Keygens
 pub mod Noted
 pub mod Operations
-pub mod Replies
-pub mod Rotations
 pub mod Runs
 pub mod Sealings
 pub mod Streams

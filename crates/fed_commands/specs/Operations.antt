@@ -1,8 +1,7 @@
 -- What each command makes of its file, and then of its input.
-use Rattle.std.specs.Prelude.{◌≡◌, ◌≤◌, ◌<◌, ◌⊎◌, ℕ, List, [], ◌∷◌, ◌++◌, length, codes, Option, Some, None, Ok, unwrap_or}
+use Rattle.std.specs.Prelude.{◌≡◌, ◌≤◌, ◌⊎◌, ℕ, List, [], ◌∷◌, ◌++◌, length, codes, Option, Some, None, unwrap_or}
 use Rattle.fed_ports.specs.Stores.{file_limit}
 use Rattle.key_ring.specs.Changes.{retire_key, revoke_key}
-use Rattle.key_ring.specs.Files.{Opens}
 use Rattle.key_ring.specs.Rings.{Ring}
 use Rattle.key_ring.specs.Sets.{signer_seeds}
 use Rattle.fed_words.specs.declared.act.Act.{Act}
@@ -10,9 +9,7 @@ use Rattle.fed_words.specs.declared.act.Act.TheVariants.{Add, Retire, Revoke}
 use Rattle.fed_words.specs.declared.command.Command.{Command}
 use Rattle.fed_words.specs.declared.command.Command.TheVariants.{Verify, Keygen, Issue, Rotate, Check, Help, Version, Faulty}
 use Rattle.fed_help.specs.declared.overview.TheConstants.{HELP, VERSION}
-use Rattle.fed_commands.specs.declared.reply.Reply.{Reply}
-use Rattle.fed_commands.specs.declared.operation.File.{File}
-use Rattle.fed_commands.specs.declared.operation.File.TheVariants.{Absent, TooLong, Whole}
+use Rattle.ring_commands.specs.declared.reply.Reply.{Reply}
 use Rattle.fed_commands.specs.declared.operation.Operation.{Operation}
 use Rattle.fed_commands.specs.declared.operation.Operation.TheVariants as operation
 use Rattle.fed_commands.specs.declared.operation.Prepared.{Prepared}
@@ -20,27 +17,12 @@ use Rattle.fed_words.specs.declared.text_type.TextType.{TextType}
 use Rattle.fed_commands.specs.declared.operation.Prepared.TheVariants.{Answered, WantsInput}
 use Rattle.fed_commands.specs.Checks.{IsChecked, chain_in, keys_in}
 use Rattle.fed_commands.specs.Findings.{IsVerified}
-use Rattle.fed_commands.specs.Issues.{issue_reply}
-use Rattle.fed_commands.specs.Keygens.{keygen_reply}
-use Rattle.fed_commands.specs.Replies.{plain, bad_input, refused}
-use Rattle.fed_commands.specs.Rotations.{add_reply, change_reply}
+use Rattle.ring_commands.specs.Issues.{issue_reply}
+use Rattle.ring_commands.specs.Keygens.{keygen_reply}
+use Rattle.ring_commands.specs.Replies.{plain, bad_input, refused}
+use Rattle.ring_commands.specs.RingFiles.{IsRingFound}
+use Rattle.ring_commands.specs.Rotations.{add_reply, change_reply}
 use Rattle.jwk_set.specs.declared.set.JwkSet.{JwkSet}
-
--- the file that was looked at: none, one that is too long, or its bytes
-abbrev pub IsFileOf : File → Option (List ℕ) → Type 0
-IsFileOf Absent file = file ≡ None
-IsFileOf TooLong file = (bytes : List ℕ) × (file ≡ Some bytes) × (file_limit < length bytes)
-IsFileOf (Whole bytes) file = (file ≡ Some bytes) × (length bytes ≤ file_limit)
-
--- a file is that of this ring, and no key stands twice in it
-abbrev pub IsOpened : List ℕ → Ring → Type 0
-IsOpened bytes ring = Opens bytes (Ok ring)
-
--- the ring of a file, and none where there is no file, or one that is too long or that of no ring
-abbrev pub IsRingFound : Option (List ℕ) → Option Ring → Type 0
-IsRingFound None found = found ≡ None
-IsRingFound (Some bytes) (Some ring) = (length bytes ≤ file_limit) × IsOpened bytes ring
-IsRingFound (Some bytes) None = (ring : Ring) → length bytes ≤ file_limit → ¬ IsOpened bytes ring
 
 -- claims wait to be sealed by the signer of a ring, as a text of this type
 abbrev pub issue_prepared : TextType → Option Ring → Prepared

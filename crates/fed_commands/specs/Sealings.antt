@@ -1,26 +1,17 @@
 -- What `issue` seals verifies under the signer's key (RFC 7515 section 5.2).
-use Rattle.std.specs.Prelude.{◌≡◌, ℕ, List, [], ◌∷◌, ◌++◌, Option, Some}
+use Rattle.std.specs.Prelude.{◌≡◌, ℕ, List, Option, Some}
 use Rattle.fed_ports.specs.Bytes.{Appends}
 use Rattle.fed_ports.specs.Stores.{Files, IsFile}
 use Rattle.key_ring.specs.Rings.{Ring}
 use Rattle.key_ring.specs.Sets.{signer_seeds}
-use Rattle.sealed.specs.Sealing.{IsSealedFor}
 use Rattle.fed_words.specs.declared.command.Command.{Command}
 use Rattle.fed_words.specs.declared.command.Command.TheVariants.{Issue}
-use Rattle.fed_commands.specs.declared.reply.Reply.{Reply}
+use Rattle.ring_commands.specs.declared.reply.Reply.{Reply}
 use Rattle.fed_words.specs.declared.text_type.TextType.{TextType}
-use Rattle.fed_commands.specs.Operations.{IsOpened}
+use Rattle.ring_commands.specs.RingFiles.{IsOpened}
+use Rattle.ring_commands.specs.SealedLines.{IsSealedLine}
 
--- a line is a text that each set seals in which the key of these seeds stands under its thumbprint (RFC 7638), up to 262,144 bytes,
--- and its line end
-abbrev pub IsSealedLine : List ℕ → List ℕ → Type 0
-IsSealedLine seeds line = (text : List ℕ) × (line ≡ text ++ 10 ∷ []) × IsSealedFor seeds text
-
--- a reply with status 0 is such a line
-abbrev pub IsSealedReply : List ℕ → Reply → Type 0
-IsSealedReply seeds reply = reply.status ≡ 0 → IsSealedLine seeds reply.text
-
--- a reply with status 0 is such a line by the signer of the ring
+-- a reply with status 0 is a sealed line by the signer of the ring
 abbrev pub IsSealedBySigner : Ring → Reply → Type 0
 IsSealedBySigner ring reply = reply.status ≡ 0 → (seeds : List ℕ) × (signer_seeds ring ≡ Some seeds) × IsSealedLine seeds reply.text
 

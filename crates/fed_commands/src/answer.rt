@@ -7,13 +7,13 @@ ghost use Rattle.fed_ports.specs.Stores.{IsFile};
 ghost use Rattle.fed_commands.specs.Answers.{named, text_of, wants_input, MayBe, IsNamed, IsRead, IsReached, IsKeptAs, StopsAs, IsTextRead};
 ghost use Rattle.fed_commands.specs.Sealings.{RepliesSealed};
 ghost use Rattle.fed_commands.specs.Streams.{without_line_end};
-ghost use Rattle.fed_commands.specs.Operations.{IsFileOf};
+ghost use Rattle.ring_commands.specs.RingFiles.{IsFileOf};
 
-use crate::operation::{File, Prepared, perform, prepare};
-use crate::reply::Reply;
+use crate::operation::{Prepared, perform, prepare};
 use fed_ports::{Failed, Memory, ReadEnd, Source, Store, StoreFault, Text, read_all};
 use fed_words::Command;
 use plain_notes::{Notes, explain_source, explain_unkept_file, explain_unread_file};
+use ring_commands::{File, Reply};
 use std::alloc::Global;
 
 /// Why there is no reply.

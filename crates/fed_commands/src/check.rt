@@ -4,14 +4,15 @@ ghost use Rattle.std.specs.Prelude.{◌≡◌, None, Some, IfOk, option_map};
 ghost use Rattle.fed_commands.specs.Checks.{IsChecked, chain_in, keys_in};
 
 use crate::check_lines::{lines, status};
-use crate::reply::{Reply, plain};
 use chain_check::check_chain;
+use chain_notes::{Asked, explain_verdict};
 use entity_id::EntityId;
 use fed_json::{TreeFault, copied_texts, read_tree};
-use fed_notes::{Asked, explain_unless_list, explain_verdict};
+use fed_notes::explain_unless_list;
 use fed_ports::{Memory, Plain, Seq, Steps, Text};
 use jwk_set::{JwkSet, SetFault};
 use plain_notes::Notes;
+use ring_commands::{Reply, plain};
 use std::alloc::Global;
 
 /// What is found of the chain in the input, for the anchor with these keys at the moment `t` (seconds since 1970).

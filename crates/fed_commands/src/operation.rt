@@ -3,38 +3,27 @@
 ghost use Rattle.std.specs.Prelude.{◌≡◌, IfOk, List, ℕ, Option, Some};
 ghost use Rattle.key_ring.specs.Rings.{Ring};
 ghost use Rattle.fed_commands.specs.Sealings.{IsSealedBySigner};
-ghost use Rattle.fed_commands.specs.Operations.{IsCheckPrepared, IsFileOf, IsKeygenPrepared, IsPerformed, IsPrepared, IsRingFound, IsRingPrepared, issue_prepared, rotate_prepared};
-ghost use Rattle.fed_commands.specs.Replies.{bad_input, plain};
+ghost use Rattle.fed_commands.specs.Operations.{IsCheckPrepared, IsKeygenPrepared, IsPerformed, IsPrepared, IsRingPrepared, issue_prepared, rotate_prepared};
+ghost use Rattle.ring_commands.specs.Replies.{bad_input, plain};
+ghost use Rattle.ring_commands.specs.RingFiles.{IsFileOf};
 
 use crate::check::{check, read_keys};
-use crate::issue::issue;
-use crate::keygen::keygen;
-use crate::reply::{Reply, plain};
-use crate::rotate::{add, retire, revoke};
 use crate::verify::verify;
 use entity_id::EntityId;
 use fed_help::{HELP, VERSION};
 use fed_notes::{
     explain_absent_file, explain_existing_file, explain_keys_file, explain_long_file,
-    explain_long_input, explain_ring_file, warn_of_ended_key,
+    explain_long_input, warn_of_ended_signer,
 };
 use fed_ports::{Duplicate, Memory, Text};
 use fed_words::{Act, Command, Moment, TextType, moment_or};
 use jwk_set::JwkSet;
-use key_ring::{KeyRing, RingFault};
+use key_ring::KeyRing;
 use plain_notes::Notes;
+use ring_commands::{
+    File, Reply, add, explain_no_ring, issue, keygen, open_ring, plain, retire, revoke,
+};
 use std::alloc::Global;
-
-/// The file that a command names.
-#[derive(Drop)]
-pub enum File {
-    /// There is none, or the command names none.
-    Absent,
-    /// It has more than 4,194,304 bytes.
-    TooLong,
-    /// Its bytes.
-    Whole(Text),
-}
 
 /// What is done with an input.
 #[derive(Drop)]
@@ -135,30 +124,6 @@ fn prepare_keygen(
     }
 }
 
-/// The ring of a file, or `None` where it is that of none: it isn't there, is too long, isn't of its form, or has one key twice.
-pub fn open_ring(alloc: Global, file: &File) -> Result<Option<KeyRing>, Memory>
-    ensures { (bytes : Option (List ℕ)) → IsFileOf file.now bytes → IfOk result (IsRingFound bytes) }
-{
-    let File::Whole(bytes) = file else {
-        return Ok(None);
-    };
-    match KeyRing::open(alloc, bytes.as_slice()) {
-        Ok(ring) => Ok(Some(ring)),
-        Err(RingFault::Shape) => Ok(None),
-        Err(RingFault::Known(_)) => Ok(None),
-        Err(_) => Err(Memory),
-    }
-}
-
-/// Says why the file isn't that of a ring.
-pub fn explain_no_ring(alloc: Global, name: &Text, file: &File, notes: &mut Notes) {
-    match file {
-        File::Absent => explain_absent_file(alloc, name, notes),
-        File::TooLong => explain_long_file(alloc, name, notes),
-        File::Whole(bytes) => explain_ring_file(alloc, name, bytes.as_slice(), notes),
-    }
-}
-
 // What is answered where there is no ring.
 fn no_ring(alloc: Global, name: &Text, file: &File, notes: &mut Notes) -> Result<Prepared, Memory>
     ensures { IfOk result (λ prepared. prepared ≡ Prepared.Answered bad_input) }
@@ -179,18 +144,17 @@ fn prepare_issue(
 {
     match open_ring(alloc, file)? {
         Some(ring) => {
-            warn_of_signer(alloc, name, file, notes);
+            warn_of_signer(alloc, name, &ring, notes);
             Ok(Prepared::WantsInput(Operation::Issue { ring, typ }))
         }
         None => no_ring(alloc, name, file, notes),
     }
 }
 
-// Says where the signer of the ring in the file has ended.
-fn warn_of_signer(alloc: Global, name: &Text, file: &File, notes: &mut Notes) {
-    match file {
-        File::Absent | File::TooLong => {},
-        File::Whole(bytes) => warn_of_ended_key(alloc, name, bytes.as_slice(), notes),
+// Says where the signer of the ring has ended.
+fn warn_of_signer(alloc: Global, name: &Text, ring: &KeyRing, notes: &mut Notes) {
+    if let Ok(keys) = ring.terms(alloc) {
+        warn_of_ended_signer(alloc, name, keys.as_slice(), notes);
     }
 }
 

@@ -3,11 +3,11 @@
 ghost use Rattle.std.specs.Prelude.{IfOk};
 ghost use Rattle.fed_commands.specs.Findings.{IsVerified};
 
-use crate::reply::Reply;
 use crate::verify_finding::{Finding, examine};
 use fed_notes::explain_verify;
 use fed_ports::Memory;
 use plain_notes::Notes;
+use ring_commands::Reply;
 use std::alloc::Global;
 
 /// What is found of a configuration under a public key.

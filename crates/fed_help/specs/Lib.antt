@@ -1,1 +1,1 @@
-pub mod Topics
+pub mod Verbs

@@ -1,5 +1,7 @@
 // The commands with their options.
 
+use crate::verb::Verb;
+
 /// What the value of an option is.
 #[derive(Clone, Copy, Drop)]
 pub enum Form {
@@ -98,7 +100,7 @@ impl OptionName {
 /// How a command is called.
 #[derive(Clone, Copy, Drop)]
 pub struct Usage {
-    pub command: &'static str,
+    pub verb: Verb,
     /// The value of `--act`, or nothing where the command has no such option.
     pub act: &'static str,
     /// The options that it needs.
@@ -112,21 +114,21 @@ pub struct Usage {
 /// All commands but `verify` and `help`, which take one word, and the flags, which stand alone.
 pub const USAGES: [Usage; 13] = [
     Usage {
-        command: "keygen",
+        verb: Verb::Keygen,
         act: "",
         needed: &[OptionName::Ring, OptionName::At, OptionName::Exp],
         free: &[],
         input: "SEEDS",
     },
     Usage {
-        command: "issue",
+        verb: Verb::Issue,
         act: "",
         needed: &[OptionName::Ring, OptionName::Typ],
         free: &[],
         input: "CLAIMS",
     },
     Usage {
-        command: "rotate",
+        verb: Verb::Rotate,
         act: "add",
         needed: &[
             OptionName::Ring,
@@ -138,14 +140,14 @@ pub const USAGES: [Usage; 13] = [
         input: "SEEDS",
     },
     Usage {
-        command: "rotate",
+        verb: Verb::Rotate,
         act: "retire",
         needed: &[OptionName::Ring, OptionName::Act, OptionName::Kid],
         free: &[],
         input: "",
     },
     Usage {
-        command: "rotate",
+        verb: Verb::Rotate,
         act: "revoke",
         needed: &[
             OptionName::Ring,
@@ -158,35 +160,35 @@ pub const USAGES: [Usage; 13] = [
         input: "",
     },
     Usage {
-        command: "public",
+        verb: Verb::Public,
         act: "",
         needed: &[OptionName::Ring],
         free: &[OptionName::Kid],
         input: "",
     },
     Usage {
-        command: "check",
+        verb: Verb::Check,
         act: "",
         needed: &[OptionName::Anchor, OptionName::Keys],
         free: &[OptionName::At],
         input: "CHAIN",
     },
     Usage {
-        command: "show",
+        verb: Verb::Show,
         act: "",
         needed: &[],
         free: &[],
         input: "TEXT",
     },
     Usage {
-        command: "check-config",
+        verb: Verb::CheckConfig,
         act: "",
         needed: &[OptionName::Config],
         free: &[OptionName::At],
         input: "",
     },
     Usage {
-        command: "authority",
+        verb: Verb::Authority,
         act: "",
         needed: &[
             OptionName::Config,
@@ -197,7 +199,7 @@ pub const USAGES: [Usage; 13] = [
         input: "",
     },
     Usage {
-        command: "resolver",
+        verb: Verb::Resolver,
         act: "",
         needed: &[
             OptionName::Config,
@@ -208,14 +210,14 @@ pub const USAGES: [Usage; 13] = [
         input: "",
     },
     Usage {
-        command: "resolve",
+        verb: Verb::Resolve,
         act: "",
         needed: &[OptionName::Config, OptionName::Sub, OptionName::Anchor],
         free: &[],
         input: "",
     },
     Usage {
-        command: "rehearse",
+        verb: Verb::Rehearse,
         act: "",
         needed: &[OptionName::Params],
         free: &[],

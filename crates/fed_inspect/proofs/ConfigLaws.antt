@@ -5,9 +5,9 @@ use Rattle.fed_ports.specs.Stores.{file_limit}
 use Rattle.key_ring.specs.Files.{Opens}
 use Rattle.key_ring.specs.declared.fault.RingFault.{RingFault}
 use Rattle.key_ring.specs.declared.fault.RingFault.TheVariants as fault
-use Rattle.fed_commands.specs.Operations.{IsFileOf}
-use Rattle.fed_commands.specs.declared.operation.File.{File}
-use Rattle.fed_commands.specs.declared.operation.File.TheVariants.{Absent, TooLong, Whole}
+use Rattle.ring_commands.specs.RingFiles.{IsFileOf}
+use Rattle.ring_commands.specs.declared.ring_file.File.{File}
+use Rattle.ring_commands.specs.declared.ring_file.File.TheVariants.{Absent, TooLong, Whole}
 use Rattle.fed_inspect.specs.Configs.{IsFoundIn, tree_of_file}
 use Rattle.fed_inspect.specs.declared.rings.RingFound.TheVariants as found
 

@@ -7,7 +7,7 @@ use Rattle.fed_commands.specs.Answers.{IsOneReading, Or, StopsAs, Tells, stop_st
 use Rattle.fed_commands.specs.Runs.{World}
 use Rattle.fed_commands.specs.declared.answer.Stop.{Stop}
 use Rattle.fed_commands.specs.declared.answer.Stop.TheVariants.{Source, Store, Memory}
-use Rattle.fed_commands.specs.declared.reply.Reply.{Reply}
+use Rattle.ring_commands.specs.declared.reply.Reply.{Reply}
 use Rattle.fed_commands.proofs.TopLaws.{stopped_range, stopped_sink, stopped_source, stopped_store}
 use Rattle.fed_words.specs.declared.inspection.Inspection.{Inspection}
 use Rattle.fed_words.specs.declared.inspection.Inspection.TheVariants.{Public, Show, Config, Help}
@@ -24,7 +24,7 @@ inspected_at (Public ring kid) files left left' moment last reply same is = is
 inspected_at Show files left left' moment last reply same is = is
 inspected_at (Config config None) files left left' moment last reply same is = subst (λ t. IsInspected (Config config None) t files left left' reply) (same refl) is
 inspected_at (Config config (Some at)) files left left' moment last reply same is = is
-inspected_at (Help topic) files left left' moment last reply same is = is
+inspected_at (Help verb) files left left' moment last reply same is = is
 
 -- ---- statuses
 

@@ -12,9 +12,9 @@ use Rattle.node_config.specs.Nodes.{Settings}
 use Rattle.node_config.specs.declared.fault.ConfigFault.{ConfigFault}
 use Rattle.node_config.specs.declared.fault.ConfigFault.TheVariants.{Shape, Memory}
 use Rattle.fed_commands.specs.Answers.{MayBe, text_of}
-use Rattle.fed_commands.specs.Operations.{IsRingFound}
-use Rattle.fed_commands.specs.declared.reply.Reply.{Reply}
-use Rattle.fed_commands.proofs.ReplyLaws.{found_once}
+use Rattle.ring_commands.specs.RingFiles.{IsRingFound}
+use Rattle.ring_commands.specs.declared.reply.Reply.{Reply}
+use Rattle.ring_commands.proofs.RingLaws.{found_once}
 use Rattle.fed_words.specs.declared.inspection.Inspection.{Inspection}
 use Rattle.fed_words.specs.declared.inspection.Inspection.TheVariants.{Public, Show, Config, Help}
 use Rattle.fed_inspect.specs.Configs.{IsConfigReply, IsFoundIn, IsSettingsReply, IsTreeReply, found_reply, tree_of_file}
@@ -128,4 +128,4 @@ inspected_once (Public ring kid) moment files left now later r s told p q = publ
 inspected_once Show moment files left now later r s told p q = show_once left now later r s (told.1 refl) p q
 inspected_once (Config config None) moment files left now later r s told p q = config_once files config _ r s (told.0 refl) p q
 inspected_once (Config config (Some at)) moment files left now later r s told p q = config_once files config _ r s (told.0 refl) p q
-inspected_once (Help topic) moment files left now later r s told p q = p ∙ sym q
+inspected_once (Help verb) moment files left now later r s told p q = p ∙ sym q

@@ -5,6 +5,7 @@ use Rattle.fed_json.specs.declared.tree.Json.{Json}
 use Rattle.fed_ports.specs.Stores.{Files, IsFile, file_limit}
 use Rattle.key_ring.specs.Files.{Opens}
 use Rattle.key_ring.specs.Rings.{Ring}
+use Rattle.key_ring.specs.Terms.{term_of}
 use Rattle.key_ring.specs.declared.fault.RingFault.TheVariants as fault
 use Rattle.node_config.specs.Configurations.{configuration_in}
 use Rattle.node_config.specs.Nodes.{Settings}
@@ -14,9 +15,8 @@ use Rattle.authority_core.specs.Configurations.{node_in}
 use Rattle.authority_core.specs.Nodes.{Node}
 use Rattle.config_summary.specs.Marks.{first_fault}
 use Rattle.config_summary.specs.Summaries.{summary}
-use Rattle.config_summary.specs.Terms.{term_of}
-use Rattle.fed_commands.specs.Replies.{bad_input, plain, refused}
-use Rattle.fed_commands.specs.declared.reply.Reply.{Reply}
+use Rattle.ring_commands.specs.Replies.{bad_input, plain, refused}
+use Rattle.ring_commands.specs.declared.reply.Reply.{Reply}
 use Rattle.fed_inspect.specs.declared.rings.RingFound.{RingFound}
 use Rattle.fed_inspect.specs.declared.rings.RingFound.TheVariants as found
 

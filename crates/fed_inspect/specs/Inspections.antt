@@ -1,14 +1,14 @@
 -- What an inspection answers, and what it leaves of the outside.
 use Rattle.std.specs.Prelude.{◌≡◌, ◌⊎◌, ◌≤◌, ℕ, List, take, Bool, true, false, Option, Some, None, unwrap_or}
-use Rattle.fed_help.specs.Topics.{page_of}
+use Rattle.fed_help.specs.Verbs.{page_of}
 use Rattle.fed_ports.specs.Bytes.{Appends}
 use Rattle.fed_ports.specs.Stores.{Files, IsFile}
 use Rattle.key_ring.specs.Rings.{Ring}
 use Rattle.fed_commands.specs.Answers.{IsOneReading, Or, Tells}
-use Rattle.fed_commands.specs.Operations.{IsRingFound}
-use Rattle.fed_commands.specs.Replies.{bad_input, plain}
+use Rattle.ring_commands.specs.RingFiles.{IsRingFound}
+use Rattle.ring_commands.specs.Replies.{bad_input, plain}
 use Rattle.fed_commands.specs.Runs.{World}
-use Rattle.fed_commands.specs.declared.reply.Reply.{Reply}
+use Rattle.ring_commands.specs.declared.reply.Reply.{Reply}
 use Rattle.fed_words.specs.declared.inspection.Inspection.{Inspection}
 use Rattle.fed_words.specs.declared.inspection.Inspection.TheVariants.{Public, Show, Config, Help}
 use Rattle.fed_inspect.specs.Configs.{IsConfigReply}
@@ -33,14 +33,14 @@ abbrev pub IsInspected : Inspection → ℕ → Option Files → Option (List �
 IsInspected (Public ring kid) moment files left left' reply = IsPublicReply files ring kid reply
 IsInspected Show moment files left left' reply = IsShowReply left left' reply
 IsInspected (Config config at) moment files left left' reply = IsConfigReply files config (unwrap_or at moment) reply
-IsInspected (Help topic) moment files left left' reply = reply ≡ plain 0 (page_of topic)
+IsInspected (Help verb) moment files left left' reply = reply ≡ plain 0 (page_of verb)
 
 -- the inspection looks at a file
 abbrev pub reads_file : Inspection → Bool
 reads_file (Public ring kid) = true
 reads_file Show = false
 reads_file (Config config at) = true
-reads_file (Help topic) = false
+reads_file (Help verb) = false
 
 -- it reads the input
 abbrev pub reads_input : Inspection → Bool

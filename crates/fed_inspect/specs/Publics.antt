@@ -9,8 +9,8 @@ use Rattle.jwk_set.specs.Keys.{is_text_at}
 use Rattle.jwk_set.specs.Trees.{key_tree, set_tree}
 use Rattle.key_ring.specs.Rings.{Ring}
 use Rattle.key_ring.specs.Sets.{historical_keys, live_set}
-use Rattle.fed_commands.specs.Replies.{plain, refused}
-use Rattle.fed_commands.specs.declared.reply.Reply.{Reply}
+use Rattle.ring_commands.specs.Replies.{plain, refused}
+use Rattle.ring_commands.specs.declared.reply.Reply.{Reply}
 
 -- a text on a line
 abbrev pub on_line : List ℕ → Reply

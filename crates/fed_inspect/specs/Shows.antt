@@ -5,8 +5,8 @@ use Rattle.fed_ports.specs.Stores.{file_limit}
 use Rattle.show_text.specs.Views.{view_of}
 use Rattle.show_text.specs.declared.view.View.{View}
 use Rattle.fed_commands.specs.Answers.{MayBe, text_of}
-use Rattle.fed_commands.specs.Replies.{bad_input, plain}
-use Rattle.fed_commands.specs.declared.reply.Reply.{Reply}
+use Rattle.ring_commands.specs.Replies.{bad_input, plain}
+use Rattle.ring_commands.specs.declared.reply.Reply.{Reply}
 
 -- 0 where it is what it says
 abbrev pub status_of : Bool → ℕ

@@ -3,27 +3,29 @@
 ghost use Rattle.std.specs.Prelude.{◌≡◌, ◌≤◌, ◌<◌, ◌++◌, List, ℕ, Option, IfOk, IfSome, MatchResult, codes, map};
 ghost use Rattle.fed_base.specs.Moments.{moment_limit};
 ghost use Rattle.fed_commands.specs.Answers.{StopsAs};
-ghost use Rattle.fed_commands.specs.Operations.{IsFileOf};
-ghost use Rattle.fed_commands.specs.Replies.{refused};
+ghost use Rattle.ring_commands.specs.RingFiles.{IsFileOf};
+ghost use Rattle.ring_commands.specs.Replies.{refused};
 ghost use Rattle.fed_json.specs.Forms.{IsWellFormed};
 ghost use Rattle.node_config.specs.Configurations.{configuration_in};
 ghost use Rattle.node_config.specs.Told.{told};
 ghost use Rattle.authority_core.specs.Configurations.{node_in};
 ghost use Rattle.key_ring.specs.Rings.{Ring};
+ghost use Rattle.key_ring.specs.Terms.{term_of};
 ghost use Rattle.config_summary.specs.Marks.{first_fault};
-ghost use Rattle.config_summary.specs.Terms.{term_of};
 ghost use Rattle.fed_inspect.specs.Configs.{IsConfigReply, IsRingReply, IsSettingsReply, found_reply, marks_reply, node_reply, tree_of_file};
 
 use crate::replies::refused;
 use crate::rings::{RingFound, ring_found};
 use authority_core::Registry;
-use config_summary::{KeyTerm, ToldRing, first_fault, summary};
-use fed_commands::{File, Reply, Stop, explain_no_ring, load_file, plain};
+use config_summary::{first_fault, summary};
+use fed_commands::{Stop, load_file};
 use fed_json::{Json, TreeFault, read_tree};
 use fed_notes::{explain_absent_file, explain_long_file};
 use fed_ports::{Memory, Store, Text};
+use key_ring::{KeyRing, KeyTerm};
 use node_config::{ConfigFault, NodeConfig};
 use plain_notes::{Notes, Sentence};
+use ring_commands::{File, Reply, explain_no_ring, plain};
 use std::alloc::Global;
 
 const NO_JSON: &[u8] = b" isn't JSON; a node's configuration is an object";
@@ -198,7 +200,7 @@ fn node_reply(
     name: &Text,
     tree: &Json,
     config: &NodeConfig,
-    ring: ToldRing,
+    ring: KeyRing,
     moment: u64,
     notes: &mut Notes,
 ) -> Result<Reply, Memory>
@@ -207,7 +209,7 @@ fn node_reply(
     ensures reply { IfOk result (λ reply. reply ≡ node_reply moment (told config.now) ring (node_in tree.now ring)) }
     ensures small { IfOk result (λ reply. reply.status ≤ 2) }
 {
-    let (ring, keys) = ring.into_parts();
+    let keys = ring.terms(alloc)?;
     match Registry::read(alloc, tree, ring) {
         Ok(registry) => {
             drop(registry);

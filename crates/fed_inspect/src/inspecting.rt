@@ -2,17 +2,19 @@
 
 ghost use Rattle.std.specs.Prelude.{◌≡◌, ◌≤◌, ◌<◌, ℕ, IfOk, MatchResult, false, true};
 ghost use Rattle.fed_base.specs.Moments.{moment_limit};
-ghost use Rattle.fed_commands.specs.Answers.{IsOneReading, StopsAs};
+ghost use Rattle.fed_commands.specs.Answers.{IsOneReading, StopsAs, readings_of};
+ghost use Rattle.fed_commands.specs.Runs.{views, world};
 ghost use Rattle.fed_inspect.specs.Inspections.{IsInspected, IsPublicReply, Inspects, reads_clock, reads_file, reads_input};
 
 use crate::config::check_config;
 use crate::output::write_line;
 use crate::public::public;
 use crate::shown::show_input;
-use fed_commands::{Reply, Stop, explain_no_ring, load_file, open_ring, plain, stopped};
+use fed_commands::{Stop, load_file, stopped};
 use fed_ports::{Clock, Sink, Source, Store, Text};
 use fed_words::{Inspection, Moment, moment_or};
 use plain_notes::{Notes, warn_of_moment};
+use ring_commands::{Reply, explain_no_ring, open_ring, plain};
 use std::alloc::Global;
 
 /// Does what the inspection asks for, and gives the exit status:
@@ -35,31 +37,8 @@ pub fn inspect<S: Source, K: Sink, D: Store, C: Clock>(
     clock: &mut C,
     notes: &mut Notes,
 ) -> u8
-    ensures { Inspects inspection.now
-        (record {
-          input = input.old;
-          store = store.old;
-          clock = clock.old;
-          left = S.left input.old;
-          read_faults = S.read_faults input.old;
-          held = K.held out.old;
-          write_faults = K.write_faults out.old;
-          files = D.files store.old;
-          store_faults = D.store_faults store.old;
-          readings = record { count = C.readings clock.old; last = C.last clock.old; told = C.told clock.old };
-        })
-        (record {
-          input = input.new;
-          store = store.new;
-          clock = clock.new;
-          left = S.left input.new;
-          read_faults = S.read_faults input.new;
-          held = K.held out.new;
-          write_faults = K.write_faults out.new;
-          files = D.files store.new;
-          store_faults = D.store_faults store.new;
-          readings = record { count = C.readings clock.new; last = C.last clock.new; told = C.told clock.new };
-        }) result }
+    ensures { Inspects inspection.now (world (views S.Source K.Sink D.Store C.Clock) input.old out.old store.old clock.old)
+        (world (views S.Source K.Sink D.Store C.Clock) input.new out.new store.new clock.new) result }
 {
     let moment = moment_for(inspection, clock);
     match reply_to(alloc, inspection, moment, input, store, notes) {
@@ -94,7 +73,7 @@ fn reply_to<S: Source, D: Store>(
             warn_of_at(alloc, *at, notes);
             check_config(alloc, config_file, moment_or(*at, moment), store, notes)
         }
-        Inspection::Help(topic) => Ok(plain(alloc, 0, topic.page())?),
+        Inspection::Help(verb) => Ok(plain(alloc, 0, verb.page())?),
     }
 }
 
@@ -132,9 +111,7 @@ fn warn_of_at(alloc: Global, at: Option<Moment>, notes: &mut Notes) {
 fn moment_for<C: Clock>(inspection: &Inspection, clock: &mut C) -> u64
     ensures small { result < moment_limit }
     ensures last { reads_clock inspection.now ≡ true → result ≡ C.last clock.new }
-    ensures read { reads_clock inspection.now ≡ true
-        → IsOneReading (record { count = C.readings clock.old; last = C.last clock.old; told = C.told clock.old })
-        (record { count = C.readings clock.new; last = C.last clock.new; told = C.told clock.new }) }
+    ensures read { reads_clock inspection.now ≡ true → IsOneReading (readings_of C.Clock clock.old) (readings_of C.Clock clock.new) }
     ensures apart { reads_clock inspection.now ≡ false → clock.new ≡ clock.old }
 {
     match inspection {

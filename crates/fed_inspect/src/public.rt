@@ -13,12 +13,12 @@ ghost use Rattle.key_ring.specs.Sets.{live_set};
 ghost use Rattle.fed_inspect.specs.Publics.{is_called, is_named, named_reply, past_reply, public_reply};
 
 use crate::replies::{on_line, refused};
-use fed_commands::Reply;
 use fed_json::{Json, object_members, text_at, write_tree};
 use fed_ports::{Memory, Text};
 use jwk_set::{Jwk, write_key};
 use key_ring::KeyRing;
 use plain_notes::{Notes, Sentence};
+use ring_commands::Reply;
 use std::alloc::Global;
 
 /// The text of the live keys of the ring as a key set (RFC 7517 section 5), newest first. `fed check --keys` reads it as these keys.

@@ -1,11 +1,11 @@
 // Replies that keep nothing.
 
 ghost use Rattle.std.specs.Prelude.{◌≡◌, ◌≤◌, IfOk};
-ghost use Rattle.fed_commands.specs.Replies.{refused};
+ghost use Rattle.ring_commands.specs.Replies.{refused};
 ghost use Rattle.fed_inspect.specs.Publics.{on_line};
 
-use fed_commands::Reply;
 use fed_ports::{Memory, Text};
+use ring_commands::Reply;
 use std::alloc::Global;
 
 /// The text on a line, with status 0.

@@ -1,13 +1,12 @@
 // What is found of a ring's file.
 
 ghost use Rattle.std.specs.Prelude.{List, ℕ, IfOk, Option};
-ghost use Rattle.fed_commands.specs.Operations.{IsFileOf};
+ghost use Rattle.ring_commands.specs.RingFiles.{IsFileOf};
 ghost use Rattle.fed_inspect.specs.Configs.{IsFoundIn};
 
-use config_summary::ToldRing;
-use fed_commands::File;
 use fed_ports::Memory;
-use key_ring::RingFault;
+use key_ring::{KeyRing, RingFault};
+use ring_commands::File;
 use std::alloc::Global;
 
 /// What is found of a ring's file.
@@ -21,8 +20,8 @@ pub enum RingFound {
     Shape,
     /// A key stands twice in it.
     Known,
-    /// Its ring, with what is told of its keys.
-    Opened(ToldRing),
+    /// Its ring.
+    Opened(KeyRing),
 }
 
 /// What is found of the file.
@@ -32,7 +31,7 @@ pub(crate) fn ring_found(alloc: Global, file: &File) -> Result<RingFound, Memory
     match file {
         File::Absent => Ok(RingFound::Absent),
         File::TooLong => Ok(RingFound::TooLong),
-        File::Whole(bytes) => match ToldRing::open(alloc, bytes.as_slice()) {
+        File::Whole(bytes) => match KeyRing::open(alloc, bytes.as_slice()) {
             Ok(ring) => Ok(RingFound::Opened(ring)),
             Err(RingFault::Shape) => Ok(RingFound::Shape),
             Err(RingFault::Known(_)) => Ok(RingFound::Known),

@@ -4,10 +4,11 @@ ghost use Rattle.std.specs.Prelude.{◌≡◌, ◌≤◌, ℕ, IfOk, MatchResult
 ghost use Rattle.fed_commands.specs.Answers.{StopsAs};
 ghost use Rattle.fed_inspect.specs.Shows.{IsShowReply, show_reply, status_of};
 
-use fed_commands::{Reply, Stop, plain, read_text};
+use fed_commands::{Stop, read_text};
 use fed_notes::explain_long_input;
 use fed_ports::{Memory, Source};
 use plain_notes::Notes;
+use ring_commands::{Reply, plain};
 use show_text::show;
 use std::alloc::Global;
 

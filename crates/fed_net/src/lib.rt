@@ -14,6 +14,7 @@ mod named_page;
 mod noted;
 mod real_network;
 mod real_peer;
+mod request_ends;
 mod timed;
 
 pub use memory_link::MemoryLink;

@@ -1,5 +1,6 @@
-// What the log says of one connection.
+// What the log says of one answer on a connection.
 
+use crate::request_ends::RequestEnds;
 use std::str;
 
 // How many bytes of a request are kept for the log.
@@ -8,7 +9,7 @@ const KEPT: usize = 256;
 // How many bytes of an answer there are up to the end of its status, as in `HTTP/1.1 200`.
 const STATUS_END: usize = 12;
 
-/// The beginning of the request's first line, that of the answer, and how many bytes were given.
+/// The beginning of the first line of the request that is to be answered, that of its answer, and how many bytes of it were given.
 #[derive(Drop)]
 pub struct Noted {
     request: [u8; KEPT],
@@ -16,6 +17,8 @@ pub struct Noted {
     ended: bool,
     answer: [u8; KEPT],
     given: u64,
+    ends: RequestEnds,
+    waiting: u64,
 }
 
 // A byte as the log shows it: an ASCII letter, digit or sign as it is, and any other as a star.
@@ -55,18 +58,45 @@ impl Noted {
             ended: false,
             answer: [b' '; KEPT],
             given: 0,
+            ends: RequestEnds::new(),
+            waiting: 0,
         }
     }
 
-    /// Notes what was read, up to the end of the first line that isn't empty: whoever reads a request passes over those before it.
+    /// Begins anew for the next answer. Of a request that was read of before, with an earlier one, the first line isn't known.
+    pub fn next(&mut self) {
+        self.waiting = self.waiting.saturating_sub(1);
+        self.kept = 0;
+        self.ended = self.has_begun();
+        self.answer = [b' '; KEPT];
+        self.given = 0;
+    }
+
+    /// Whether something was read of a request that isn't answered.
+    pub fn has_begun(&self) -> bool {
+        self.waiting > 0 || self.ends.has_begun()
+    }
+
+    /// Notes what was read, up to the end of the first line that isn't empty: whoever reads a request passes over those before it. What
+    /// stands behind the request is of another.
     pub fn read(&mut self, bytes: &[u8]) {
         for byte in bytes {
-            if *byte == b'\r' || *byte == b'\n' {
-                self.ended |= self.kept > 0;
-            } else if !self.ended && self.kept < KEPT {
-                self.request[self.kept] = shown(*byte);
-                self.kept += 1;
+            if self.waiting == 0 {
+                self.keep(*byte);
             }
+            if self.ends.step(*byte) {
+                self.waiting = self.waiting.saturating_add(1);
+            }
+        }
+    }
+
+    // Keeps a byte of the request's first line.
+    fn keep(&mut self, byte: u8) {
+        if byte == b'\r' || byte == b'\n' {
+            self.ended |= self.kept > 0;
+        } else if !self.ended && self.kept < KEPT {
+            self.request[self.kept] = shown(byte);
+            self.kept += 1;
         }
     }
 
@@ -107,10 +137,22 @@ impl Noted {
         self.answer_end().is_some_and(|end| self.given >= end)
     }
 
-    // Where the answer ends: behind the empty line, and as many bytes further as its length says.
-    fn answer_end(&self) -> Option<u64> {
+    /// Whether the answer says that the connection is closed behind it.
+    pub fn is_last(&self) -> bool {
+        self.head()
+            .is_some_and(|head| head.split_once("\r\nConnection: close").is_some())
+    }
+
+    // The head of the answer, without the empty line.
+    fn head(&self) -> Option<&str> {
         let text = str::from_utf8(&self.answer).ok()?;
         let (head, _) = text.split_once("\r\n\r\n")?;
+        Some(head)
+    }
+
+    // Where the answer ends: behind the empty line, and as many bytes further as its length says.
+    fn answer_end(&self) -> Option<u64> {
+        let head = self.head()?;
         let (_, length) = head.split_once("\r\nContent-Length: ")?;
         let (length, _) = cut(length, '\r');
         let length: u64 = length.parse().ok()?;

@@ -40,8 +40,8 @@ impl<
     'a,
     R: Net<Listener = TcpListener, Stream = TcpStream> + SystemClock + Eprint + Sync,
 > RealNetwork<'a, R> {
-    /// A network of which no call was made. It listens on the IPv4 address of these four numbers. Where `logs` says so, each peer that is
-    /// settled leaves one line on standard error.
+    /// A network of which no call was made. It listens on the IPv4 address of these four numbers. Where `logs` says so, each answer
+    /// of a peer leaves one line on standard error, and so does a peer that is settled without one.
     pub fn new(rt: &'a R, ip: [u8; 4], logs: bool) -> RealNetwork<'a, R>
         ensures { ⟦<RealNetwork<'a, R> as Network>⟧.faults result ≡ 0 }
     {
@@ -159,7 +159,7 @@ impl<'a, R: Net<Listener = TcpListener, Stream = TcpStream> + SystemClock + Epri
             unreachable!()
         };
         match next_caller(listener) {
-            Some((stream, from)) => Ok(RealPeer::new(self.rt, stream, from)),
+            Some((stream, from)) => Ok(RealPeer::new(self.rt, stream, from, self.logs)),
             None => {
                 self.faults = self.faults.saturating_add(1);
                 Err(Failed)
@@ -168,9 +168,6 @@ impl<'a, R: Net<Listener = TcpListener, Stream = TcpStream> + SystemClock + Epri
     }
 
     fn settle(&mut self, _alloc: Global, peer: RealPeer<'a, R>) -> Result<(), Memory> {
-        if self.logs {
-            peer.log();
-        }
         peer.close();
         Ok(())
     }

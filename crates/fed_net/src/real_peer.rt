@@ -14,8 +14,11 @@ use std::time::{Clock as SystemClock, Duration, Instant, SystemTime, UNIX_EPOCH}
 // For how many seconds a peer may be silent while it is read from.
 const SILENCE: u64 = 10;
 
-// In how many seconds a peer has to send its request, from when it was accepted.
+// In how many seconds a peer has to send its request, from when it was accepted, or from the first byte of a later one.
 const REQUEST: u64 = 30;
+
+// In how many seconds a peer whose connection was kept has to begin its next request.
+const IDLE: u64 = 1;
 
 // In how many seconds a peer has to take its answer, from when the first of it was given.
 const ANSWER: u64 = 30;
@@ -24,23 +27,26 @@ const ANSWER: u64 = 30;
 const READINGS: u32 = 64;
 
 /// A caller over TCP. It fails where it is silent for 10 seconds, where it hasn't sent its request 30 seconds after it was accepted, and
-/// where it doesn't take its answer in 30 seconds. Once its answer was given whole, by its `Content-Length`, it gets the end of it, though
-/// the connection is kept until it is settled.
+/// where it doesn't take its answer in 30 seconds. Once an answer that says `Connection: close` was given whole, by its `Content-Length`,
+/// it gets the end of it, though the connection is kept until it is settled. Behind any other answer these times begin anew with the first
+/// byte of the next request, and it fails where that doesn't come in a second.
 #[derive(Drop)]
-pub struct RealPeer<'a, R: SystemClock> {
+pub struct RealPeer<'a, R: SystemClock + Eprint> {
     rt: &'a R,
     stream: TcpStream,
     from: SocketAddr,
-    accepted: Option<Instant>,
+    logs: bool,
+    began: Option<Instant>,
+    is_idle: bool,
     answered: Option<Instant>,
     noted: Noted,
     reads: u64,
     writes: u64,
 }
 
-impl<'a, R: SystemClock> RealPeer<'a, R> {
-    /// A peer that was accepted now.
-    pub fn new(rt: &'a R, stream: TcpStream, from: SocketAddr) -> RealPeer<'a, R>
+impl<'a, R: SystemClock + Eprint> RealPeer<'a, R> {
+    /// A peer that was accepted now. Where `logs` says so, each of its answers leaves one line on standard error.
+    pub fn new(rt: &'a R, stream: TcpStream, from: SocketAddr, logs: bool) -> RealPeer<'a, R>
         ensures reads { ⟦<RealPeer<'a, R> as Source>⟧.read_faults result ≡ 0 }
         ensures writes { ⟦<RealPeer<'a, R> as Sink>⟧.write_faults result ≡ 0 }
     {
@@ -50,7 +56,9 @@ impl<'a, R: SystemClock> RealPeer<'a, R> {
             rt,
             stream,
             from,
-            accepted: Instant::now(rt).ok(),
+            logs,
+            began: Instant::now(rt).ok(),
+            is_idle: false,
             answered: None,
             noted: Noted::new(),
             reads: 0,
@@ -58,20 +66,20 @@ impl<'a, R: SystemClock> RealPeer<'a, R> {
         }
     }
 
-    /// Writes the line of this connection: the moment in seconds since 1970, the peer's address, the method and the path, the status, the
-    /// bytes of the answer and the milliseconds since it was accepted.
-    pub fn log(&self)
-    where
-        R: Eprint,
-    {
+    // Writes the line of an answer: the moment in seconds since 1970, the peer's address, the method and the path, the status, the bytes of
+    // the answer and the milliseconds since the peer was accepted or its request began.
+    fn log(&self) {
+        if !self.logs {
+            return;
+        }
         let now = match SystemTime::now(self.rt) {
             Ok(now) => now
                 .duration_since(UNIX_EPOCH)
                 .map_or(0, |since| since.as_secs()),
             Err(_) => 0,
         };
-        let spent = match self.accepted {
-            Some(accepted) => accepted.elapsed(self.rt).unwrap_or(Duration::ZERO),
+        let spent = match self.began {
+            Some(began) => began.elapsed(self.rt).unwrap_or(Duration::ZERO),
             None => Duration::ZERO,
         };
         let (method, path) = self.noted.request();
@@ -83,8 +91,28 @@ impl<'a, R: SystemClock> RealPeer<'a, R> {
         let _ = eprintln!(self.rt; "{now} {from} {method} {path} {status} {bytes} {millis}");
     }
 
-    /// Ends the connection. What came that nobody asked for is taken away, so that the peer still gets the end of its answer.
+    // What is done once an answer was given whole: the peer gets its end, or is waited for anew.
+    fn end_answer(&mut self)
+        ensures reads { self.new.reads ≡ self.old.reads }
+        ensures writes { self.new.writes ≡ self.old.writes }
+    {
+        if self.noted.is_last() {
+            let _ = self.stream.shutdown(Shutdown::Write);
+            return;
+        }
+        self.log();
+        self.noted.next();
+        self.is_idle = !self.noted.has_begun();
+        self.began = Instant::now(self.rt).ok();
+        self.answered = None;
+    }
+
+    /// Ends the connection, and leaves a line where it asked anything that has none yet, or nothing at all. What came that nobody asked for
+    /// is taken away, so that the peer still gets the end of its answer.
     pub fn close(self) {
+        if !self.is_idle {
+            self.log();
+        }
         let mut stream = self.stream;
         let _ = stream.shutdown(Shutdown::Write);
         if stream.set_nonblocking(true).is_err() {
@@ -100,7 +128,7 @@ impl<'a, R: SystemClock> RealPeer<'a, R> {
     }
 }
 
-impl<'a, R: SystemClock> Source for RealPeer<'a, R> {
+impl<'a, R: SystemClock + Eprint> Source for RealPeer<'a, R> {
     ghost left = { λ _. None };
 
     ghost source_side = { λ peer. (None, peer.writes) };
@@ -108,10 +136,18 @@ impl<'a, R: SystemClock> Source for RealPeer<'a, R> {
     ghost read_faults = { λ peer. peer.reads };
 
     fn take(&mut self, into: &mut [u8]) -> Result<usize, Failed> {
-        let wait = left(self.rt, self.accepted, REQUEST);
+        let wait = left(
+            self.rt,
+            self.began,
+            if self.is_idle { IDLE } else { REQUEST },
+        );
         let wait = wait.map(|wait| wait.min(Duration::from_secs(SILENCE)));
         match read(&mut self.stream, wait, into) {
             Some(n) => {
+                if self.is_idle && n > 0 {
+                    self.is_idle = false;
+                    self.began = Instant::now(self.rt).ok();
+                }
                 self.noted.read(&into[..n]);
                 Ok(n)
             }
@@ -123,7 +159,7 @@ impl<'a, R: SystemClock> Source for RealPeer<'a, R> {
     }
 }
 
-impl<'a, R: SystemClock> Sink for RealPeer<'a, R> {
+impl<'a, R: SystemClock + Eprint> Sink for RealPeer<'a, R> {
     ghost held = { λ _. None };
 
     ghost sink_side = { λ peer. (None, peer.reads) };
@@ -139,7 +175,7 @@ impl<'a, R: SystemClock> Sink for RealPeer<'a, R> {
             Some(n) => {
                 self.noted.given(&piece[..n]);
                 if self.noted.is_answered() {
-                    let _ = self.stream.shutdown(Shutdown::Write);
+                    self.end_answer();
                 }
                 Ok(n)
             }
@@ -151,7 +187,7 @@ impl<'a, R: SystemClock> Sink for RealPeer<'a, R> {
     }
 }
 
-impl<'a, R: SystemClock> Peer for RealPeer<'a, R> {
+impl<'a, R: SystemClock + Eprint> Peer for RealPeer<'a, R> {
     ghost source_side_is = { λ peer. refl };
 
     ghost sink_side_is = { λ peer. refl };

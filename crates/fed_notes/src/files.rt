@@ -1,10 +1,10 @@
 // Files that are named.
 
-use crate::keys::explain_key_set;
 use crate::ring_files::explain_ring;
 use fed_base::Text;
 use fed_json::{TreeFault, read_tree};
 use plain_notes::{Notes, Sentence};
+use statement_notes::explain_key_set;
 use std::alloc::Global;
 
 fn named(alloc: Global, name: &Text) -> Sentence {

@@ -1,9 +1,9 @@
 // Standard input out of form.
 
-use crate::claims::kind_of;
 use crate::files::syntax_fault;
 use fed_json::{Json, TreeFault, is_whole, object_members};
 use plain_notes::{Notes, Sentence};
+use statement_notes::kind_of;
 use std::alloc::Global;
 
 /// Says that standard input is too long.

@@ -1,28 +1,19 @@
-//! Layer 7, the program: what a person reads of files, of standard input, of statements and of chains that are refused, and of what looks
-//! wrong in those that aren't.
+//! Layer 7, the program: what a person reads of files, of standard input and of changes of a ring that are refused, and of what looks wrong
+//! in what is accepted.
 //!
 //! The calls `explain_..` find the cause of an answer again in what their caller has at hand, and say it in [`Notes`]; the calls `warn_..`
 //! say what looks wrong in what was accepted. None of them can fail: where memory is wanting, less is said. The crate above calls them
 //! beside its answers, which they don't change.
 #![tactic(auto)]
 
-mod chains;
 mod changes;
-mod claims;
 mod files;
 mod inputs;
-mod keys;
-mod limits;
-mod links;
 mod marks;
-mod places;
 mod ring_files;
-mod texts;
 mod warnings;
 
-pub use chains::{Asked, explain_verdict};
 pub use changes::explain_change;
-pub use claims::explain_claims;
 pub use files::{
     explain_absent_file, explain_existing_file, explain_keys_file, explain_long_file,
     explain_ring_file,
@@ -32,6 +23,6 @@ pub use inputs::{
     explain_unless_list, explain_unless_object,
 };
 pub use marks::explain_mark_claims;
-pub use ring_files::warn_of_ended_key;
-pub use texts::explain_verify;
-pub use warnings::{warn_of_claims, warn_of_statement};
+pub use ring_files::{warn_of_ended_key, warn_of_ended_signer};
+pub use statement_notes::{explain_claims, explain_verify, warn_of_statement};
+pub use warnings::warn_of_claims;

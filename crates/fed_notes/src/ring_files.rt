@@ -1,7 +1,8 @@
 // Ring files out of form, and rings whose keys have ended.
 
-use fed_base::{MOMENT_LIMIT, Text};
+use fed_base::Text;
 use fed_json::{Json, Member, count_below, find, object_members, read_tree, text_at};
+use key_ring::{KeyState, KeyTerm, RevokeReason, moment_at};
 use plain_notes::{Notes, Sentence};
 use std::alloc::Global;
 
@@ -118,39 +119,37 @@ fn is_revocation(members: &[Member]) -> bool {
         moment_at(members, b"revoked_at"),
         text_at(members, b"reason"),
     ) {
-        (Some(_), Some(reason)) => is_reason(reason.as_slice()),
+        (Some(_), Some(reason)) => RevokeReason::of_word(reason.as_slice()).is_some(),
         _ => false,
     }
 }
 
-fn is_reason(word: &[u8]) -> bool {
-    word == b"unspecified".as_slice()
-        || word == b"compromised".as_slice()
-        || word == b"superseded".as_slice()
-}
-
-fn moment_at(members: &[Member], name: &[u8]) -> Option<u64> {
-    match find(members, name) {
-        Some(tree) => count_below(tree, MOMENT_LIMIT),
-        None => None,
+/// Says where the signer of the ring with these keys, the first live one, has ended at the moment of the notes.
+pub fn warn_of_ended_signer(alloc: Global, name: &Text, keys: &[KeyTerm], notes: &mut Notes) {
+    if let Some(signer) = keys.iter().find(|key| signs(key)) {
+        warn_of_end(alloc, name, signer.exp, notes);
     }
 }
 
-/// Says where the ring's signer, its first live key, has ended at the moment of the notes.
-pub fn warn_of_ended_key(alloc: Global, name: &Text, file: &[u8], notes: &mut Notes) {
-    let Some(moment) = notes.moment() else {
-        return;
-    };
-    let Some(exp) = signer_end(alloc, file) else {
-        return;
-    };
-    if exp <= moment {
+fn signs(key: &KeyTerm) -> bool {
+    matches!(key.state, KeyState::Live)
+}
+
+fn warn_of_end(alloc: Global, name: &Text, exp: u64, notes: &mut Notes) {
+    if notes.moment().is_some_and(|moment| exp <= moment) {
         notes.say(
             Sentence::of(alloc, b"warning: the signing key of ")
                 .and(name.as_slice())
                 .and(b" ended at ")
                 .and_moment(alloc, exp),
         );
+    }
+}
+
+/// The same, by the ring's file.
+pub fn warn_of_ended_key(alloc: Global, name: &Text, file: &[u8], notes: &mut Notes) {
+    if let Some(exp) = signer_end(alloc, file) {
+        warn_of_end(alloc, name, exp, notes);
     }
 }
 

@@ -9,10 +9,10 @@ use Rattle.resolve_reply.specs.declared.reply.Reply.{Reply}
 use Rattle.resolve_reply.specs.declared.signer.Signer.{Signer}
 use Rattle.resolve_round.specs.declared.trace.Event.TheVariants.{Book}
 use Rattle.resolve_round.specs.declared.trace.Trace.{Trace}
-use Rattle.resolve_pages.specs.declared.halt.Halt.{Halt}
-use Rattle.resolve_pages.specs.Acts.{GainsEvents, IsHalt}
-use Rattle.resolve_pages.specs.Linking.{LinkSeen}
-use Rattle.resolve_pages.specs.Walking.{Giving}
+use Rattle.resolve_round.specs.declared.halt.Halt.{Halt}
+use Rattle.resolve_round.specs.Acts.{GainsEvents, IsHalt}
+use Rattle.resolve_round.specs.Linking.{LinkSeen}
+use Rattle.resolve_round.specs.Walking.{Giving}
 use Rattle.fed_resolver.specs.declared.outcome.Refusal.{Refusal}
 use Rattle.fed_resolver.specs.declared.outcome.Refusal.TheVariants.{NoAnchor, NotFound, PolicyOnly, NoChain, Unavailable, Budget, Worn, Memory}
 use Rattle.fed_resolver.specs.Calls.{GaveAll, IsFresh, Resolves}

@@ -19,9 +19,9 @@ use Rattle.resolve_round.specs.declared.trace.Event.TheVariants.{Shelf, Book}
 use Rattle.resolve_round.specs.declared.trace.Trace.{Trace}
 use Rattle.resolve_round.specs.Told.{AreChecks, IsTrueSoFar, ProvesGood}
 use Rattle.resolve_round.specs.Traces.{IsWork, asks_in, pair_in, puts_in}
-use Rattle.resolve_pages.specs.declared.halt.Halt.{Halt}
-use Rattle.resolve_pages.specs.declared.halt.Halt.TheVariants as halt
-use Rattle.resolve_pages.specs.Acts.{Continues, GainsEvents, IsHalt, on_book, on_part}
+use Rattle.resolve_round.specs.declared.halt.Halt.{Halt}
+use Rattle.resolve_round.specs.declared.halt.Halt.TheVariants as halt
+use Rattle.resolve_round.specs.Acts.{Continues, GainsEvents, IsHalt, on_book, on_part}
 use Rattle.fed_resolver.specs.declared.outcome.Refusal.TheVariants as refusal
 use Rattle.fed_resolver.specs.Calls.{IsFresh, WornOnly}
 use Rattle.fed_resolver.specs.Going.{IsBlank}

@@ -11,7 +11,7 @@ use Rattle.resolve_round.specs.Courses.{Course, search_of}
 use Rattle.resolve_round.specs.Pages.{Query}
 use Rattle.resolve_round.specs.Rounds.{EndsAs, Round, Settles}
 use Rattle.resolve_round.specs.Traces.{look_in, looks_in, looks_of, put_in, puts_in, puts_of}
-use Rattle.resolve_pages.specs.declared.aim.Aim.{Aim}
+use Rattle.resolve_round.specs.declared.aim.Aim.{Aim}
 use Rattle.resolve_search.specs.declared.round.FoundChain.{FoundChain}
 use Rattle.resolve_search.specs.declared.round.RoundEnd.{RoundEnd}
 use Rattle.resolve_search.specs.Turning.{HasRound, IsChain, SameBut, query_at}

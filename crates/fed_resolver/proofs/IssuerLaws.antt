@@ -19,7 +19,7 @@ use Rattle.resolve_round.specs.Courses.{Course}
 use Rattle.resolve_round.specs.Pages.{Query}
 use Rattle.resolve_round.specs.Rounds.{AreRounds, AreRoundsForEach, IsLast, for_entity, last_course}
 use Rattle.resolve_round.proofs.HintLaws.{and-left, and-right}
-use Rattle.resolve_pages.specs.declared.aim.Aim.{Aim}
+use Rattle.resolve_round.specs.declared.aim.Aim.{Aim}
 use Rattle.resolve_search.specs.Turning.{query_at}
 use Rattle.fed_resolver.specs.Going.{HasIssuer, HasIssuers, KeepsBy, usual_aim}
 use Rattle.fed_resolver.specs.Searches.{found_keys, rounds_for, said_in}

@@ -5,7 +5,7 @@ use Rattle.entity_statement.specs.Signed.{statement_of}
 use Rattle.resolve_reply.specs.declared.issuers.Issuer.{Issuer}
 use Rattle.resolve_round.specs.declared.trace.Trace.{Trace}
 use Rattle.resolve_round.specs.Rounds.{FoundPath}
-use Rattle.resolve_pages.specs.declared.aim.Aim.{Aim}
+use Rattle.resolve_round.specs.declared.aim.Aim.{Aim}
 use Rattle.resolve_search.specs.declared.round.FoundChain.{FoundChain}
 use Rattle.resolve_search.specs.declared.round.RoundEnd.{RoundEnd}
 use Rattle.resolve_search.specs.Turning.{IsChain, query_at}

@@ -17,7 +17,7 @@ use Rattle.statement_shelf.proofs.BookRuns.{epochs-rise}
 use Rattle.resolve_round.specs.declared.trace.Event.{Event}
 use Rattle.resolve_round.specs.declared.trace.Event.TheVariants as event
 use Rattle.resolve_round.specs.declared.trace.Trace.{Trace}
-use Rattle.resolve_pages.specs.Acts.{GainsEvents}
+use Rattle.resolve_round.specs.Acts.{GainsEvents}
 use Rattle.fed_resolver.specs.Calls.{IsFresh}
 use Rattle.fed_resolver.specs.Going.{CanAnswer}
 

@@ -15,9 +15,9 @@ use Rattle.resolve_round.specs.Rounds.{EndsAs, FoundPath, pages_in}
 use Rattle.resolve_round.specs.Told.{IsTrueSoFar, ProvesGood}
 use Rattle.resolve_search.specs.declared.round.FoundChain.{FoundChain}
 use Rattle.resolve_search.specs.declared.round.RoundEnd.{RoundEnd}
-use Rattle.resolve_pages.specs.Acts.{GainsEvents}
+use Rattle.resolve_round.specs.Acts.{GainsEvents}
 use Rattle.resolve_search.specs.Judging.{IsFound}
-use Rattle.resolve_pages.specs.Linking.{LinkSeen}
+use Rattle.resolve_round.specs.Linking.{LinkSeen}
 use Rattle.resolve_search.specs.Turning.{IsChain, query_at}
 use Rattle.fed_resolver.specs.declared.outcome.Refusal.{Refusal}
 use Rattle.fed_resolver.specs.declared.outcome.Refusal.TheVariants.{NoAnchor, NotFound, PolicyOnly, NoChain, Unavailable, Budget, Worn, Memory}

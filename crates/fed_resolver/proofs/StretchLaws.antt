@@ -1,7 +1,8 @@
 -- What a call does in stretches, one after the other.
-use Rattle.std.proofs.Common.{◌≡◌, ◌≤◌, ◌<◌, ◌+◌, ◌⊎◌, ℕ, zero, suc, List, [], ◌∷◌, ◌++◌, refl, sym, ap, ◌∙◌, subst, inl, inr, ⊎_elim, append-nil, append_assoc, arith}
+use Rattle.std.proofs.Common.{◌≡◌, ◌≤◌, ◌<◌, ◌+◌, ◌⊎◌, ℕ, zero, suc, List, [], ◌∷◌, ◌++◌, Result, Ok, Err, refl, sym, ap, ◌∙◌, subst, inl, inr, ⊎_elim, append-nil, append_assoc, arith}
 use Rattle.std.proofs.lemmas.List.Concat.{flat_map-append}
 use Rattle.std.proofs.lemmas.List.Sums.{sum_by-append, sum_by-cons}
+use Rattle.turn_log.specs.Groups.{known}
 use Rattle.chain_check.specs.Counts.{counted}
 use Rattle.chain_climb.proofs.Elements.{among-split}
 use Rattle.statement_shelf.specs.Passes.{CommonsKnown}
@@ -10,16 +11,20 @@ use Rattle.resolve_round.specs.declared.trace.Search.{Search}
 use Rattle.resolve_round.specs.declared.trace.Trace.{Trace}
 use Rattle.resolve_round.specs.Told.{IsTrueSoFar}
 use Rattle.resolve_round.specs.Traces.{asks_in}
-use Rattle.resolve_pages.specs.declared.halt.Halt.{Halt}
-use Rattle.resolve_pages.specs.declared.halt.Halt.TheVariants as halt
-use Rattle.resolve_pages.specs.Acts.{Continues, IfWorn}
-use Rattle.resolve_pages.specs.Linking.{FetchesOf, LinkSeen, UsesLink}
-use Rattle.resolve_search.specs.Turning.{SameBut, UsesLinkOnce, blank}
-use Rattle.resolve_pages.specs.Walking.{GaveEach, Giving, Stumbled, StumblesOnce, Walked, WalkedRound}
-use Rattle.resolve_pages.proofs.ActsLaws.{continues-none, continues-then}
-use Rattle.resolve_pages.proofs.LinkLaws.{counted-lower, counted-then}
-use Rattle.resolve_pages.proofs.WalkLaws.{stumbled-then, walked-then}
-use Rattle.fed_resolver.specs.Stretches.{Goes, GoesTo, Moment, SameKeys, StumbledRounds, UsesRounds, WalkedRounds, moment_at}
+use Rattle.resolve_round.specs.declared.halt.Halt.{Halt}
+use Rattle.resolve_round.specs.declared.halt.Halt.TheVariants as halt
+use Rattle.resolve_round.specs.Acts.{Continues, IsKept}
+use Rattle.resolve_round.specs.Linking.{FetchesOf, LinkSeen, LinkView, UsesLink, seen_by}
+use Rattle.resolve_search.specs.declared.call.Call.{Call}
+use Rattle.resolve_search.specs.Calls.{Acted, Acts, HasPass}
+use Rattle.resolve_search.specs.Turning.{RoundUsed, SameBut, TriesOnce, UsesLinkOnce, blank}
+use Rattle.resolve_round.specs.Walking.{GaveEach, Giving, Stumbled, StumblesOnce, Walked, WalkedRound}
+use Rattle.resolve_round.proofs.ActsLaws.{continues-none, continues-then}
+use Rattle.resolve_round.proofs.LinkLaws.{counted-lower, counted-then}
+use Rattle.resolve_round.proofs.PassLaws.{kept-then}
+use Rattle.resolve_round.proofs.WalkLaws.{stumbled-then, walked-then}
+use Rattle.resolve_search.proofs.CallLaws.{acted-none, parts-then as same-then}
+use Rattle.fed_resolver.specs.Stretches.{Goes, GoesFor, GoesTo, KeepsParts, Moment, SameKeys, StumbledRounds, UsesRounds, WalkedRounds, WalksFor, moment_at, moment_of}
 use Rattle.fed_resolver.specs.Uses.{calls_made, calls_of, faults_met, faults_of}
 
 -- ---- the link
@@ -135,11 +140,10 @@ module _ (age : ℕ) (old new : Trace) (before after : CommonsKnown) (seen now :
   pub goes-round : UsesLinkOnce 0 seen now old new → Goes age 0 (moment_at old before seen) (moment_at new after now)
   goes-round once = goes-by 0 (round-uses seen now old new once)
 
-  pub goes-halted : (h : Halt) → UsesLinkOnce 0 seen now old new ⊎ UsesLinkOnce 1 seen now old new → IfWorn h (UsesLinkOnce 0 seen now old new)
-      → GoesTo age (moment_at old before seen) (moment_at new after now) h
-  goes-halted (halt.Worn count) tries spared = goes-round spared
-  goes-halted halt.Memory (inl once) spared = inl (goes-round once)
-  goes-halted halt.Memory (inr once) spared = ⊎_elim (λ u. inl (goes-by 0 u)) (λ u. inr (goes-by 1 u)) (round-once seen now old new once)
+  pub goes-halted : (cause : Halt) → TriesOnce seen now old new cause → GoesTo age (moment_at old before seen) (moment_at new after now) cause
+  goes-halted (halt.Worn count) once = goes-round once
+  goes-halted halt.Memory (inl once) = inl (goes-round once)
+  goes-halted halt.Memory (inr once) = ⊎_elim (λ u. inl (goes-by 0 u)) (λ u. inr (goes-by 1 u)) (round-once seen now old new once)
 
 -- ---- what the link gave
 
@@ -217,3 +221,44 @@ module _ {L : Type 0} (gave : Giving L) where
     are = walked.are;
     stumbled = record { at = new; walked = walk-of old new before after walked; last = inl refl };
   }
+
+-- ---- by the result
+
+-- one round
+module _ {L : Type 0} (view : LinkView L) where
+  pub round-goes : {R G A : Type 0} → (old new : Call R G) (before after : L) (age : ℕ) (result : Result A Halt) → SameBut old.trace.now new.trace.now → IsTrueSoFar age new.trace.now → Acts old new result
+      → RoundUsed view before after old.trace.now new.trace.now result → GoesFor age (moment_of view old before) (moment_of view new after) result
+  round-goes old new before after age (Ok value) same told acts link =
+      goes-round age old.trace.now new.trace.now (known old.pass.now) (known new.pass.now) (seen_by view before) (seen_by view after) same told acts.continues link.0
+  round-goes old new before after age (Err cause) same told acts link =
+      goes-halted age old.trace.now new.trace.now (known old.pass.now) (known new.pass.now) (seen_by view before) (seen_by view after) same told acts.0.continues cause link.0
+
+  pub round-walks : {A : Type 0} → (old new : L) (before after : Trace) (result : Result A Halt) → RoundUsed view old new before after result → WalksFor view.gave old new before after result
+  round-walks old new before after (Ok value) link = walked-round view.gave old new before after link.1
+  round-walks old new before after (Err cause) link = stumbled-round view.gave old new before after link.1
+
+-- a stretch, and then one that ended so
+pub goes-for-then : {A : Type 0} → (age : ℕ) (a b c : Moment) (result : Result A Halt) → Goes age 0 a b → GoesFor age b c result → GoesFor age a c result
+goes-for-then age a b c (Ok value) one two = goes-then age 0 a b c one two
+goes-for-then age a b c (Err cause) one two = goes-on_to age a b c cause one two
+
+pub walks-for-then : {L A : Type 0} → (gave : Giving L) (old mid new : L) (first between last : Trace) (result : Result A Halt) → WalkedRounds gave old mid first between → WalksFor gave mid new between last result
+    → WalksFor gave old new first last result
+walks-for-then gave old mid new first between last (Ok value) one two = walks-then gave old mid new first between last one two
+walks-for-then gave old mid new first between last (Err cause) one two = stumbles-then gave old mid new first between last one two
+
+-- ---- what stays of a call
+
+pub parts-acted : {R G : Type 0} → (old new : Call R G) → Acted old new → KeepsParts old new
+parts-acted old new acted = record { parts = acted.parts; kept = acted.kept }
+
+pub parts-none : {R G : Type 0} → (call : Call R G) → HasPass call → KeepsParts call call
+parts-none call of = parts-acted call call (acted-none call of)
+
+pub parts-behind : {R G : Type 0} → (first mid last : Call R G) → KeepsParts mid last → KeepsParts first mid → KeepsParts first last
+parts-behind first mid last two one = record {
+  parts = same-then first mid last one.parts two.parts;
+  kept =
+      kept-then first.commons.now first.pass.now mid.pass.now last.pass.now one.kept
+      (subst (λ commons. IsKept commons mid.pass.now last.pass.now) one.parts.commons two.kept);
+}

@@ -13,11 +13,11 @@ use Rattle.resolve_round.specs.declared.trace.Search.{Search}
 use Rattle.resolve_round.specs.declared.trace.Trace.{Trace}
 use Rattle.resolve_round.specs.Courses.{Counts, is_fault}
 use Rattle.resolve_round.specs.Traces.{asks_in}
-use Rattle.resolve_pages.specs.declared.halt.Halt.{Halt}
-use Rattle.resolve_pages.specs.declared.halt.Halt.TheVariants as halt
-use Rattle.resolve_pages.specs.Linking.{FetchesOf, LinkSeen}
-use Rattle.resolve_pages.specs.Testing.{CountsChecks}
-use Rattle.resolve_pages.specs.Walking.{GaveEach, Giving, Stumbled}
+use Rattle.resolve_round.specs.declared.halt.Halt.{Halt}
+use Rattle.resolve_round.specs.declared.halt.Halt.TheVariants as halt
+use Rattle.resolve_round.specs.Linking.{FetchesOf, LinkSeen}
+use Rattle.resolve_round.specs.Testing.{CountsChecks}
+use Rattle.resolve_round.specs.Walking.{GaveEach, Giving, Stumbled}
 use Rattle.fed_resolver.specs.declared.outcome.Refusal.{Refusal}
 use Rattle.fed_resolver.specs.declared.outcome.Refusal.TheVariants.{NoAnchor, NotFound, PolicyOnly, NoChain, Unavailable, Budget, Worn, Memory}
 use Rattle.fed_resolver.specs.Calls.{GaveAll}

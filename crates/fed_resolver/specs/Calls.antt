@@ -12,8 +12,8 @@ use Rattle.resolve_reply.specs.declared.reply.Reply.{Reply}
 use Rattle.resolve_reply.specs.declared.signer.Signer.{Signer}
 use Rattle.resolve_round.specs.declared.trace.Event.TheVariants as Event
 use Rattle.resolve_round.specs.declared.trace.Trace.{Trace}
-use Rattle.resolve_pages.specs.Acts.{GainsEvents, HasCounted}
-use Rattle.resolve_pages.specs.Walking.{GaveEach, Giving, Stumbled}
+use Rattle.resolve_round.specs.Acts.{GainsEvents, HasCounted}
+use Rattle.resolve_round.specs.Walking.{GaveEach, Giving, Stumbled}
 use Rattle.resolve_round.specs.Told.{TestsNothingProved}
 use Rattle.resolve_round.specs.Traces.{asks_in}
 use Rattle.fed_resolver.specs.declared.outcome.Outcome.{Outcome}

@@ -22,7 +22,7 @@ use Rattle.resolve_round.specs.Courses.{Course, found, search_of}
 use Rattle.resolve_round.specs.Pages.{case_in}
 use Rattle.resolve_round.specs.Rounds.{AreRounds, AreRoundsForEach, EndsAs, IsLast, Round, pages_in}
 use Rattle.resolve_round.specs.Traces.{IsWork}
-use Rattle.resolve_pages.specs.declared.aim.Aim.{Aim}
+use Rattle.resolve_round.specs.declared.aim.Aim.{Aim}
 use Rattle.resolve_search.specs.declared.round.FoundChain.{FoundChain}
 use Rattle.resolve_search.specs.declared.round.RoundEnd.{RoundEnd}
 use Rattle.resolve_search.specs.Judging.{IsFound}

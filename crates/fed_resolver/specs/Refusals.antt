@@ -2,9 +2,9 @@
 use Rattle.std.specs.Prelude.{◌⊎◌, ℕ, zero, suc, Result, Err}
 use Rattle.chain_climb.specs.declared.want.End.{End}
 use Rattle.chain_climb.specs.declared.want.End.TheVariants as end
-use Rattle.resolve_pages.specs.declared.halt.Halt.{Halt}
-use Rattle.resolve_pages.specs.declared.halt.Halt.TheVariants as halt
-use Rattle.resolve_pages.specs.Walking.{Giving}
+use Rattle.resolve_round.specs.declared.halt.Halt.{Halt}
+use Rattle.resolve_round.specs.declared.halt.Halt.TheVariants as halt
+use Rattle.resolve_round.specs.Walking.{Giving}
 use Rattle.resolve_round.specs.declared.trace.Trace.{Trace}
 use Rattle.resolve_reply.specs.declared.reply.Reply.{Reply}
 use Rattle.resolve_reply.specs.declared.signer.Signer.{Signer}

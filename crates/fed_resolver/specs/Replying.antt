@@ -17,7 +17,7 @@ use Rattle.resolve_reply.specs.Marks.{AreGood, Judging, issuers_by_mark, looked_
 use Rattle.resolve_reply.specs.Replies.{IsReplyOf, cut_to}
 use Rattle.resolve_round.specs.declared.request.ResolveRequest.{ResolveRequest}
 use Rattle.resolve_round.specs.declared.trace.Trace.{Trace}
-use Rattle.resolve_pages.specs.declared.aim.Aim.{Aim}
+use Rattle.resolve_round.specs.declared.aim.Aim.{Aim}
 use Rattle.resolve_search.specs.declared.round.FoundChain.{FoundChain}
 use Rattle.fed_resolver.specs.Going.{HasIssuers}
 

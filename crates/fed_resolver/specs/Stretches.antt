@@ -1,17 +1,20 @@
 -- What a call does from one moment to another: what it leaves of its trace, its pass and its link.
-use Rattle.std.specs.Prelude.{◌≡◌, ◌≤◌, ◌<◌, ◌+◌, ◌⊎◌, ℕ, List, [], ◌++◌}
+use Rattle.std.specs.Prelude.{◌≡◌, ◌≤◌, ◌<◌, ◌+◌, ◌⊎◌, ℕ, List, [], ◌++◌, Result, Ok, Err}
+use Rattle.turn_log.specs.Groups.{known}
 use Rattle.chain_check.specs.Counts.{counted}
 use Rattle.chain_climb.specs.Elements.{Among}
 use Rattle.statement_shelf.specs.Passes.{CommonsKnown}
 use Rattle.resolve_round.specs.declared.trace.Search.{Search}
 use Rattle.resolve_round.specs.declared.trace.Trace.{Trace}
-use Rattle.resolve_round.specs.Told.{IsTrueSoFar}
+use Rattle.resolve_round.specs.Told.{IsTrueSoFar, ProvesGood}
 use Rattle.resolve_round.specs.Traces.{asks_in}
-use Rattle.resolve_pages.specs.declared.halt.Halt.{Halt}
-use Rattle.resolve_pages.specs.declared.halt.Halt.TheVariants as halt
-use Rattle.resolve_pages.specs.Acts.{Continues}
-use Rattle.resolve_pages.specs.Linking.{FetchesOf, LinkSeen}
-use Rattle.resolve_pages.specs.Walking.{GaveEach, Giving, Stumbled}
+use Rattle.resolve_round.specs.declared.halt.Halt.{Halt}
+use Rattle.resolve_round.specs.declared.halt.Halt.TheVariants as halt
+use Rattle.resolve_round.specs.Acts.{Continues, IsKept}
+use Rattle.resolve_round.specs.Linking.{FetchesOf, LinkSeen, LinkView, seen_by}
+use Rattle.resolve_round.specs.Walking.{GaveEach, Giving, Stumbled}
+use Rattle.resolve_search.specs.declared.call.Call.{Call}
+use Rattle.resolve_search.specs.Calls.{HasPass, SameParts}
 use Rattle.fed_resolver.specs.Uses.{calls_made, faults_met}
 
 -- a call at one moment: its trace, what its pass knows, and its link
@@ -64,3 +67,31 @@ pub record Goes (age extra : ℕ) (old new : Moment) : Type 0 where
 abbrev pub GoesTo : ℕ → Moment → Moment → Halt → Type 0
 GoesTo age old new (halt.Worn count) = Goes age 0 old new
 GoesTo age old new halt.Memory = Goes age 0 old new ⊎ Goes age 1 old new
+
+-- ---- by the result
+
+-- what a stretch does
+abbrev pub GoesFor : {A : Type 0} → ℕ → Moment → Moment → Result A Halt → Type 0
+GoesFor age old new (Ok value) = Goes age 0 old new
+GoesFor age old new (Err cause) = GoesTo age old new cause
+
+-- what the link gave meanwhile
+abbrev pub WalksFor : {L A : Type 0} → Giving L → L → L → Trace → Trace → Result A Halt → Type 0
+WalksFor gave old new before after (Ok value) = WalkedRounds gave old new before after
+WalksFor gave old new before after (Err cause) = StumbledRounds gave old new before after
+
+-- ---- of a call
+
+abbrev pub moment_of : {L R G : Type 0} → LinkView L → Call R G → L → Moment
+moment_of view call link = moment_at call.trace.now (known call.pass.now) (seen_by view link)
+
+-- its pass is one of the shared objects, what its trace tells is true, and each good check was proved
+pub record CanGoOn {R G : Type 0} (age : ℕ) (call : Call R G) : Type 0 where
+  pub of : HasPass call
+  pub told : IsTrueSoFar age call.trace.now
+  pub good : ProvesGood call.trace.now
+
+-- it works with what it worked with, and its pass stays one of the shared objects
+pub record KeepsParts {R G : Type 0} (old new : Call R G) : Type 0 where
+  pub parts : SameParts old new
+  pub kept : IsKept old.commons.now old.pass.now new.pass.now

@@ -2,7 +2,7 @@
 
 ghost use Rattle.std.specs.Prelude.{◌≡◌, [], ℕ, List, IfErr, OnErr, OnOk};
 ghost use Rattle.turn_log.specs.Groups.{known};
-ghost use Rattle.resolve_pages.specs.Acts.{GainsEvents, IsHalt, IsKept};
+ghost use Rattle.resolve_round.specs.Acts.{GainsEvents, IsHalt, IsKept};
 ghost use Rattle.statement_shelf.specs.Passes.{IsPassOfAll};
 ghost use Rattle.statement_shelf.specs.declared.calls.AnchorKeys.{AnchorKeys};
 ghost use Rattle.fed_resolver.specs.Going.{CanTakeKeys, HasRead, TakesKeys};

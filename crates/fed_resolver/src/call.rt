@@ -1,15 +1,16 @@
 // One call of the resolver.
 
-ghost use Rattle.std.specs.Prelude.{◌≡◌, [], IfErr, IfOk, OnErr, OnOk};
+ghost use Rattle.std.specs.Prelude.{◌≡◌, IfOk};
 ghost use Rattle.turn_log.specs.Groups.{known};
 ghost use Rattle.sealed.specs.Sealing.{IsSealedFor};
 ghost use Rattle.statement_shelf.specs.Passes.{IsPassOfAll};
-ghost use Rattle.resolve_pages.specs.Acts.{IsKept};
-ghost use Rattle.resolve_pages.specs.Linking.{link_seen};
+ghost use Rattle.resolve_round.specs.Acts.{IsKept};
+ghost use Rattle.resolve_round.specs.Linking.{link_view};
+ghost use Rattle.resolve_search.specs.Calls.{HasPass, SameParts};
 ghost use Rattle.fed_resolver.specs.Calls.{GaveAll, Resolves, WornOnly};
 ghost use Rattle.fed_resolver.specs.Going.{IsBegun, IsBlank};
 ghost use Rattle.fed_resolver.specs.Refusals.{GoesBy, WalksBy, WholeBy, outcome_of, refused_by};
-ghost use Rattle.fed_resolver.specs.Stretches.{moment_at};
+ghost use Rattle.fed_resolver.specs.Stretches.{KeepsParts, moment_of};
 ghost use Rattle.fed_resolver.specs.Told.{situation_of};
 ghost use Rattle.fed_resolver.specs.Uses.{CountsTests, IsComplete, UsesLink};
 
@@ -23,7 +24,7 @@ use fed_ports::Link;
 use jwk_set::JwkSet;
 use resolve_reply::{Reply, Signer};
 use resolve_round::{ResolveRequest, Trace};
-use resolve_search::RoundEnd;
+use resolve_search::{Call, RoundEnd};
 use statement_shelf::{Commons, FedPass};
 use std::alloc::Global;
 use std::sync::Wait;
@@ -55,9 +56,16 @@ pub fn resolve<R: Wait, L: Link, G: Ledger>(
     ensures sealed { IfOk result.result (λ reply. IsSealedFor signer.now.keys reply.text) }
 {
     let mut trace = blank(alloc, t);
-    let result = answer(
-        commons, rt, alloc, pass, &mut trace, signer, request, link, t, steps,
-    );
+    let mut call = Call {
+        commons,
+        rt,
+        alloc,
+        pass,
+        trace: &mut trace,
+        steps,
+    };
+    let result = answer(&mut call, signer, request, link, t);
+    drop(call);
     Outcome { result, trace }
 }
 
@@ -79,70 +87,64 @@ fn blank(alloc: Global, t: u64) -> Trace
 
 // Reads the book and, where it lists the anchor, searches and answers.
 fn answer<R: Wait, L: Link, G: Ledger>(
-    commons: &Commons,
-    rt: &R,
-    alloc: Global,
-    pass: &mut FedPass,
-    trace: &mut Trace,
+    call: &mut Call<'_, R, G>,
     signer: &Signer,
     request: &ResolveRequest,
     link: &mut L,
     t: u64,
-    steps: &mut Steps<G>,
 ) -> Result<Reply, Refusal>
-    requires of { IsPassOfAll commons.now pass.old }
-    requires blank { IsBlank t trace.old }
-    ensures kept { IsKept commons.now pass.old pass.new }
-    ensures resolves { Resolves (situation_of request.now signer.now.age t) signer.now (known pass.old) (known pass.new) (outcome_of result trace.new) }
-    ensures link { UsesLink (L.web link.old) (L.calls link.old) (L.calls link.new) (L.link_faults link.old) (L.link_faults link.new) (outcome_of result trace.new) }
-    ensures walked { GaveAll L.gave link.old link.new trace.new result }
-    ensures counted { CountsTests (situation_of request.now signer.now.age t) signer.now (outcome_of result trace.new) result (G.count steps.old.ledger) (G.count steps.new.ledger) }
+    requires of { HasPass call.old }
+    requires blank { IsBlank t call.old.trace.now }
+    ensures parts { SameParts call.old call.new }
+    ensures kept { IsKept call.old.commons.now call.old.pass.now call.new.pass.now }
+    ensures resolves { Resolves (situation_of request.now signer.now.age t) signer.now (known call.old.pass.now) (known call.new.pass.now) (outcome_of result call.new.trace.now) }
+    ensures link { UsesLink (L.web link.old) (L.calls link.old) (L.calls link.new) (L.link_faults link.old) (L.link_faults link.new) (outcome_of result call.new.trace.now) }
+    ensures walked { GaveAll L.gave link.old link.new call.new.trace.now result }
+    ensures counted { CountsTests (situation_of request.now signer.now.age t) signer.now (outcome_of result call.new.trace.now) result (G.count call.old.steps.now.ledger) (G.count call.new.steps.now.ledger) }
     ensures sealed { IfOk result (λ reply. IsSealedFor signer.now.keys reply.text) }
 {
-    read_book(commons, rt, alloc, pass, trace, &request.anchor)?;
-    take_keys(alloc, trace)?;
-    search(
-        commons, rt, alloc, pass, trace, signer, request, link, t, steps,
-    )
+    read_book(
+        call.commons,
+        call.rt,
+        call.alloc,
+        call.pass,
+        call.trace,
+        &request.anchor,
+    )?;
+    take_keys(call.alloc, call.trace)?;
+    search(call, signer, request, link, t)
 }
 
 // Makes the leaf's rounds, and answers by how the last of them ended.
 fn search<R: Wait, L: Link, G: Ledger>(
-    commons: &Commons,
-    rt: &R,
-    alloc: Global,
-    pass: &mut FedPass,
-    trace: &mut Trace,
+    call: &mut Call<'_, R, G>,
     signer: &Signer,
     request: &ResolveRequest,
     link: &mut L,
     t: u64,
-    steps: &mut Steps<G>,
 ) -> Result<Reply, Refusal>
-    requires of { IsPassOfAll commons.now pass.old }
-    requires begun { IsBegun (situation_of request.now signer.now.age t) trace.old }
-    ensures kept { IsKept commons.now pass.old pass.new }
-    ensures worn { WornOnly (known pass.new) result }
-    ensures goes { GoesBy signer.now.age (moment_at trace.old (known pass.old) (link_seen (L.calls link.old) (L.link_faults link.old) (L.web link.old)))
-        (moment_at trace.new (known pass.new) (link_seen (L.calls link.new) (L.link_faults link.new) (L.web link.new))) result }
-    ensures walked { WalksBy L.gave link.old link.new trace.old trace.new result }
-    ensures whole { WholeBy (situation_of request.now signer.now.age t) signer.now trace.new result }
-    ensures counted { CountsTests (situation_of request.now signer.now.age t) signer.now (outcome_of result trace.new) result (G.count steps.old.ledger) (G.count steps.new.ledger) }
+    requires of { HasPass call.old }
+    requires begun { IsBegun (situation_of request.now signer.now.age t) call.old.trace.now }
+    ensures keeps { KeepsParts call.old call.new }
+    ensures worn { WornOnly (known call.new.pass.now) result }
+    ensures goes { GoesBy signer.now.age (moment_of (link_view L.calls L.link_faults L.web L.gave) call.old link.old)
+        (moment_of (link_view L.calls L.link_faults L.web L.gave) call.new link.new) result }
+    ensures walked { WalksBy L.gave link.old link.new call.old.trace.now call.new.trace.now result }
+    ensures whole { WholeBy (situation_of request.now signer.now.age t) signer.now call.new.trace.now result }
+    ensures counted { CountsTests (situation_of request.now signer.now.age t) signer.now (outcome_of result call.new.trace.now) result (G.count call.old.steps.now.ledger) (G.count call.new.steps.now.ledger) }
     ensures sealed { IfOk result (λ reply. IsSealedFor signer.now.keys reply.text) }
 {
-    let mut aim = aim_at(alloc, &request.sub, &request.anchor, signer.age)?;
-    let ended = rounds_for(commons, rt, alloc, pass, trace, link, steps, &mut aim);
+    let mut aim = aim_at(call.alloc, &request.sub, &request.anchor, signer.age)?;
+    let ended = rounds_for(call, link, &mut aim);
     drop(aim);
     let RoundEnd { end, chain } = ended?;
     match chain {
         Some(chain) => {
             drop(end);
-            let reply = reply_on(
-                commons, rt, alloc, pass, trace, signer, request, link, t, steps, chain,
-            )?;
+            let reply = reply_on(call, signer, request, link, t, chain)?;
             Ok(reply)
         }
-        None => Err(refused_by(end, last_faults(trace.searches.as_slice()))),
+        None => Err(refused_by(end, last_faults(call.trace.searches.as_slice()))),
     }
 }
 

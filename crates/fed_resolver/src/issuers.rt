@@ -1,120 +1,80 @@
 // The rounds for the issuers of the leaf's marks.
 
-ghost use Rattle.std.specs.Prelude.{◌≡◌, [], IfErr, IfOk, IsSome, OnErr, OnOk, Some};
-ghost use Rattle.turn_log.specs.Groups.{known};
+ghost use Rattle.std.specs.Prelude.{◌≡◌, [], IfOk, IsSome, OnOk, Some};
 ghost use Rattle.entity_statement.specs.Claims.{Claims};
 ghost use Rattle.entity_statement.specs.Signed.{statement_of};
-ghost use Rattle.entity_statement.specs.Told.{told};
-ghost use Rattle.statement_shelf.specs.Passes.{IsPassOfAll};
 ghost use Rattle.resolve_reply.specs.Marks.{each_named};
-ghost use Rattle.resolve_round.specs.Told.{IsTrueSoFar, ProvesGood};
-ghost use Rattle.resolve_pages.specs.Acts.{IsHalt, IsKept};
-ghost use Rattle.resolve_pages.specs.Linking.{link_seen};
-ghost use Rattle.resolve_pages.specs.Testing.{CountsChecks};
+ghost use Rattle.resolve_round.specs.Linking.{link_view};
+ghost use Rattle.resolve_round.specs.Told.{ProvesGood};
+ghost use Rattle.resolve_search.specs.Calls.{Acts, Counted};
 ghost use Rattle.fed_resolver.specs.Going.{HasIssuer, HasIssuers, KeepsBy, first_text, usual_aim};
-ghost use Rattle.fed_resolver.specs.Stretches.{Goes, GoesTo, StumbledRounds, WalkedRounds, moment_at};
+ghost use Rattle.fed_resolver.specs.Stretches.{CanGoOn, GoesFor, WalksFor, moment_of};
 
 use crate::rounds::{aim_at, rounds_for};
 use crate::texts::first_statement;
 use chain_check::Tried;
 use entity_id::EntityId;
-use fed_base::{Duplicate, Ledger, Memory, Seq, Steps};
+use fed_base::{Duplicate, Ledger, Memory, Seq};
 use fed_ports::Link;
 use jwk_set::JwkSet;
 use resolve_reply::{Issuer, MarkIssuers};
-use resolve_round::{ResolveRequest, Trace};
-use resolve_search::{Halt, RoundEnd};
-use statement_shelf::{Commons, FedPass};
+use resolve_round::ResolveRequest;
+use resolve_search::{Call, Halt, RoundEnd};
 use std::alloc::Global;
 use std::sync::Wait;
 
 // Makes the rounds for each issuer of the leaf's marks, and keeps those whose chain was found.
 pub(crate) fn search_issuers<R: Wait, L: Link, G: Ledger>(
-    commons: &Commons,
-    rt: &R,
-    alloc: Global,
-    pass: &mut FedPass,
-    trace: &mut Trace,
+    call: &mut Call<'_, R, G>,
     link: &mut L,
-    steps: &mut Steps<G>,
     request: &ResolveRequest,
     age: u64,
     issuers: &mut MarkIssuers,
 ) -> Result<(), Halt>
-    requires of { IsPassOfAll commons.now pass.old }
-    requires told { IsTrueSoFar age trace.old }
-    requires good { ProvesGood trace.old }
+    requires ready { CanGoOn age call.old }
     requires none { issuers.old.found ≡ [] }
-    ensures kept { IsKept commons.now pass.old pass.new }
-    ensures halt { IfErr result (IsHalt (known pass.new)) }
-    ensures ok { OnOk result (Goes age 0 (moment_at trace.old (known pass.old) (link_seen (L.calls link.old) (L.link_faults link.old) (L.web link.old)))
-        (moment_at trace.new (known pass.new) (link_seen (L.calls link.new) (L.link_faults link.new) (L.web link.new)))) }
-    ensures err { IfErr result (GoesTo age (moment_at trace.old (known pass.old) (link_seen (L.calls link.old) (L.link_faults link.old) (L.web link.old)))
-        (moment_at trace.new (known pass.new) (link_seen (L.calls link.new) (L.link_faults link.new) (L.web link.new)))) }
-    ensures walked { OnOk result (WalkedRounds L.gave link.old link.new trace.old trace.new) }
-    ensures stumbled { OnErr result (StumbledRounds L.gave link.old link.new trace.old trace.new) }
-    ensures counted { CountsChecks trace.old.checks trace.new.checks (G.count steps.old.ledger) (G.count steps.new.ledger) }
-    ensures good { OnOk result (ProvesGood trace.new) }
+    ensures acts { Acts call.old call.new result }
+    ensures goes { GoesFor age (moment_of (link_view L.calls L.link_faults L.web L.gave) call.old link.old) (moment_of (link_view L.calls L.link_faults L.web L.gave) call.new link.new) result }
+    ensures walked { WalksFor L.gave link.old link.new call.old.trace.now call.new.trace.now result }
+    ensures counted { Counted G.count call.old call.new }
+    ensures good { OnOk result (ProvesGood call.new.trace.now) }
     ensures by_mark { issuers.new.by_mark ≡ issuers.old.by_mark }
-    ensures issuers { OnOk result (HasIssuers (usual_aim request.now.sub request.now.anchor age) (each_named issuers.old.by_mark) trace.old trace.new issuers.new.found) }
+    ensures issuers { OnOk result (HasIssuers (usual_aim request.now.sub request.now.anchor age) (each_named issuers.old.by_mark)
+        call.old.trace.now call.new.trace.now issuers.new.found) }
 {
-    let searched = issuers.searched(alloc)?;
+    let searched = issuers.searched(call.alloc)?;
     for id in searched.as_slice() {
-        search_issuer(
-            commons,
-            rt,
-            alloc,
-            pass,
-            trace,
-            link,
-            steps,
-            &request.anchor,
-            age,
-            id,
-            &mut issuers.found,
-        )?;
+        search_issuer(call, link, &request.anchor, age, id, &mut issuers.found)?;
     }
     Ok(())
 }
 
 // Makes the rounds for an issuer, and keeps it where they found a chain.
 fn search_issuer<R: Wait, L: Link, G: Ledger>(
-    commons: &Commons,
-    rt: &R,
-    alloc: Global,
-    pass: &mut FedPass,
-    trace: &mut Trace,
+    call: &mut Call<'_, R, G>,
     link: &mut L,
-    steps: &mut Steps<G>,
     anchor: &EntityId,
     age: u64,
     id: &EntityId,
     found: &mut Seq<Issuer>,
 ) -> Result<(), Halt>
-    requires of { IsPassOfAll commons.now pass.old }
-    requires told { IsTrueSoFar age trace.old }
-    requires good { ProvesGood trace.old }
-    ensures kept { IsKept commons.now pass.old pass.new }
-    ensures halt { IfErr result (IsHalt (known pass.new)) }
-    ensures ok { OnOk result (Goes age 0 (moment_at trace.old (known pass.old) (link_seen (L.calls link.old) (L.link_faults link.old) (L.web link.old)))
-        (moment_at trace.new (known pass.new) (link_seen (L.calls link.new) (L.link_faults link.new) (L.web link.new)))) }
-    ensures err { IfErr result (GoesTo age (moment_at trace.old (known pass.old) (link_seen (L.calls link.old) (L.link_faults link.old) (L.web link.old)))
-        (moment_at trace.new (known pass.new) (link_seen (L.calls link.new) (L.link_faults link.new) (L.web link.new)))) }
-    ensures walked { OnOk result (WalkedRounds L.gave link.old link.new trace.old trace.new) }
-    ensures stumbled { OnErr result (StumbledRounds L.gave link.old link.new trace.old trace.new) }
-    ensures counted { CountsChecks trace.old.checks trace.new.checks (G.count steps.old.ledger) (G.count steps.new.ledger) }
-    ensures good { OnOk result (ProvesGood trace.new) }
-    ensures issuer { OnOk result (HasIssuer (usual_aim id.now anchor.now age) trace.old trace.new found.old found.new) }
+    requires ready { CanGoOn age call.old }
+    ensures acts { Acts call.old call.new result }
+    ensures goes { GoesFor age (moment_of (link_view L.calls L.link_faults L.web L.gave) call.old link.old) (moment_of (link_view L.calls L.link_faults L.web L.gave) call.new link.new) result }
+    ensures walked { WalksFor L.gave link.old link.new call.old.trace.now call.new.trace.now result }
+    ensures counted { Counted G.count call.old call.new }
+    ensures good { OnOk result (ProvesGood call.new.trace.now) }
+    ensures issuer { OnOk result (HasIssuer (usual_aim id.now anchor.now age) call.old.trace.now call.new.trace.now found.old found.new) }
 {
-    let mut aim = aim_at(alloc, id, anchor, age)?;
-    let ended = rounds_for(commons, rt, alloc, pass, trace, link, steps, &mut aim);
+    let mut aim = aim_at(call.alloc, id, anchor, age)?;
+    let ended = rounds_for(call, link, &mut aim);
     drop(aim);
     let RoundEnd { end, chain } = ended?;
     drop(end);
     let Some(chain) = chain else {
         return Ok(());
     };
-    let kept = keep_issuer(alloc, id, chain.texts.as_slice(), found);
+    let kept = keep_issuer(call.alloc, id, chain.texts.as_slice(), found);
     drop(chain);
     Ok(kept?)
 }

@@ -1,22 +1,19 @@
 // The reply on a chain that was found.
 
-ghost use Rattle.std.specs.Prelude.{◌≡◌, ℕ, length, IfErr, IfOk, MatchResult, OnErr, OnOk, Ok};
-ghost use Rattle.turn_log.specs.Groups.{known};
+ghost use Rattle.std.specs.Prelude.{◌≡◌, ℕ, length, IfOk, MatchResult, OnOk, Ok};
 ghost use Rattle.entity_statement.specs.Told.{told};
 ghost use Rattle.sealed.specs.Sealing.{IsSealedFor};
-ghost use Rattle.statement_shelf.specs.Passes.{IsPassOfAll};
 ghost use Rattle.resolve_reply.specs.Marks.{issuers_by_mark, judging_by, looked_at, tests_of_marks};
-ghost use Rattle.resolve_round.specs.Told.{IsTrueSoFar, ProvesGood};
-ghost use Rattle.resolve_pages.specs.Acts.{IsHalt, IsKept};
-ghost use Rattle.resolve_pages.specs.Linking.{link_seen};
-ghost use Rattle.resolve_pages.specs.Testing.{CountsChecks};
+ghost use Rattle.resolve_round.specs.Linking.{link_view};
+ghost use Rattle.resolve_round.specs.Told.{ProvesGood};
+ghost use Rattle.resolve_search.specs.Calls.{Acts, Counted};
 ghost use Rattle.trust_mark.specs.Counts.{CountsAtMost, counted};
 ghost use Rattle.fed_json.specs.Forms.{IsWhole as IsWholeTree};
 ghost use Rattle.fed_resolver.specs.Going.{AreEnds, HasLeaf, usual_aim};
 ghost use Rattle.fed_resolver.specs.Outcomes.{IsWhole};
 ghost use Rattle.fed_resolver.specs.Refusals.{outcome_of};
 ghost use Rattle.fed_resolver.specs.Replying.{CanSay, IsMarked, IsSearched, said_on};
-ghost use Rattle.fed_resolver.specs.Stretches.{Goes, GoesTo, StumbledRounds, WalkedRounds, moment_at};
+ghost use Rattle.fed_resolver.specs.Stretches.{CanGoOn, GoesFor, WalksFor, moment_of};
 ghost use Rattle.fed_resolver.specs.Told.{situation_of};
 ghost use Rattle.fed_resolver.specs.Uses.{CountsAll, CountsSome};
 
@@ -27,105 +24,68 @@ use entity_statement::Statement;
 use fed_base::{Duplicate, Ledger, Memory, Seq, Steps};
 use fed_ports::Link;
 use resolve_reply::{GoodMarks, MarkIssuers, Reply, Said, Signer, cut_to, good_marks, seal_reply};
-use resolve_round::{ResolveRequest, Trace};
-use resolve_search::{FoundChain, Halt};
-use statement_shelf::{Commons, FedPass};
+use resolve_round::ResolveRequest;
+use resolve_search::{Call, FoundChain, Halt};
 use std::alloc::Global;
 use std::sync::Wait;
 
 // Searches the issuers of the leaf's marks, looks which of these are good, and seals the reply.
 pub(crate) fn reply_on<R: Wait, L: Link, G: Ledger>(
-    commons: &Commons,
-    rt: &R,
-    alloc: Global,
-    pass: &mut FedPass,
-    trace: &mut Trace,
+    call: &mut Call<'_, R, G>,
     signer: &Signer,
     request: &ResolveRequest,
     link: &mut L,
     t: u64,
-    steps: &mut Steps<G>,
     chain: FoundChain,
 ) -> Result<Reply, Halt>
-    requires of { IsPassOfAll commons.now pass.old }
-    requires told { IsTrueSoFar signer.now.age trace.old }
-    requires good { ProvesGood trace.old }
-    requires leaf { HasLeaf (situation_of request.now signer.now.age t) trace.old chain }
-    ensures kept { IsKept commons.now pass.old pass.new }
-    ensures halt { IfErr result (IsHalt (known pass.new)) }
-    ensures ok { OnOk result (Goes signer.now.age 0 (moment_at trace.old (known pass.old) (link_seen (L.calls link.old) (L.link_faults link.old) (L.web link.old)))
-        (moment_at trace.new (known pass.new) (link_seen (L.calls link.new) (L.link_faults link.new) (L.web link.new)))) }
-    ensures err { IfErr result (GoesTo signer.now.age (moment_at trace.old (known pass.old) (link_seen (L.calls link.old) (L.link_faults link.old) (L.web link.old)))
-        (moment_at trace.new (known pass.new) (link_seen (L.calls link.new) (L.link_faults link.new) (L.web link.new)))) }
-    ensures walked { OnOk result (WalkedRounds L.gave link.old link.new trace.old trace.new) }
-    ensures stumbled { OnErr result (StumbledRounds L.gave link.old link.new trace.old trace.new) }
-    ensures whole { IfOk result (λ reply. IsWhole (situation_of request.now signer.now.age t) signer.now (outcome_of (Ok reply) trace.new)) }
-    ensures counted { (before : ℕ) → G.count steps.old.ledger ≡ counted (length trace.old.checks) before
-        → MatchResult result (λ reply. CountsAll (situation_of request.now signer.now.age t) signer.now (outcome_of (Ok reply) trace.new) before (G.count steps.new.ledger))
-        (λ _. CountsSome trace.new before (G.count steps.new.ledger)) }
+    requires ready { CanGoOn signer.now.age call.old }
+    requires leaf { HasLeaf (situation_of request.now signer.now.age t) call.old.trace.now chain }
+    ensures acts { Acts call.old call.new result }
+    ensures goes { GoesFor signer.now.age (moment_of (link_view L.calls L.link_faults L.web L.gave) call.old link.old) (moment_of (link_view L.calls L.link_faults L.web L.gave) call.new link.new) result }
+    ensures walked { WalksFor L.gave link.old link.new call.old.trace.now call.new.trace.now result }
+    ensures whole { IfOk result (λ reply. IsWhole (situation_of request.now signer.now.age t) signer.now (outcome_of (Ok reply) call.new.trace.now)) }
+    ensures counted { (before : ℕ) → G.count call.old.steps.now.ledger ≡ counted (length call.old.trace.now.checks) before
+        → MatchResult result
+        (λ reply. CountsAll (situation_of request.now signer.now.age t) signer.now (outcome_of (Ok reply) call.new.trace.now) before (G.count call.new.steps.now.ledger))
+        (λ _. CountsSome call.new.trace.now before (G.count call.new.steps.now.ledger)) }
     ensures sealed { IfOk result (λ reply. IsSealedFor signer.now.keys reply.text) }
 {
-    let ends = read_ends(alloc, chain.texts.as_slice())?;
-    let reply = reply_by(
-        commons, rt, alloc, pass, trace, signer, request, link, t, steps, chain, &ends,
-    );
+    let ends = read_ends(call.alloc, chain.texts.as_slice())?;
+    let reply = reply_by(call, signer, request, link, t, chain, &ends);
     drop(ends);
     reply
 }
 
 // The same by the statements at the ends of the chain.
 fn reply_by<R: Wait, L: Link, G: Ledger>(
-    commons: &Commons,
-    rt: &R,
-    alloc: Global,
-    pass: &mut FedPass,
-    trace: &mut Trace,
+    call: &mut Call<'_, R, G>,
     signer: &Signer,
     request: &ResolveRequest,
     link: &mut L,
     t: u64,
-    steps: &mut Steps<G>,
     chain: FoundChain,
     ends: &Ends,
 ) -> Result<Reply, Halt>
-    requires of { IsPassOfAll commons.now pass.old }
-    requires told { IsTrueSoFar signer.now.age trace.old }
-    requires good { ProvesGood trace.old }
+    requires ready { CanGoOn signer.now.age call.old }
     requires ends { AreEnds chain.texts ends.now }
-    requires leaf { HasLeaf (situation_of request.now signer.now.age t) trace.old chain }
-    ensures kept { IsKept commons.now pass.old pass.new }
-    ensures halt { IfErr result (IsHalt (known pass.new)) }
-    ensures ok { OnOk result (Goes signer.now.age 0 (moment_at trace.old (known pass.old) (link_seen (L.calls link.old) (L.link_faults link.old) (L.web link.old)))
-        (moment_at trace.new (known pass.new) (link_seen (L.calls link.new) (L.link_faults link.new) (L.web link.new)))) }
-    ensures err { IfErr result (GoesTo signer.now.age (moment_at trace.old (known pass.old) (link_seen (L.calls link.old) (L.link_faults link.old) (L.web link.old)))
-        (moment_at trace.new (known pass.new) (link_seen (L.calls link.new) (L.link_faults link.new) (L.web link.new)))) }
-    ensures walked { OnOk result (WalkedRounds L.gave link.old link.new trace.old trace.new) }
-    ensures stumbled { OnErr result (StumbledRounds L.gave link.old link.new trace.old trace.new) }
-    ensures whole { IfOk result (λ reply. IsWhole (situation_of request.now signer.now.age t) signer.now (outcome_of (Ok reply) trace.new)) }
-    ensures counted { (before : ℕ) → G.count steps.old.ledger ≡ counted (length trace.old.checks) before
-        → MatchResult result (λ reply. CountsAll (situation_of request.now signer.now.age t) signer.now (outcome_of (Ok reply) trace.new) before (G.count steps.new.ledger))
-        (λ _. CountsSome trace.new before (G.count steps.new.ledger)) }
+    requires leaf { HasLeaf (situation_of request.now signer.now.age t) call.old.trace.now chain }
+    ensures acts { Acts call.old call.new result }
+    ensures goes { GoesFor signer.now.age (moment_of (link_view L.calls L.link_faults L.web L.gave) call.old link.old) (moment_of (link_view L.calls L.link_faults L.web L.gave) call.new link.new) result }
+    ensures walked { WalksFor L.gave link.old link.new call.old.trace.now call.new.trace.now result }
+    ensures whole { IfOk result (λ reply. IsWhole (situation_of request.now signer.now.age t) signer.now (outcome_of (Ok reply) call.new.trace.now)) }
+    ensures counted { (before : ℕ) → G.count call.old.steps.now.ledger ≡ counted (length call.old.trace.now.checks) before
+        → MatchResult result
+        (λ reply. CountsAll (situation_of request.now signer.now.age t) signer.now (outcome_of (Ok reply) call.new.trace.now) before (G.count call.new.steps.now.ledger))
+        (λ _. CountsSome call.new.trace.now before (G.count call.new.steps.now.ledger)) }
     ensures sealed { IfOk result (λ reply. IsSealedFor signer.now.keys reply.text) }
 {
-    let issuers = found_issuers(
-        commons,
-        rt,
-        alloc,
-        pass,
-        trace,
-        signer,
-        request,
-        link,
-        steps,
-        &ends.leaf,
-        &ends.anchor,
-    )?;
+    let issuers = found_issuers(call, signer, request, link, &ends.leaf, &ends.anchor)?;
     let reply = sealed_reply(
-        alloc,
+        call.alloc,
         signer,
         request,
         t,
-        steps,
+        call.steps,
         chain,
         &ends.leaf,
         &ends.anchor,
@@ -136,46 +96,24 @@ fn reply_by<R: Wait, L: Link, G: Ledger>(
 
 // The issuers of the leaf's marks, of whom those whose chain was found are kept.
 fn found_issuers<R: Wait, L: Link, G: Ledger>(
-    commons: &Commons,
-    rt: &R,
-    alloc: Global,
-    pass: &mut FedPass,
-    trace: &mut Trace,
+    call: &mut Call<'_, R, G>,
     signer: &Signer,
     request: &ResolveRequest,
     link: &mut L,
-    steps: &mut Steps<G>,
     leaf: &Statement,
     anchor: &Statement,
 ) -> Result<MarkIssuers, Halt>
-    requires of { IsPassOfAll commons.now pass.old }
-    requires told { IsTrueSoFar signer.now.age trace.old }
-    requires good { ProvesGood trace.old }
-    ensures kept { IsKept commons.now pass.old pass.new }
-    ensures halt { IfErr result (IsHalt (known pass.new)) }
-    ensures ok { OnOk result (Goes signer.now.age 0 (moment_at trace.old (known pass.old) (link_seen (L.calls link.old) (L.link_faults link.old) (L.web link.old)))
-        (moment_at trace.new (known pass.new) (link_seen (L.calls link.new) (L.link_faults link.new) (L.web link.new)))) }
-    ensures err { IfErr result (GoesTo signer.now.age (moment_at trace.old (known pass.old) (link_seen (L.calls link.old) (L.link_faults link.old) (L.web link.old)))
-        (moment_at trace.new (known pass.new) (link_seen (L.calls link.new) (L.link_faults link.new) (L.web link.new)))) }
-    ensures walked { OnOk result (WalkedRounds L.gave link.old link.new trace.old trace.new) }
-    ensures stumbled { OnErr result (StumbledRounds L.gave link.old link.new trace.old trace.new) }
-    ensures counted { CountsChecks trace.old.checks trace.new.checks (G.count steps.old.ledger) (G.count steps.new.ledger) }
-    ensures good { OnOk result (ProvesGood trace.new) }
-    ensures issuers { IfOk result (IsSearched (usual_aim request.now.sub request.now.anchor signer.now.age) (told leaf.now) (told anchor.now) trace.old trace.new) }
+    requires ready { CanGoOn signer.now.age call.old }
+    ensures acts { Acts call.old call.new result }
+    ensures goes { GoesFor signer.now.age (moment_of (link_view L.calls L.link_faults L.web L.gave) call.old link.old) (moment_of (link_view L.calls L.link_faults L.web L.gave) call.new link.new) result }
+    ensures walked { WalksFor L.gave link.old link.new call.old.trace.now call.new.trace.now result }
+    ensures counted { Counted G.count call.old call.new }
+    ensures good { OnOk result (ProvesGood call.new.trace.now) }
+    ensures issuers { IfOk result (IsSearched (usual_aim request.now.sub request.now.anchor signer.now.age) (told leaf.now) (told anchor.now)
+        call.old.trace.now call.new.trace.now) }
 {
-    let mut issuers = MarkIssuers::of(alloc, leaf, anchor)?;
-    search_issuers(
-        commons,
-        rt,
-        alloc,
-        pass,
-        trace,
-        link,
-        steps,
-        request,
-        signer.age,
-        &mut issuers,
-    )?;
+    let mut issuers = MarkIssuers::of(call.alloc, leaf, anchor)?;
+    search_issuers(call, link, request, signer.age, &mut issuers)?;
     Ok(issuers)
 }
 

@@ -1,22 +1,18 @@
 // The rounds for one entity.
 
-ghost use Rattle.std.specs.Prelude.{◌≡◌, true, IfErr, IfOk, OnErr, OnOk};
-ghost use Rattle.turn_log.specs.Groups.{known};
-ghost use Rattle.statement_shelf.specs.Passes.{IsPassOfAll};
-ghost use Rattle.resolve_round.specs.Told.{IsTrueSoFar, ProvesGood};
-ghost use Rattle.resolve_pages.specs.Acts.{IsHalt, IsKept};
-ghost use Rattle.resolve_pages.specs.Linking.{link_seen};
-ghost use Rattle.resolve_pages.specs.Testing.{CountsChecks};
+ghost use Rattle.std.specs.Prelude.{◌≡◌, true, IfOk, OnOk};
+ghost use Rattle.resolve_round.specs.Linking.{link_view};
+ghost use Rattle.resolve_round.specs.Told.{ProvesGood};
+ghost use Rattle.resolve_search.specs.Calls.{Acts, Counted};
 ghost use Rattle.fed_resolver.specs.Going.{HasRounds, faults_in, hits_in, is_settled, last_search, usual_aim};
-ghost use Rattle.fed_resolver.specs.Stretches.{Goes, GoesTo, StumbledRounds, WalkedRounds, moment_at};
+ghost use Rattle.fed_resolver.specs.Stretches.{CanGoOn, GoesFor, WalksFor, moment_of};
 
 use chain_climb::Bounds;
 use entity_id::EntityId;
-use fed_base::{Duplicate, Ledger, Memory, Steps};
+use fed_base::{Duplicate, Ledger, Memory};
 use fed_ports::Link;
-use resolve_round::{Search, Trace};
-use resolve_search::{Aim, Halt, RoundEnd, search_round};
-use statement_shelf::{Commons, FedPass};
+use resolve_round::Search;
+use resolve_search::{Aim, Call, Halt, RoundEnd, search_round};
 use std::alloc::Global;
 use std::sync::Wait;
 
@@ -46,38 +42,26 @@ pub(crate) fn aim_at(
 
 // Makes the rounds for an entity: one that looks into the cache first and, where that found no chain and had a hit, one that doesn't.
 pub(crate) fn rounds_for<R: Wait, L: Link, G: Ledger>(
-    commons: &Commons,
-    rt: &R,
-    alloc: Global,
-    pass: &mut FedPass,
-    trace: &mut Trace,
+    call: &mut Call<'_, R, G>,
     link: &mut L,
-    steps: &mut Steps<G>,
     aim: &mut Aim,
 ) -> Result<RoundEnd, Halt>
-    requires of { IsPassOfAll commons.now pass.old }
-    requires told { IsTrueSoFar aim.old.age trace.old }
-    requires good { ProvesGood trace.old }
+    requires ready { CanGoOn aim.old.age call.old }
     requires looks { aim.old.looks ≡ true }
-    ensures kept { IsKept commons.now pass.old pass.new }
-    ensures halt { IfErr result (IsHalt (known pass.new)) }
-    ensures ok { OnOk result (Goes aim.old.age 0 (moment_at trace.old (known pass.old) (link_seen (L.calls link.old) (L.link_faults link.old) (L.web link.old)))
-        (moment_at trace.new (known pass.new) (link_seen (L.calls link.new) (L.link_faults link.new) (L.web link.new)))) }
-    ensures err { IfErr result (GoesTo aim.old.age (moment_at trace.old (known pass.old) (link_seen (L.calls link.old) (L.link_faults link.old) (L.web link.old)))
-        (moment_at trace.new (known pass.new) (link_seen (L.calls link.new) (L.link_faults link.new) (L.web link.new)))) }
-    ensures walked { OnOk result (WalkedRounds L.gave link.old link.new trace.old trace.new) }
-    ensures stumbled { OnErr result (StumbledRounds L.gave link.old link.new trace.old trace.new) }
-    ensures counted { CountsChecks trace.old.checks trace.new.checks (G.count steps.old.ledger) (G.count steps.new.ledger) }
-    ensures good { OnOk result (ProvesGood trace.new) }
-    ensures rounds { IfOk result (HasRounds aim.old trace.old trace.new) }
+    ensures acts { Acts call.old call.new result }
+    ensures goes { GoesFor aim.old.age (moment_of (link_view L.calls L.link_faults L.web L.gave) call.old link.old) (moment_of (link_view L.calls L.link_faults L.web L.gave) call.new link.new) result }
+    ensures walked { WalksFor L.gave link.old link.new call.old.trace.now call.new.trace.now result }
+    ensures counted { Counted G.count call.old call.new }
+    ensures good { OnOk result (ProvesGood call.new.trace.now) }
+    ensures rounds { IfOk result (HasRounds aim.old call.old.trace.now call.new.trace.now) }
 {
-    let first = search_round(commons, rt, alloc, pass, trace, link, steps, aim)?;
-    if is_settled(&first, trace.searches.as_slice()) {
+    let first = search_round(call, link, aim)?;
+    if is_settled(&first, call.trace.searches.as_slice()) {
         return Ok(first);
     }
     drop(first);
     aim.looks = false;
-    search_round(commons, rt, alloc, pass, trace, link, steps, aim)
+    search_round(call, link, aim)
 }
 
 // Whether no second round follows: a chain was found, or no text came from the cache.

@@ -11,7 +11,8 @@ use Rattle.statement_shelf.specs.declared.calls.BookReply.{BookReply}
 use Rattle.fed_serve.specs.Moments.{PeerAt}
 use Rattle.node_service.specs.declared.service.ServiceEnd.{ServiceEnd}
 use Rattle.node_service.specs.declared.service.ServiceEnd.TheVariants as ends
-use Rattle.node_service.specs.Ends.{At, Ends, Order}
+use Rattle.node_service.specs.Ends.{At, Ends}
+use Rattle.node_files.specs.Orders.{Order}
 use Rattle.std.specs.Prelude.{List, None, Option}
 use Rattle.resolver_service.specs.Batches.{ServiceViews}
 use Rattle.fed_words.specs.declared.service.Service.{Service}

@@ -1,9 +1,9 @@
 -- What is told of a call, and the pass that is held then.
 use Rattle.std.proofs.Common.{◌≡◌, ◌≢◌, ◌≤◌, ◌<◌, ◌⊎◌, ℕ, List, [], Option, Some, None, Result, Ok, Err, IfSome, refl, subst, sym, inl, inr, arith, lit<}
 use Rattle.fed_serve.specs.Moments.{PeerAt}
-use Rattle.node_service.specs.Ends.{Order}
-use Rattle.node_service.specs.declared.node_files.NodeFault.{NodeFault}
-use Rattle.node_service.specs.declared.node_files.NodeFault.TheVariants as fault
+use Rattle.node_files.specs.Orders.{Order}
+use Rattle.node_files.specs.declared.fault.NodeFault.{NodeFault}
+use Rattle.node_files.specs.declared.fault.NodeFault.TheVariants as fault
 use Rattle.turn_log.specs.declared.pass.PassSeat.{PassSeat}
 use Rattle.turn_log.specs.declared.group.Group.{Group}
 use Rattle.statement_shelf.specs.Book.{Book}
@@ -15,7 +15,7 @@ use Rattle.statement_shelf.specs.declared.calls.BookReply.{BookReply}
 use Rattle.resolve_reply.specs.declared.reply.Reply.{Reply}
 use Rattle.fed_resolver.specs.declared.outcome.Refusal.{Refusal}
 use Rattle.fed_resolver.specs.declared.outcome.Refusal.TheVariants.{NoAnchor, NotFound, PolicyOnly, NoChain, Unavailable, Budget, Worn, Memory}
-use Rattle.resolve_once.specs.Calls.{HoldsWorn, Question}
+use Rattle.resolver_service.specs.Calls.{HoldsWorn, Question}
 use Rattle.resolver_service.specs.Batches.{ServiceViews}
 use Rattle.fed_words.specs.declared.service.Service.{Service}
 use Rattle.fed_words.specs.declared.service.Service.TheVariants.{Authority, Rehearse, Resolve, Resolver}

@@ -8,7 +8,7 @@ use Rattle.statement_shelf.specs.declared.calls.ShelfCall.{ShelfCall}
 use Rattle.statement_shelf.specs.declared.calls.ShelfReply.{ShelfReply}
 use Rattle.statement_shelf.specs.declared.calls.BookCall.{BookCall}
 use Rattle.statement_shelf.specs.declared.calls.BookReply.{BookReply}
-use Rattle.node_service.specs.Ends.{Order}
+use Rattle.node_files.specs.Orders.{Order}
 use Rattle.resolver_service.specs.declared.ending.ResolverEnd.{ResolverEnd}
 use Rattle.resolver_service.specs.declared.ending.ResolverEnd.TheVariants as ends
 use Rattle.resolver_service.specs.Batches.{ServiceViews}

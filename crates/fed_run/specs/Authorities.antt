@@ -6,8 +6,9 @@ use Rattle.authority_core.specs.Nodes.{Node}
 use Rattle.fed_commands.specs.Answers.{Tells}
 pub use Rattle.fed_inspect.specs.Outputs.{WritesLine}
 use Rattle.fed_serve.specs.Moments.{PeerAt}
-use Rattle.node_service.specs.Ends.{At, HasDropped, HasFailed, HasServed, Order}
-use Rattle.node_service.specs.NodeFiles.{IsAuthorityAlone, IsNodeOf}
+use Rattle.node_service.specs.Ends.{At, HasDropped, HasFailed, HasServed}
+use Rattle.node_files.specs.Orders.{Order}
+use Rattle.node_files.specs.NodeFiles.{IsAuthorityAlone, IsNodeOf}
 
 -- the output, where it is told, and how often it failed; the files, the network and the clock; and the exchanges of the network, where
 -- these are told
@@ -31,7 +32,7 @@ input_line = codes "input" ++ 10 ∷ []
 -- no file is that of a node that is an authority alone, where the files are told, and nobody was served
 pub record HasNoNode {P : Type 0} (order : Order) (before now : At P) : Type 0 where
   pub none : (node : Node) → IsNodeOf before.files order.config node → IsAuthorityAlone node → before.files ≡ None
-  pub unserved : now.service ≡ before.service
+  pub unserved : now.around.service ≡ before.around.service
 
 -- one field for each status
 pub record RunsAuthority {P : Type 0} (at : P → PeerAt) (order : Order) (before now : Outside P) (status : ℕ) : Type 0 where
@@ -45,11 +46,11 @@ pub record RunsAuthority {P : Type 0} (at : P → PeerAt) (order : Order) (befor
   -- each of these comes only where the count of faults rose, and always where it grew
   pub sink : Tells 4 before.write_faults now.write_faults status
   pub store : Tells 6 before.node.store_faults now.node.store_faults status
-  pub network : Tells 7 before.node.network_faults now.node.network_faults status
+  pub network : Tells 7 before.node.around.faults now.node.around.faults status
   -- who was served before one of these, and before memory was wanting
-  pub unread : status ≡ 6 → now.node.service ≡ before.node.service
+  pub unread : status ≡ 6 → now.node.around.service ≡ before.node.around.service
   pub failed : status ≡ 7 → HasFailed at order before.node now.node
-  pub dropped : status ≡ 5 → (now.node.service ≡ before.node.service) ⊎ HasDropped at order before.node now.node
+  pub dropped : status ≡ 5 → (now.node.around.service ≡ before.node.around.service) ⊎ HasDropped at order before.node now.node
   -- after these and want of memory nothing is written
   pub silent : (status ≡ 5) ⊎ ((status ≡ 6) ⊎ (status ≡ 7)) → now.held ≡ before.held
   -- no connection is opened

@@ -1,5 +1,7 @@
 pub mod Authorities
 pub mod Commands
+pub mod Orders
+pub mod Ports
 pub mod Rehearsals
 pub mod Resolvers
 pub mod Resolving

@@ -11,13 +11,14 @@ use Rattle.statement_shelf.specs.declared.calls.ShelfReply.{ShelfReply}
 use Rattle.statement_shelf.specs.declared.calls.BookCall.{BookCall}
 use Rattle.statement_shelf.specs.declared.calls.BookReply.{BookReply}
 use Rattle.statement_shelf.specs.Passes.{CommonsKnown}
-use Rattle.resolve_pages.specs.Acts.{HasCounted}
+use Rattle.resolve_round.specs.Acts.{HasCounted}
 use Rattle.fed_serve.specs.Desks.{network_at}
-use Rattle.node_service.specs.Ends.{Order}
+use Rattle.node_files.specs.Orders.{Order}
 use Rattle.resolver_service.specs.declared.ending.ResolverEnd.{ResolverEnd}
 use Rattle.resolver_service.specs.declared.ending.ResolverEnd.TheVariants as ends
 use Rattle.resolver_service.specs.Batches.{ServiceViews}
-use Rattle.resolver_service.specs.Ends.{At, Ends, around, at_moment}
+use Rattle.resolver_service.specs.Ends.{At, Ends, around}
+use Rattle.node_files.specs.Moments.{at_moment}
 use Rattle.fed_run.specs.Authorities.{Outside, input_line, served_line}
 use Rattle.fed_run.specs.Resolving.{IsSilent, Writes, Written, written_in}
 
@@ -25,7 +26,7 @@ use Rattle.fed_run.specs.Resolving.{IsSilent, Writes, Written, written_in}
 abbrev pub seen_by_resolver : {P : Type 0} → Outside P → At P
 seen_by_resolver o =
     at_moment o.node.files o.node.store_faults
-    (around (network_at o.node.service.port o.exchanges o.node.service.callers o.node.service.settled o.node.network_faults) o.node.service.clock)
+    (around (network_at o.node.around.service.port o.exchanges o.node.around.service.callers o.node.around.service.settled o.node.around.faults) o.node.around.service.clock)
 
 -- what is written, and the status, by how it ended
 abbrev pub IsEndTold : ℕ → ResolverEnd → Written → Written → ℕ → Type 0

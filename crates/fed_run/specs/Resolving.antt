@@ -5,9 +5,9 @@ use Rattle.resolve_reply.specs.declared.reply.Reply.{Reply}
 use Rattle.fed_resolver.specs.declared.outcome.Outcome.{Outcome}
 use Rattle.fed_resolver.specs.declared.outcome.Refusal.{Refusal}
 use Rattle.fed_resolver.specs.declared.outcome.Refusal.TheVariants.{NoAnchor, NotFound, PolicyOnly, NoChain, Unavailable, Budget, Worn, Memory}
-use Rattle.resolver_answers.specs.Responses.{refusal}
-use Rattle.node_service.specs.declared.node_files.NodeFault.{NodeFault}
-use Rattle.node_service.specs.declared.node_files.NodeFault.TheVariants as fault
+use Rattle.fed_serve.specs.ResolverResponses.{refusal}
+use Rattle.node_files.specs.declared.fault.NodeFault.{NodeFault}
+use Rattle.node_files.specs.declared.fault.NodeFault.TheVariants as fault
 use Rattle.turn_log.specs.Runs.{call_limit}
 use Rattle.turn_log.specs.Groups.{known}
 use Rattle.turn_log.specs.declared.pass.PassSeat.{PassSeat}
@@ -18,8 +18,9 @@ use Rattle.statement_shelf.specs.declared.calls.ShelfCall.{ShelfCall}
 use Rattle.statement_shelf.specs.declared.calls.ShelfReply.{ShelfReply}
 use Rattle.statement_shelf.specs.declared.calls.BookCall.{BookCall}
 use Rattle.statement_shelf.specs.declared.calls.BookReply.{BookReply}
-use Rattle.resolve_pages.specs.Acts.{HasCounted}
-use Rattle.resolve_once.specs.Calls.{At, Question, ResolvesOnce, around, at_moment}
+use Rattle.resolve_round.specs.Acts.{HasCounted}
+use Rattle.resolver_service.specs.Calls.{At, Question, ResolvesOnce, around}
+use Rattle.node_files.specs.Moments.{at_moment}
 use Rattle.fed_run.specs.Authorities.{Outside, WritesLine, input_line}
 
 -- a text on a line
@@ -68,14 +69,14 @@ IsTold (Err fault.Memory) before now status = IsSilent 5 before now status
 
 -- the outside as one call of a node sees it
 abbrev pub seen_by_call : {P : Type 0} → Outside P → At
-seen_by_call o = at_moment o.node.files o.node.store_faults (around o.node.service.clock o.exchanges o.node.network_faults)
+seen_by_call o = at_moment o.node.files o.node.store_faults (around o.node.around.service.clock o.exchanges o.node.around.faults)
 
 abbrev pub written_in : {P : Type 0} → Outside P → Written
 written_in o = record { held = o.held; faults = o.write_faults }
 
 -- the network as others reach it
 abbrev pub listening_in : {P : Type 0} → Outside P → Listening P
-listening_in o = listening o.node.service.port o.node.service.callers o.node.service.settled
+listening_in o = listening o.node.around.service.port o.node.around.service.callers o.node.around.service.settled
 
 -- one call of the node was made, or there is no such node, and its result is written and told by the status; the network listens as before,
 -- and nobody was accepted or settled

@@ -1,11 +1,11 @@
 // Serving as an authority: its line, and its status.
 
 ghost use Rattle.std.specs.Prelude.{◌≡◌, IfOk};
-ghost use Rattle.fed_serve.specs.Moments.{clock_at, peer_at};
-ghost use Rattle.fed_run.specs.Authorities.{RunsAuthority, outside, served_line};
-ghost use Rattle.node_service.specs.Connections.{service_at};
-ghost use Rattle.node_service.specs.Ends.{at_moment};
+ghost use Rattle.fed_run.specs.Authorities.{RunsAuthority, served_line};
+ghost use Rattle.fed_run.specs.Orders.{order_of};
+ghost use Rattle.fed_run.specs.Ports.{node_views, peer_seen, ports_found, ports_left};
 
+use crate::ports::{Order, Ports};
 use fed_inspect::write_line;
 use fed_ports::{Clock, Memory, Network, Sink, Store, Text};
 use node_service::{ServiceEnd, serve_authority};
@@ -25,39 +25,34 @@ pub(crate) fn served_line(alloc: Global, connections: u64) -> Result<Text, Memor
 }
 
 /// Serves as the authority of the configuration file, and gives the exit status.
-pub(crate) fn serve<R: Wait, K: Sink, D: Store, N: Network + Drop, C: Clock>(
+pub(crate) fn serve<R: Wait, S, K: Sink, D: Store, N: Network + Drop, C: Clock>(
     rt: &R,
     alloc: Global,
-    config: &Text,
-    port: u16,
-    connections: u64,
-    out: &mut K,
-    store: &mut D,
-    net: &mut N,
-    clock: &mut C,
+    order: Order<'_>,
+    ports: Ports<'_, S, K, D, N, C>,
     notes: &mut Notes,
 ) -> u8
-    ensures runs { RunsAuthority
-        (λ peer. peer_at (N.Peer.left peer) (N.Peer.held peer) (N.Peer.read_faults peer) (N.Peer.write_faults peer))
-        (record { config = config.now; post = record { port = port; connections = connections } })
-        (outside (K.held out.old) (K.write_faults out.old) (at_moment (D.files store.old)
-        (service_at (N.port net.old) (N.callers net.old) (N.settled net.old) (clock_at (C.readings clock.old) (C.last clock.old) (C.told clock.old)))
-        (D.store_faults store.old) (N.faults net.old)) (N.exchanges net.old))
-        (outside (K.held out.new) (K.write_faults out.new) (at_moment (D.files store.new)
-        (service_at (N.port net.new) (N.callers net.new) (N.settled net.new) (clock_at (C.readings clock.new) (C.last clock.new) (C.told clock.new)))
-        (D.store_faults store.new) (N.faults net.new)) (N.exchanges net.new))
-        result }
+    ensures input { ports.exit.0.now ≡ ports.entry.input.now }
+    ensures runs { RunsAuthority (peer_seen N.Peer.Source N.Peer.Sink) (order_of order.entry)
+        (ports_found (node_views K.Sink D.Store N.Network C.Clock) ports.entry) (ports_left (node_views K.Sink D.Store N.Network C.Clock) ports.exit) result }
 {
-    let Ok(line) = served_line(alloc, connections) else {
+    let Ports {
+        input: _,
+        out,
+        store,
+        net,
+        clock,
+    } = ports;
+    let Ok(line) = served_line(alloc, order.connections) else {
         explain_memory(alloc, notes);
         return 5;
     };
     let end = serve_authority(
         rt,
         alloc,
-        config,
-        port,
-        connections,
+        order.config,
+        order.port,
+        order.connections,
         store,
         net,
         clock,

@@ -5,6 +5,8 @@
 #![tactic(auto)]
 
 mod authority;
+mod performing;
+mod ports;
 mod rehearsing;
 mod resolver;
 mod resolving;

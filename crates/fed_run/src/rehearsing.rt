@@ -1,6 +1,7 @@
 // Rehearsing: the summary, and the status.
 
 ghost use Rattle.std.specs.Prelude.{◌≡◌, None};
+ghost use Rattle.fed_run.specs.Ports.{written_to};
 ghost use Rattle.fed_run.specs.Rehearsals.{IsSummaryTold, IsRehearsedAs};
 ghost use Rattle.fed_run.specs.Resolving.{HoldsBy};
 
@@ -22,8 +23,7 @@ pub(crate) fn rehearse<R: Wait, K: Sink>(
     notes: &mut Notes,
 ) -> u8
     requires { worn.old ≡ None }
-    ensures runs { IsRehearsedAs params (record { held = K.held out.old; faults = K.write_faults out.old })
-        (record { held = K.held out.new; faults = K.write_faults out.new }) result }
+    ensures runs { IsRehearsedAs params (written_to K.Sink out.old) (written_to K.Sink out.new) result }
     ensures worn { HoldsBy worn.new result }
 {
     match rehearsal::rehearse(rt, alloc, params, worn) {
@@ -41,8 +41,7 @@ pub(crate) fn rehearse<R: Wait, K: Sink>(
 
 // Writes the summary.
 fn tell<K: Sink>(alloc: Global, summary: Summary, out: &mut K, notes: &mut Notes) -> u8
-    ensures { IsSummaryTold summary (record { held = K.held out.old; faults = K.write_faults out.old })
-        (record { held = K.held out.new; faults = K.write_faults out.new }) result }
+    ensures { IsSummaryTold summary (written_to K.Sink out.old) (written_to K.Sink out.new) result }
 {
     match summary.lines(alloc) {
         Ok(lines) => write_line(alloc, 0, lines.as_slice(), out, notes),

@@ -1,19 +1,18 @@
 // Resolving an entity: the line of the reply or of the refusal, and the status.
 
 ghost use Rattle.std.specs.Prelude.{◌≡◌, None};
-ghost use Rattle.fed_serve.specs.Moments.{clock_at};
-ghost use Rattle.fed_run.specs.Authorities.{outside};
+ghost use Rattle.fed_run.specs.Orders.{question_of};
+ghost use Rattle.fed_run.specs.Ports.{node_views, ports_found, ports_left, written_to};
 ghost use Rattle.fed_run.specs.Resolving.{HoldsBy, IsReplyTold, IsToldBy, RunsResolve};
-ghost use Rattle.node_service.specs.Connections.{service_at};
-ghost use Rattle.node_service.specs.Ends.{at_moment};
 
+use crate::ports::Ports;
 use fed_inspect::write_line;
 use fed_ports::{Clock, Network, Sink, Store, Text};
 use fed_resolver::{Outcome, Refusal, Reply, ResolveRequest};
-use node_service::NodeFault;
+use node_files::NodeFault;
 use plain_notes::{Notes, explain_memory};
 use resolve_notes::explain_outcome;
-use resolve_once::resolve_once;
+use resolver_service::resolve_once;
 use statement_shelf::FedPass;
 use std::alloc::Global;
 use std::sync::Wait;
@@ -29,31 +28,47 @@ const POLICY_ONLY: &[u8] =
 const NO_CHAIN: &[u8] =
     b"{\"error\":\"invalid_trust_chain\",\"error_description\":\"no valid trust chain\"}\n";
 
+/// What is asked: of the resolver of a configuration file.
+#[derive(Clone, Copy)]
+pub(crate) struct Question<'a> {
+    pub(crate) config: &'a Text,
+    pub(crate) request: &'a ResolveRequest,
+}
+
 /// Resolves what is asked as the resolver of the configuration file, and gives the exit status.
-pub(crate) fn resolve<R: Wait, K: Sink, D: Store, N: Network + Drop, C: Clock>(
+pub(crate) fn resolve<R: Wait, S, K: Sink, D: Store, N: Network + Drop, C: Clock>(
     rt: &R,
     alloc: Global,
-    config: &Text,
-    request: &ResolveRequest,
-    out: &mut K,
-    store: &mut D,
-    net: &mut N,
-    clock: &mut C,
+    question: Question<'_>,
+    ports: Ports<'_, S, K, D, N, C>,
     worn: &mut Option<FedPass>,
     notes: &mut Notes,
 ) -> u8
     requires { worn.old ≡ None }
-    ensures runs { RunsResolve (record { config = config.now; request = request.now })
-        (outside (K.held out.old) (K.write_faults out.old) (at_moment (D.files store.old)
-        (service_at (N.port net.old) (N.callers net.old) (N.settled net.old) (clock_at (C.readings clock.old) (C.last clock.old) (C.told clock.old)))
-        (D.store_faults store.old) (N.faults net.old)) (N.exchanges net.old))
-        (outside (K.held out.new) (K.write_faults out.new) (at_moment (D.files store.new)
-        (service_at (N.port net.new) (N.callers net.new) (N.settled net.new) (clock_at (C.readings clock.new) (C.last clock.new) (C.told clock.new)))
-        (D.store_faults store.new) (N.faults net.new)) (N.exchanges net.new))
-        result }
+    ensures input { ports.exit.0.now ≡ ports.entry.input.now }
+    ensures runs { RunsResolve (question_of question.entry)
+        (ports_found (node_views K.Sink D.Store N.Network C.Clock) ports.entry) (ports_left (node_views K.Sink D.Store N.Network C.Clock) ports.exit) result }
     ensures worn { HoldsBy worn.new result }
 {
-    match resolve_once(rt, alloc, config, request, store, net, clock, worn, notes) {
+    let Ports {
+        input: _,
+        out,
+        store,
+        net,
+        clock,
+    } = ports;
+    let request = question.request;
+    match resolve_once(
+        rt,
+        alloc,
+        question.config,
+        request,
+        store,
+        net,
+        clock,
+        worn,
+        notes,
+    ) {
         Ok(outcome) => {
             explain_outcome(alloc, request, &outcome, notes);
             tell(alloc, outcome, out, notes)
@@ -69,8 +84,7 @@ pub(crate) fn resolve<R: Wait, K: Sink, D: Store, N: Network + Drop, C: Clock>(
 
 // Writes what a call answered, and gives the status.
 fn tell<K: Sink>(alloc: Global, outcome: Outcome, out: &mut K, notes: &mut Notes) -> u8
-    ensures { IsToldBy outcome.result (record { held = K.held out.old; faults = K.write_faults out.old })
-        (record { held = K.held out.new; faults = K.write_faults out.new }) result }
+    ensures { IsToldBy outcome.result (written_to K.Sink out.old) (written_to K.Sink out.new) result }
 {
     let Outcome { result, trace } = outcome;
     drop(trace);
@@ -89,8 +103,7 @@ fn tell<K: Sink>(alloc: Global, outcome: Outcome, out: &mut K, notes: &mut Notes
 
 // Writes the reply's text on a line.
 fn tell_reply<K: Sink>(alloc: Global, reply: Reply, out: &mut K, notes: &mut Notes) -> u8
-    ensures { IsReplyTold reply (record { held = K.held out.old; faults = K.write_faults out.old })
-        (record { held = K.held out.new; faults = K.write_faults out.new }) result }
+    ensures { IsReplyTold reply (written_to K.Sink out.old) (written_to K.Sink out.new) result }
 {
     let mut line = reply.text;
     if line.push(b'\n').is_err() {

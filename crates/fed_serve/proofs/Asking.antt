@@ -1,53 +1,31 @@
 -- What is asked, and how it is answered.
-use Rattle.std.proofs.Common.{◌≡◌, ◌≢◌, ℕ, true, Option, Some, None, Result, Ok, Err, refl, sym, ap, ◌∙◌, subst}
-use Rattle.std.specs.Prelude.{IfOk, IfSome, MatchOption, is_some}
+use Rattle.std.proofs.Common.{◌≡◌, ◌≢◌, ℕ, Option, Some, None, Result, Ok, Err, refl, sym, ap, subst}
+use Rattle.std.specs.Prelude.{IfOk, IfSome}
 use Rattle.fed_base.specs.declared.faults.Memory.{Memory}
-use Rattle.http_plain.specs.declared.read.ReadEnd.{ReadEnd}
-use Rattle.http_plain.specs.declared.request.Incoming.{Incoming}
-use Rattle.http_plain.specs.declared.request.Request.{Request}
-use Rattle.http_plain.specs.declared.response.Response.{Response}
+use Rattle.http_messages.specs.declared.read.ReadEnd.{ReadEnd}
+use Rattle.http_messages.specs.declared.request.Incoming.{Incoming}
+use Rattle.http_messages.specs.declared.response.Response.{Response}
 use Rattle.http_plain.specs.Responses.{HasReason}
 use Rattle.authority_core.specs.Nodes.{Node as Authority}
 use Rattle.node_requests.specs.declared.asked.Asked.{Asked}
 use Rattle.node_requests.specs.declared.asked.Asked.TheVariants as asks
 use Rattle.node_requests.specs.declared.change.AnchorChange.{AnchorChange}
-use Rattle.node_requests.specs.declared.kind.Kind.TheVariants as kind
 use Rattle.node_requests.specs.declared.place.Place.{Place}
-use Rattle.node_requests.specs.declared.resolution.Resolution.{Resolution}
-use Rattle.node_requests.specs.Requests.{AsksFor, AsksNothing, kind_of}
+use Rattle.resolve_round.specs.declared.request.ResolveRequest.{ResolveRequest}
+use Rattle.node_requests.specs.Requests.{kind_of}
 use Rattle.turn_log.specs.declared.worn.Worn.{Worn}
 use Rattle.fed_resolver.specs.declared.outcome.Outcome.{Outcome}
-use Rattle.resolver_answers.specs.declared.resolution.ResolveAnswer.{ResolveAnswer}
-use Rattle.resolver_answers.specs.Resolutions.{CallAt, IsAnswerTo as IsOutcomeAnswer, IsMade as IsMadeBy, Walking}
-use Rattle.resolver_answers.specs.Responses.{resolve_response}
-use Rattle.resolver_answers.specs.Rotations.{Dealing, IsDealtAnswer, asked, rotation_at, stranger, untested, worn}
+use Rattle.fed_serve.specs.declared.resolution.ResolveAnswer.{ResolveAnswer}
+use Rattle.fed_serve.specs.Resolutions.{CallAt, IsAnswerTo as IsOutcomeAnswer, IsMade as IsMadeBy, Walking}
+use Rattle.fed_serve.specs.ResolverResponses.{resolve_response}
+use Rattle.fed_serve.specs.Rotations.{Dealing, IsDealtAnswer, asked, rotation_at, stranger, untested, worn}
 use Rattle.fed_serve.specs.declared.answer.Answer.{Answer}
 use Rattle.fed_serve.specs.declared.node.Node.{Node}
 use Rattle.fed_serve.specs.Handlings.{Handles, Handling, IsIssued, Wants, dealt, issued, not_asked, resolved, unread}
-use Rattle.fed_serve.specs.Steps.{ChangesKeys, IsAble, IsAnswerTo, IsKeyAnswer, IsMade, IsOf, IsResolvedAnswer, IsTold, ResolvesEntity}
+use Rattle.fed_serve.specs.Steps.{ChangesKeys, IsAnswerTo, IsKeyAnswer, IsMade, IsOf, IsResolvedAnswer, IsTold, ResolvesEntity}
 use Rattle.fed_serve.specs.Uses.{IsAlone, IsUnlinked, IsUnworn, IsWornBy}
 
 -- ---- what is asked
-
--- only a resolver is asked to resolve
-able : (node : Node) (place : Place) (r : Request) (a : Asked) → place.resolves ≡ is_some node.resolver → AsksFor place r a → IsAble node a
-able node place r asks.Configuration same is = tt
-able node place r (asks.Fetch sub) same is = tt
-able node place r (asks.List query) same is = tt
-able node place r asks.HistoricalKeys same is = tt
-able node place r (asks.Status mark) same is = tt
-able node place r (asks.Resolution resolution) same is = sym same ∙ is.2
-able node place r (asks.Rotation change) same is = sym same ∙ is.2
-
-found_able : (node : Node) (place : Place) (r : Request) (o : Option Asked) → place.resolves ≡ is_some node.resolver
-    → MatchOption o (AsksNothing place r) (AsksFor place r) → IfSome o (IsAble node)
-found_able node place r None same is = tt
-found_able node place r (Some a) same is = able node place r a same is
-
-pub all_able : (node : Node) (place : Place) (r : Request) (result : Result (Option Asked) Memory) → place.resolves ≡ is_some node.resolver
-    → IfOk result (λ o. MatchOption o (AsksNothing place r) (AsksFor place r)) → IfOk result (λ o. IfSome o (IsAble node))
-all_able node place r (Ok o) same is = found_able node place r o same is
-all_able node place r (Err m) same is = tt
 
 -- what is wanted is handled so
 pub handles : (place : Place) (came : Result Incoming ReadEnd) (a : Asked) (h : Handling) → Wants place came a → IsOf a h → Handles place came h
@@ -57,7 +35,7 @@ handles place came a (issued b) wants is = (subst (Wants place came) (sym is.0) 
 handles place came a (resolved resolution outcome) wants is = subst (Wants place came) is wants
 handles place came a (dealt change dealing) wants is = subst (Wants place came) is wants
 
-pub others_issued : (a : Asked) → ((r : Resolution) → a ≢ asks.Resolution r) → ((c : AnchorChange) → a ≢ asks.Rotation c) → IsIssued a
+pub others_issued : (a : Asked) → ((r : ResolveRequest) → a ≢ asks.Resolution r) → ((c : AnchorChange) → a ≢ asks.Rotation c) → IsIssued a
 others_issued asks.Configuration first second = tt
 others_issued (asks.Fetch sub) first second = tt
 others_issued (asks.List query) first second = tt
@@ -68,12 +46,12 @@ others_issued (asks.Rotation change) first second = absurd (second change refl)
 
 -- ---- a resolved entity
 
-outcome_made : (node : Node) (t : ℕ) (resolution : Resolution) (outcome : Outcome) (before now : ℕ) (made : Result Response Memory)
+outcome_made : (node : Node) (t : ℕ) (resolution : ResolveRequest) (outcome : Outcome) (before now : ℕ) (made : Result Response Memory)
     → IsMadeBy (resolve_response outcome.result) made → IsMade node.registry t (resolved resolution outcome) before now made
 outcome_made node t resolution outcome before now (Ok r) is = (is.0, tt, is.1)
 outcome_made node t resolution outcome before now (Err m) is = tt
 
-outcome_told : (node : Node) (t : ℕ) (resolution : Resolution) (outcome : Outcome) (before now : ℕ) (made : Result ResolveAnswer Worn) (result : Result Answer Worn)
+outcome_told : (node : Node) (t : ℕ) (resolution : ResolveRequest) (outcome : Outcome) (before now : ℕ) (made : Result ResolveAnswer Worn) (result : Result Answer Worn)
     → IsOutcomeAnswer outcome made → IsResolvedAnswer made result → IsTold node.registry t (resolved resolution outcome) before now result
 outcome_told node t resolution outcome before now (Ok m) (Ok answer) is told =
     subst (λ a. IsTold node.registry t (resolved resolution outcome) before now (Ok a)) (sym told)
@@ -82,7 +60,7 @@ outcome_told node t resolution outcome before now (Err w) (Err other) is told = 
 outcome_told node t resolution outcome before now (Ok m) (Err other) is told = absurd told
 outcome_told node t resolution outcome before now (Err w) (Ok answer) is told = absurd told
 
-pub entity_answered : (node : Node) (walks : Walking) (t : ℕ) (before now : CallAt) (resolution : Resolution) (result : Result Answer Worn)
+pub entity_answered : (node : Node) (walks : Walking) (t : ℕ) (before now : CallAt) (resolution : ResolveRequest) (result : Result Answer Worn)
     → ResolvesEntity node walks t before now resolution result → IsAnswerTo node walks t before now (asks.Resolution resolution) result
 entity_answered node walks t before now resolution result entity = record {
   handling = resolved resolution entity.is.outcome;

@@ -1,11 +1,11 @@
 -- When each answer comes.
-use Rattle.std.proofs.Common.{◌≡◌, ◌≢◌, ◌⊎◌, ℕ, true, false, List, Option, Some, None, Result, Ok, Err, refl, sym, ap, ◌∙◌, subst, inl, inr, arith}
+use Rattle.std.proofs.Common.{◌≡◌, ◌⊎◌, ℕ, true, false, List, Some, None, Result, Ok, Err, refl, sym, ap, ◌∙◌, subst, inl, inr, arith}
 use Rattle.std.specs.Prelude.{IfOk, IfSome, MatchResult, codes, is_some, if◌then◌else◌}
 use Rattle.fed_base.specs.declared.faults.Memory.{Memory}
-use Rattle.http_plain.specs.declared.read.ReadEnd.{ReadEnd}
-use Rattle.http_plain.specs.declared.request.Incoming.{Incoming}
-use Rattle.http_plain.specs.declared.request.Incoming.TheVariants.{Asked as Request, NotARequest}
-use Rattle.http_plain.specs.declared.response.Response.{Response}
+use Rattle.http_messages.specs.declared.read.ReadEnd.{ReadEnd}
+use Rattle.http_messages.specs.declared.request.Incoming.{Incoming}
+use Rattle.http_messages.specs.declared.request.Incoming.TheVariants.{Asked as Request, NotARequest}
+use Rattle.http_messages.specs.declared.response.Response.{Response}
 use Rattle.http_plain.specs.Responses.{HasReason}
 use Rattle.trust_mark.specs.Counts.{CountsAtMost, counted}
 use Rattle.authority_core.specs.Answers.{configuration_response, fetch_response, historical_response, list_response, statement_response, status_response}
@@ -14,7 +14,7 @@ use Rattle.node_requests.specs.declared.asked.Asked.{Asked}
 use Rattle.node_requests.specs.declared.asked.Asked.TheVariants as asked
 use Rattle.node_requests.specs.declared.change.AnchorChange.{AnchorChange}
 use Rattle.node_requests.specs.declared.place.Place.{Place}
-use Rattle.node_requests.specs.declared.resolution.Resolution.{Resolution}
+use Rattle.resolve_round.specs.declared.request.ResolveRequest.{ResolveRequest}
 use Rattle.node_requests.proofs.Asking.{one_asked}
 use Rattle.statement_shelf.specs.declared.calls.BookReply.{BookReply}
 use Rattle.statement_shelf.specs.declared.calls.BookReply.TheVariants as book
@@ -22,8 +22,8 @@ use Rattle.resolve_reply.specs.declared.reply.Reply.{Reply}
 use Rattle.fed_resolver.specs.declared.outcome.Outcome.{Outcome}
 use Rattle.fed_resolver.specs.declared.outcome.Refusal.{Refusal}
 use Rattle.fed_resolver.specs.declared.outcome.Refusal.TheVariants.{NoAnchor, NotFound, PolicyOnly, NoChain, Unavailable, Budget, Worn, Memory as OutOfMemory}
-use Rattle.resolver_answers.specs.Responses.{resolve_response, rotate_response}
-use Rattle.resolver_answers.specs.Rotations.{Dealing, stranger, asked as replied, worn, untested}
+use Rattle.fed_serve.specs.ResolverResponses.{resolve_response, rotate_response}
+use Rattle.fed_serve.specs.Rotations.{Dealing, stranger, asked as replied, worn, untested}
 use Rattle.fed_serve.specs.declared.node.Node.{Node}
 use Rattle.fed_serve.specs.Handlings.{Handles, Handling, IsIssued, Wants, WantsNothing, dealt, issued, not_asked, resolved, unread}
 use Rattle.fed_serve.specs.Places.{place_of}
@@ -138,13 +138,13 @@ not_invalid result r is = subst (λ o. IfSome o is_other) is (other_result resul
 not_invalid_change : (dealing : Dealing) (r : Response) → dealt_response dealing ≡ Some r → is_other r
 not_invalid_change dealing r is = subst (λ o. IfSome o is_other) is (other_dealing dealing)
 
-same_resolution : (a b : Resolution) → asked.Resolution a ≡ asked.Resolution b → a ≡ b
+same_resolution : (a b : ResolveRequest) → asked.Resolution a ≡ asked.Resolution b → a ≡ b
 same_resolution a b is = cc is
 
 same_change : (a b : AnchorChange) → asked.Rotation a ≡ asked.Rotation b → a ≡ b
 same_change a b is = cc is
 
-no_change : {X : Type 0} (resolution : Resolution) (change : AnchorChange) → asked.Resolution resolution ≡ asked.Rotation change → X
+no_change : {X : Type 0} (resolution : ResolveRequest) (change : AnchorChange) → asked.Resolution resolution ≡ asked.Rotation change → X
 no_change resolution change is = cc is
 
 -- ---- each handling
@@ -168,7 +168,7 @@ refusing node came none = record {
 }
 
 -- an authority isn't asked to resolve
-no_resolution : {X : Type 0} (a : Asked) (resolution : Resolution) → IsIssued a → a ≡ asked.Resolution resolution → X
+no_resolution : {X : Type 0} (a : Asked) (resolution : ResolveRequest) → IsIssued a → a ≡ asked.Resolution resolution → X
 no_resolution a resolution issues is = absurd (subst IsIssued is issues)
 
 no_rotation : {X : Type 0} (a : Asked) (change : AnchorChange) → IsIssued a → a ≡ asked.Rotation change → X
@@ -184,7 +184,7 @@ issuing node came a r wants issues status = record {
   dealt = λ change is. no_rotation a change issues (one_wanted (place_of node) came a (asked.Rotation change) wants is);
 }
 
-resolving : (node : Node) (came : Result Incoming ReadEnd) (resolution : Resolution) (outcome : Outcome) (r : Response)
+resolving : (node : Node) (came : Result Incoming ReadEnd) (resolution : ResolveRequest) (outcome : Outcome) (r : Response)
     → Wants (place_of node) came (asked.Resolution resolution) → resolve_response outcome.result ≡ Some r → ComesWhere node came (resolved resolution outcome) r
 resolving node came resolution outcome r wants is = record {
   bad_request = λ refuses. absurd (not_invalid outcome.result r is refuses);

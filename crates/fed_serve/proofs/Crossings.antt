@@ -17,7 +17,7 @@ use Rattle.key_ring.proofs.ring.KeyRing.TheSendSync as ring
 use Rattle.resolve_round.specs.contracts.trace.Trace as Trace
 use Rattle.resolve_round.proofs.trace.Check.TheSendSync as check
 use Rattle.resolve_round.proofs.trace.Search.TheSendSync as round
-use Rattle.resolver_answers.specs.contracts.part.ResolverPart as ResolverPart
+use Rattle.fed_serve.specs.contracts.part.ResolverPart as ResolverPart
 use Rattle.statement_shelf.proofs.calls.ShelfCall.TheSendSync as call
 use Rattle.statement_shelf.proofs.calls.ShelfReply.TheSendSync as reply
 use Rattle.statement_shelf.proofs.commons.SharedCommons.TheSendSync as commons

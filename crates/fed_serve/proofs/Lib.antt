@@ -3,6 +3,7 @@ pub mod Causes
 pub mod Crossings
 pub mod DeskLaws
 pub mod Outcomes
+pub mod RotationLaws
 pub mod Rows
 pub mod Sameness
 pub mod Walks

@@ -3,17 +3,16 @@ use Rattle.std.proofs.Common.{◌≡◌, ◌≤◌, ◌<◌, ℕ, Option, Some, 
 use Rattle.fed_base.specs.declared.faults.Memory.{Memory}
 use Rattle.fed_base.specs.Counts.{Rose}
 use Rattle.fed_ports.specs.Causes.{HasCause}
-use Rattle.http_plain.specs.declared.read.ReadEnd.{ReadEnd}
-use Rattle.http_plain.specs.declared.read.ReadEnd.TheVariants as read
-use Rattle.http_plain.specs.declared.request.Incoming.{Incoming}
-use Rattle.http_plain.specs.declared.response.Response.{Response}
-use Rattle.http_plain.specs.declared.write.WriteEnd.TheVariants as write
+use Rattle.http_messages.specs.declared.read.ReadEnd.{ReadEnd}
+use Rattle.http_messages.specs.declared.read.ReadEnd.TheVariants as read
+use Rattle.http_messages.specs.declared.request.Incoming.{Incoming}
+use Rattle.http_messages.specs.declared.response.Response.{Response}
+use Rattle.http_messages.specs.declared.write.WriteEnd.TheVariants as write
 use Rattle.http_plain.specs.Readings.{CausedBy, Taken}
 use Rattle.http_plain.specs.Writings.{Writes}
-use Rattle.trust_mark.specs.Counts.{CountsAtMost, counted}
 use Rattle.authority_core.specs.Nodes.{Node as Authority}
 use Rattle.turn_log.specs.declared.worn.Worn.{Worn as WornAt}
-use Rattle.resolver_answers.specs.Resolutions.{Walking}
+use Rattle.fed_serve.specs.Resolutions.{Walking}
 use Rattle.fed_serve.specs.declared.answer.Answer.{Answer}
 use Rattle.fed_serve.specs.declared.node.Node.{Node}
 use Rattle.fed_serve.specs.declared.served.Served.{Served}

@@ -1,14 +1,14 @@
 -- Which answer of a resolver tells which cause.
-use Rattle.std.proofs.Common.{◌≡◌, ℕ, zero, suc, List, [], ◌∷◌, Option, Some, None, Result, Ok, Err, refl, sym, ap, subst, arith}
+use Rattle.std.proofs.Common.{◌≡◌, ℕ, zero, suc, List, [], ◌∷◌, Some, Result, Ok, Err, refl, ap, subst, arith}
 use Rattle.std.specs.Prelude.{codes, IfSome}
-use Rattle.http_plain.specs.declared.response.Response.{Response}
+use Rattle.http_messages.specs.declared.response.Response.{Response}
 use Rattle.statement_shelf.specs.declared.calls.BookReply.{BookReply}
 use Rattle.statement_shelf.specs.declared.calls.BookReply.TheVariants as book
 use Rattle.resolve_reply.specs.declared.reply.Reply.{Reply}
 use Rattle.fed_resolver.specs.declared.outcome.Refusal.{Refusal}
 use Rattle.fed_resolver.specs.declared.outcome.Refusal.TheVariants.{NoAnchor, NotFound, PolicyOnly, NoChain, Unavailable, Budget, Worn, Memory}
-use Rattle.resolver_answers.specs.Responses.{resolve_response, rotate_response}
-use Rattle.resolver_answers.specs.Rotations.{Dealing, asked, stranger, untested, worn}
+use Rattle.fed_serve.specs.ResolverResponses.{resolve_response, rotate_response}
+use Rattle.fed_serve.specs.Rotations.{Dealing, asked, stranger, untested, worn}
 use Rattle.fed_serve.specs.Responses.{dealt_response}
 use Rattle.fed_serve.specs.Rows.{KeyRows, ResolveRows}
 

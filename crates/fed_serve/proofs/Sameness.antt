@@ -1,15 +1,15 @@
 -- The same bytes have the same answer of an authority.
 use Rattle.std.proofs.Common.{◌≡◌, ◌≢◌, ℕ, List, Option, Some, None, Result, Ok, Err, refl, sym, ap, ap₂, ◌∙◌, subst, inl, inr}
-use Rattle.http_plain.specs.declared.read.ReadEnd.{ReadEnd}
-use Rattle.http_plain.specs.declared.request.Incoming.{Incoming}
-use Rattle.http_plain.specs.declared.response.Response.{Response}
+use Rattle.http_messages.specs.declared.read.ReadEnd.{ReadEnd}
+use Rattle.http_messages.specs.declared.request.Incoming.{Incoming}
+use Rattle.http_messages.specs.declared.response.Response.{Response}
 use Rattle.http_plain.specs.Readings.{Reads}
 use Rattle.authority_core.specs.Nodes.{Node as Authority}
 use Rattle.node_requests.specs.declared.kind.Kind.{Kind}
 use Rattle.node_requests.specs.declared.place.Place.{Place}
 use Rattle.resolve_round.specs.declared.trace.Trace.{Trace}
-use Rattle.resolver_answers.specs.declared.part.ResolverPart.{ResolverPart}
-use Rattle.resolver_answers.specs.Resolutions.{CallAt, Walking}
+use Rattle.fed_serve.specs.declared.part.ResolverPart.{ResolverPart}
+use Rattle.fed_serve.specs.Resolutions.{CallAt, Walking}
 use Rattle.fed_serve.specs.declared.node.Node.{Node}
 use Rattle.fed_serve.specs.declared.served.Served.{Served}
 use Rattle.fed_serve.specs.declared.serving.ServeFault.{ServeFault}

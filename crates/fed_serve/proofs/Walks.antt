@@ -3,10 +3,10 @@ use Rattle.std.proofs.Common.{ℕ, Result}
 use Rattle.resolve_reply.specs.declared.reply.Reply.{Reply}
 use Rattle.resolve_round.specs.declared.trace.Trace.{Trace}
 use Rattle.fed_resolver.specs.declared.outcome.Refusal.{Refusal}
-use Rattle.resolver_answers.specs.Resolutions.{CallAt, Walking}
-use Rattle.http_plain.specs.declared.read.ReadEnd.{ReadEnd}
-use Rattle.http_plain.specs.declared.request.Incoming.{Incoming}
-use Rattle.http_plain.specs.declared.response.Response.{Response}
+use Rattle.fed_serve.specs.Resolutions.{CallAt, Walking}
+use Rattle.http_messages.specs.declared.read.ReadEnd.{ReadEnd}
+use Rattle.http_messages.specs.declared.request.Incoming.{Incoming}
+use Rattle.http_messages.specs.declared.response.Response.{Response}
 use Rattle.fed_serve.specs.declared.node.Node.{Node}
 use Rattle.fed_serve.specs.declared.served.Served.{Served}
 use Rattle.fed_serve.specs.declared.serving.ServeFault.{ServeFault}

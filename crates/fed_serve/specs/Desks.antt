@@ -6,10 +6,10 @@ use Rattle.fed_ports.specs.Exchanges.{Exchange}
 use Rattle.fed_ports.specs.Lists.{Gave}
 use Rattle.turn_log.specs.Groups.{known}
 use Rattle.statement_shelf.specs.Passes.{CommonsKnown, IsPassOfAll}
-use Rattle.resolve_pages.specs.Acts.{IsKept}
-use Rattle.resolve_pages.specs.Walking.{Giving}
+use Rattle.resolve_round.specs.Acts.{IsKept}
+use Rattle.resolve_round.specs.Walking.{Giving}
 use Rattle.fed_resolver.specs.Calls.{GaveAll}
-use Rattle.resolver_answers.specs.Resolutions.{CallAt}
+use Rattle.fed_serve.specs.Resolutions.{CallAt}
 use Rattle.fed_serve.specs.declared.desk.Desk.{Desk}
 use Rattle.fed_serve.specs.declared.node.Node.{Node}
 use Rattle.fed_serve.specs.declared.served.Served.{Served}

@@ -1,19 +1,19 @@
 -- How a request that came is handled.
 use Rattle.std.specs.Prelude.{Result, Ok, Err}
-use Rattle.http_plain.specs.declared.read.ReadEnd.{ReadEnd}
-use Rattle.http_plain.specs.declared.read.ReadEnd.TheVariants.{Memory}
-use Rattle.http_plain.specs.declared.request.Incoming.{Incoming}
-use Rattle.http_plain.specs.declared.request.Incoming.TheVariants.{Asked as Request, NotARequest}
+use Rattle.http_messages.specs.declared.read.ReadEnd.{ReadEnd}
+use Rattle.http_messages.specs.declared.read.ReadEnd.TheVariants.{Memory}
+use Rattle.http_messages.specs.declared.request.Incoming.{Incoming}
+use Rattle.http_messages.specs.declared.request.Incoming.TheVariants.{Asked as Request, NotARequest}
 use Rattle.node_requests.specs.declared.asked.Asked.{Asked}
 use Rattle.node_requests.specs.declared.asked.Asked.TheVariants as asked
 use Rattle.node_requests.specs.declared.change.AnchorChange.{AnchorChange}
 use Rattle.node_requests.specs.declared.kind.Kind.{Kind}
 use Rattle.node_requests.specs.declared.kind.Kind.TheVariants as kind
 use Rattle.node_requests.specs.declared.place.Place.{Place}
-use Rattle.node_requests.specs.declared.resolution.Resolution.{Resolution}
+use Rattle.resolve_round.specs.declared.request.ResolveRequest.{ResolveRequest}
 use Rattle.node_requests.specs.Requests.{AsksFor, AsksNothing, kind_of as kind_asked}
 use Rattle.fed_resolver.specs.declared.outcome.Outcome.{Outcome}
-use Rattle.resolver_answers.specs.Rotations.{Dealing}
+use Rattle.fed_serve.specs.Rotations.{Dealing}
 
 pub data Handling : Type 0 where
   -- memory was wanting before the request was known
@@ -23,7 +23,7 @@ pub data Handling : Type 0 where
   -- the node answers as an authority
   issued : (asked : Asked) → Handling
   -- it resolves by one call, which had this outcome
-  resolved : (resolution : Resolution) (outcome : Outcome) → Handling
+  resolved : (resolution : ResolveRequest) (outcome : Outcome) → Handling
   -- other keys for a trust anchor are dealt with so
   dealt : (change : AnchorChange) (dealing : Dealing) → Handling
 

@@ -3,7 +3,10 @@ pub mod Desks
 pub mod Handlings
 pub mod Moments
 pub mod Places
+pub mod Resolutions
+pub mod ResolverResponses
 pub mod Responses
+pub mod Rotations
 pub mod Rows
 pub mod Serving
 pub mod Steps

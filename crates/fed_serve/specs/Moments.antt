@@ -2,7 +2,7 @@
 use Rattle.std.specs.Prelude.{◌≡◌, ℕ, List, Option}
 use Rattle.fed_base.specs.Counts.{next_count}
 use Rattle.fed_ports.specs.Times.{Told}
-use Rattle.resolver_answers.specs.Resolutions.{CallAt}
+use Rattle.fed_serve.specs.Resolutions.{CallAt}
 
 -- one end of a connection: what is left to read and what it was given, where it tells them, and how often each failed
 pub record PeerAt : Type 0 where

@@ -1,13 +1,13 @@
 -- What each handling of a request is answered with (OpenID Federation 1.0 section 8.9).
 use Rattle.std.specs.Prelude.{ℕ, codes, Option, Some, None, is_some, if◌then◌else◌}
-use Rattle.http_plain.specs.declared.response.Response.{Response}
+use Rattle.http_messages.specs.declared.response.Response.{Response}
 use Rattle.authority_core.specs.Answers.{configuration_response, fetch_response, historical_response, list_response, status_response}
 use Rattle.authority_core.specs.Nodes.{Node as Authority, registered}
 use Rattle.authority_core.specs.Statuses.{status_tests}
 use Rattle.node_requests.specs.declared.asked.Asked.{Asked}
 use Rattle.node_requests.specs.declared.asked.Asked.TheVariants as asked
-use Rattle.resolver_answers.specs.Responses.{not_in_control, refusal, resolve_response, rotate_response}
-use Rattle.resolver_answers.specs.Rotations.{Dealing, stranger, asked as replied, worn, untested}
+use Rattle.fed_serve.specs.ResolverResponses.{not_in_control, refusal, resolve_response, rotate_response}
+use Rattle.fed_serve.specs.Rotations.{Dealing, stranger, asked as replied, worn, untested}
 use Rattle.fed_serve.specs.Handlings.{Handling, unread, not_asked, issued, resolved, dealt}
 
 -- it is no request of the node

@@ -1,12 +1,12 @@
 -- When each answer of a resolver comes: a field for each (OpenID Federation 1.0 sections 8.3.2 and 8.9).
 use Rattle.std.specs.Prelude.{◌≡◌, ◌↔◌, ℕ, List, codes, Result, Ok, Err}
-use Rattle.http_plain.specs.declared.response.Response.{Response}
+use Rattle.http_messages.specs.declared.response.Response.{Response}
 use Rattle.statement_shelf.specs.declared.calls.BookReply.TheVariants as book
 use Rattle.resolve_reply.specs.declared.reply.Reply.{Reply}
 use Rattle.fed_resolver.specs.declared.outcome.Refusal.{Refusal}
 use Rattle.fed_resolver.specs.declared.outcome.Refusal.TheVariants.{NoAnchor, NotFound, PolicyOnly, NoChain, Unavailable, Budget}
-use Rattle.resolver_answers.specs.Responses.{another_epoch, changed, refusal}
-use Rattle.resolver_answers.specs.Rotations.{Dealing, asked, stranger}
+use Rattle.fed_serve.specs.ResolverResponses.{another_epoch, changed, refusal}
+use Rattle.fed_serve.specs.Rotations.{Dealing, asked, stranger}
 
 -- a refusal of this status with this error, whatever its description
 abbrev pub Refuses : ℕ → List ℕ → Response → Type 0

@@ -1,22 +1,22 @@
 -- What serving one connection does: one field for each way in which it ends.
 use Rattle.std.specs.Prelude.{◌≡◌, ◌≤◌, ◌<◌, ◌↔◌, ◌⊎◌, ℕ, List, codes, Option, Some, None, Result, Ok, Err}
 use Rattle.fed_base.specs.Counts.{Rose}
-use Rattle.http_plain.specs.declared.read.ReadEnd.{ReadEnd}
-use Rattle.http_plain.specs.declared.read.ReadEnd.TheVariants as read
-use Rattle.http_plain.specs.declared.request.Incoming.{Incoming}
-use Rattle.http_plain.specs.declared.response.Response.{Response}
-use Rattle.http_plain.specs.declared.write.WriteEnd.TheVariants as write
+use Rattle.http_messages.specs.declared.read.ReadEnd.{ReadEnd}
+use Rattle.http_messages.specs.declared.read.ReadEnd.TheVariants as read
+use Rattle.http_messages.specs.declared.request.Incoming.{Incoming}
+use Rattle.http_messages.specs.declared.response.Response.{Response}
+use Rattle.http_messages.specs.declared.write.WriteEnd.TheVariants as write
 use Rattle.http_plain.specs.Readings.{Reads, Taken}
 use Rattle.http_plain.specs.Writings.{Writes}
 use Rattle.authority_core.specs.Nodes.{Node as Authority}
 use Rattle.node_requests.specs.declared.asked.Asked.{Asked}
 use Rattle.node_requests.specs.declared.asked.Asked.TheVariants as asked
 use Rattle.node_requests.specs.declared.change.AnchorChange.{AnchorChange}
-use Rattle.node_requests.specs.declared.resolution.Resolution.{Resolution}
+use Rattle.resolve_round.specs.declared.request.ResolveRequest.{ResolveRequest}
 use Rattle.resolve_round.specs.declared.trace.Trace.{Trace}
 use Rattle.fed_resolver.specs.declared.outcome.Outcome.{Outcome}
-use Rattle.resolver_answers.specs.Resolutions.{Walking}
-use Rattle.resolver_answers.specs.Rotations.{Dealing}
+use Rattle.fed_serve.specs.Resolutions.{Walking}
+use Rattle.fed_serve.specs.Rotations.{Dealing}
 use Rattle.fed_serve.specs.declared.node.Node.{Node}
 use Rattle.fed_serve.specs.declared.served.Served.{Served}
 use Rattle.fed_serve.specs.declared.serving.ServeFault.{ServeFault}
@@ -70,7 +70,7 @@ pub record ComesWhere (node : Node) (came : Came) (handling : Handling) (respons
   -- where an authority is asked, 404 exactly where a statement about no subordinate is asked for, and else 200
   pub issued : (asked : Asked) → Wants (place_of node) came asked → IsIssued asked → HasOrWanting (status_of node.registry asked) response
   -- where an entity is to be resolved, by the outcome of the one call
-  pub resolved : (resolution : Resolution) → Wants (place_of node) came (asked.Resolution resolution)
+  pub resolved : (resolution : ResolveRequest) → Wants (place_of node) came (asked.Resolution resolution)
       → (response ≡ out_of_memory) ⊎ ((outcome : Outcome) × (handling ≡ resolved resolution outcome) × ResolveRows outcome.result response)
   -- where a trust anchor is to have other keys, by how that was dealt with
   pub dealt : (change : AnchorChange) → Wants (place_of node) came (asked.Rotation change)

@@ -1,11 +1,11 @@
 -- What the parts of serving know of one another.
 use Rattle.std.specs.Prelude.{◌≡◌, ◌⊎◌, ℕ, List, true, is_some, Option, Some, None, Result, Ok, Err}
 use Rattle.fed_base.specs.declared.faults.Memory.{Memory}
-use Rattle.http_plain.specs.declared.read.ReadEnd.{ReadEnd}
-use Rattle.http_plain.specs.declared.read.ReadEnd.TheVariants as read
-use Rattle.http_plain.specs.declared.request.Incoming.{Incoming}
-use Rattle.http_plain.specs.declared.response.Response.{Response}
-use Rattle.http_plain.specs.declared.write.WriteEnd.TheVariants as write
+use Rattle.http_messages.specs.declared.read.ReadEnd.{ReadEnd}
+use Rattle.http_messages.specs.declared.read.ReadEnd.TheVariants as read
+use Rattle.http_messages.specs.declared.request.Incoming.{Incoming}
+use Rattle.http_messages.specs.declared.response.Response.{Response}
+use Rattle.http_messages.specs.declared.write.WriteEnd.TheVariants as write
 use Rattle.http_plain.specs.Readings.{CausedBy}
 use Rattle.http_plain.specs.Responses.{HasReason}
 use Rattle.http_plain.specs.Writings.{Writes}
@@ -14,12 +14,12 @@ use Rattle.node_requests.specs.declared.asked.Asked.{Asked}
 use Rattle.node_requests.specs.declared.asked.Asked.TheVariants as asks
 use Rattle.node_requests.specs.declared.change.AnchorChange.{AnchorChange}
 use Rattle.node_requests.specs.declared.kind.Kind.TheVariants as kind
-use Rattle.node_requests.specs.declared.resolution.Resolution.{Resolution}
+use Rattle.resolve_round.specs.declared.request.ResolveRequest.{ResolveRequest}
 use Rattle.turn_log.specs.declared.worn.Worn.{Worn}
-use Rattle.resolver_answers.specs.declared.part.ResolverPart.{ResolverPart}
-use Rattle.resolver_answers.specs.declared.resolution.ResolveAnswer.{ResolveAnswer}
-use Rattle.resolver_answers.specs.Resolutions.{CallAt, IsResolveAnswer, Walking}
-use Rattle.resolver_answers.specs.Rotations.{IsRotateAnswer, RotationAt}
+use Rattle.fed_serve.specs.declared.part.ResolverPart.{ResolverPart}
+use Rattle.fed_serve.specs.declared.resolution.ResolveAnswer.{ResolveAnswer}
+use Rattle.fed_serve.specs.Resolutions.{CallAt, IsResolveAnswer, Walking}
+use Rattle.fed_serve.specs.Rotations.{IsRotateAnswer, RotationAt}
 use Rattle.fed_serve.specs.declared.answer.Answer.{Answer}
 use Rattle.fed_serve.specs.declared.node.Node.{Node}
 use Rattle.fed_serve.specs.declared.served.Served.{Served}
@@ -30,7 +30,7 @@ use Rattle.fed_serve.specs.Moments.{PeerAt}
 use Rattle.fed_serve.specs.Places.{place_of}
 use Rattle.fed_serve.specs.Responses.{out_of_memory, response_of}
 use Rattle.fed_serve.specs.Serving.{HandsOut, HasCome}
-use Rattle.fed_serve.specs.Uses.{Has, IsUnworn, IsWornBy, Tests, TestsSome, Uses, change_of, request_of}
+use Rattle.fed_serve.specs.Uses.{Has, IsUnworn, IsWornBy, Tests, TestsSome, Uses}
 
 -- ---- what came
 
@@ -129,11 +129,11 @@ IsResolvedAnswer (Err w) (Err other) = other ≡ w
 IsResolvedAnswer made answer = ⊥
 
 -- an entity was resolved by the node's part for that
-pub record ResolvesEntity (node : Node) (walks : Walking) (t : ℕ) (before now : CallAt) (resolution : Resolution) (result : Result Answer Worn) : Type 0 where
+pub record ResolvesEntity (node : Node) (walks : Walking) (t : ℕ) (before now : CallAt) (resolution : ResolveRequest) (result : Result Answer Worn) : Type 0 where
   pub part : ResolverPart
   pub has : Has node part
   pub made : Result ResolveAnswer Worn
-  pub is : IsResolveAnswer part.signer (request_of resolution) t walks before now made
+  pub is : IsResolveAnswer part.signer resolution t walks before now made
   pub told : IsResolvedAnswer made result
 
 -- a trust anchor has other keys, or not
@@ -146,5 +146,5 @@ pub record ChangesKeys (node : Node) (before now : RotationAt) (change : AnchorC
   pub part : ResolverPart
   pub has : Has node part
   pub made : Result (Result Response Memory) Worn
-  pub is : IsRotateAnswer part.control.keys change.body.whole (change_of change) before now made
+  pub is : IsRotateAnswer part.control.keys change before now made
   pub told : IsKeyAnswer made result

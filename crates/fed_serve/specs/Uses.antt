@@ -2,15 +2,11 @@
 use Rattle.std.specs.Prelude.{◌≡◌, ℕ, Some, Err}
 use Rattle.trust_mark.specs.Counts.{CountsAtMost, counted}
 use Rattle.authority_core.specs.Nodes.{Node as Authority}
-use Rattle.node_requests.specs.declared.change.AnchorChange.{AnchorChange}
-use Rattle.node_requests.specs.declared.resolution.Resolution.{Resolution}
 use Rattle.turn_log.specs.Runs.{call_limit}
-use Rattle.resolve_round.specs.declared.request.ResolveRequest.{ResolveRequest}
 use Rattle.fed_resolver.specs.declared.outcome.Refusal.TheVariants.{Worn}
-use Rattle.resolver_answers.specs.declared.part.KeyChange.{KeyChange}
-use Rattle.resolver_answers.specs.declared.part.ResolverPart.{ResolverPart}
-use Rattle.resolver_answers.specs.Resolutions.{CallAt, IsResolved, IsUnworn as IsUnwornResult, Walking}
-use Rattle.resolver_answers.specs.Rotations.{IsDealtWith, rotation_at, worn}
+use Rattle.fed_serve.specs.declared.part.ResolverPart.{ResolverPart}
+use Rattle.fed_serve.specs.Resolutions.{CallAt, IsResolved, IsUnworn as IsUnwornResult, Walking}
+use Rattle.fed_serve.specs.Rotations.{IsDealtWith, rotation_at, worn}
 use Rattle.fed_serve.specs.declared.node.Node.{Node}
 use Rattle.fed_serve.specs.Handlings.{Handling, dealt, issued, resolved}
 use Rattle.fed_serve.specs.Responses.{tests_asked}
@@ -18,13 +14,6 @@ use Rattle.fed_serve.specs.Responses.{tests_asked}
 -- the node has this part for resolving
 abbrev pub Has : Node → ResolverPart → Type 0
 Has node part = node.resolver ≡ Some part
-
--- what a resolver is asked, and what it is told, as its calls take them
-abbrev pub request_of : Resolution → ResolveRequest
-request_of resolution = record { sub = resolution.sub; anchor = resolution.anchor; types = resolution.types }
-
-abbrev pub change_of : AnchorChange → KeyChange
-change_of change = record { anchor = change.anchor; epoch = change.epoch; keys = change.keys }
 
 -- the link wasn't called
 pub record IsUnlinked (before now : CallAt) : Type 0 where
@@ -40,9 +29,9 @@ pub record IsAlone (before now : CallAt) : Type 0 where
 -- what is used: for a resolved entity all that its one call tells, the word of a control key and the one call on the book for other keys,
 -- and nothing of these for anything else
 abbrev pub Uses : Node → Walking → ℕ → CallAt → CallAt → Handling → Type 0
-Uses node walks t before now (resolved resolution outcome) = (part : ResolverPart) × Has node part × IsResolved part.signer (request_of resolution) t walks before now outcome
+Uses node walks t before now (resolved resolution outcome) = (part : ResolverPart) × Has node part × IsResolved part.signer resolution t walks before now outcome
 Uses node walks t before now (dealt change dealing) = (part : ResolverPart) × Has node part × IsUnlinked before now
-    × IsDealtWith part.control.keys change.body.whole (change_of change) (rotation_at before.known before.tests) (rotation_at now.known now.tests) dealing
+    × IsDealtWith part.control.keys change (rotation_at before.known before.tests) (rotation_at now.known now.tests) dealing
 Uses node walks t before now handling = IsAlone before now
 
 -- ---- tested signatures

@@ -1,7 +1,7 @@
 // What one connection of several is served with.
 
 ghost use Rattle.std.specs.Prelude.{◌≡◌, Some, None};
-ghost use Rattle.resolver_answers.specs.Resolutions.{call_at};
+ghost use Rattle.fed_serve.specs.Resolutions.{call_at};
 ghost use Rattle.fed_serve.specs.declared.node.Node.{Node as AnyNode};
 ghost use Rattle.fed_serve.specs.Moments.{clock_at, peer_at};
 ghost use Rattle.fed_serve.specs.Desks.{IsFree, IsServedAt, IsTaken, views_of};

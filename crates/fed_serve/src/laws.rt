@@ -1,8 +1,8 @@
 // Laws over the definitions alone.
 
 ghost use Rattle.std.specs.Prelude.{◌≡◌, ◌≢◌, List, None, ℕ, Result};
-ghost use Rattle.http_plain.specs.declared.read.ReadEnd.{ReadEnd};
-ghost use Rattle.http_plain.specs.declared.request.Incoming.{Incoming};
+ghost use Rattle.http_messages.specs.declared.read.ReadEnd.{ReadEnd};
+ghost use Rattle.http_messages.specs.declared.request.Incoming.{Incoming};
 ghost use Rattle.http_plain.specs.Readings.{Reads};
 ghost use Rattle.fed_resolver.specs.Calls.{GaveAll};
 ghost use Rattle.fed_serve.specs.declared.node.Node.{Node as AnyNode};

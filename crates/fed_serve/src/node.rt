@@ -1,7 +1,7 @@
 // A node.
 
+use crate::part::ResolverPart;
 use authority_core::Registry;
-use resolver_answers::ResolverPart;
 
 /// A node: an entity that answers for itself and for its subordinates, and that resolves other entities where it has a part for that
 /// (OpenID Federation 1.0 section 1.2).

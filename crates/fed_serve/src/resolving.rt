@@ -4,51 +4,46 @@ ghost use Rattle.std.specs.Prelude.{◌≡◌, IfSome, is_some, true};
 ghost use Rattle.jws_form.specs.Compact.{IsCompact};
 ghost use Rattle.turn_log.specs.Groups.{known};
 ghost use Rattle.statement_shelf.specs.Passes.{IsPassOfAll};
-ghost use Rattle.resolve_pages.specs.Acts.{IsKept};
+ghost use Rattle.resolve_round.specs.Acts.{IsKept};
 ghost use Rattle.fed_resolver.specs.Calls.{GaveAll};
-ghost use Rattle.resolver_answers.specs.Resolutions.{call_at};
-ghost use Rattle.resolver_answers.specs.Rotations.{rotation_at};
+ghost use Rattle.fed_serve.specs.Resolutions.{call_at};
+ghost use Rattle.fed_serve.specs.Rotations.{rotation_at};
 ghost use Rattle.fed_serve.specs.Steps.{ChangesKeys, IsResolvedAnswer, ResolvesEntity};
 
 use crate::answer::{Answer, plain};
+use crate::context::Context;
 use crate::node::Node;
+use crate::resolution::{ResolveAnswer, answer_resolution};
+use crate::rotation::answer_rotation;
 use fed_base::{Ledger, Steps};
 use fed_ports::Link;
 use fed_resolver::ResolveRequest;
-use node_requests::{AnchorChange, Kind, Resolution};
-use resolver_answers::{KeyChange, ResolveAnswer, answer_resolution, answer_rotation};
+use node_requests::{AnchorChange, Kind};
 use statement_shelf::FedPass;
-use std::alloc::Global;
 use std::sync::Wait;
 use turn_log::Worn;
 
 /// What is answered where an entity is to be resolved. The node resolves.
 pub(crate) fn resolve_entity<R: Wait, L: Link, G: Ledger>(
     node: &Node,
-    rt: &R,
-    alloc: Global,
+    context: &Context<'_, R>,
     pass: &mut FedPass,
-    resolution: Resolution,
+    request: &ResolveRequest,
     link: &mut L,
-    t: u64,
     steps: &mut Steps<G>,
 ) -> Result<Answer, Worn>
     requires of { IfSome node.now.resolver (λ part. IsPassOfAll part.commons pass.old) }
     requires able { is_some node.now.resolver ≡ true }
     ensures kept { IfSome node.now.resolver (λ part. IsKept part.commons pass.old pass.new) }
-    ensures answer { ResolvesEntity node.now (GaveAll L.gave link.old link.new) t
+    ensures answer { ResolvesEntity node.now (GaveAll L.gave link.old link.new) context.now.t
         (call_at (known pass.old) (L.web link.old) (L.calls link.old) (L.link_faults link.old) (G.count steps.old.ledger))
         (call_at (known pass.new) (L.web link.new) (L.calls link.new) (L.link_faults link.new) (G.count steps.new.ledger))
-        resolution result }
+        request.now result }
 {
     let Some(part) = &node.resolver else {
         unreachable!()
     };
-    let Resolution { sub, anchor, types } = resolution;
-    let request = ResolveRequest { sub, anchor, types };
-    let answer = answer_resolution(part, rt, alloc, pass, &request, link, t, steps);
-    drop(request);
-    resolved(answer)
+    resolved(answer_resolution(part, context, pass, request, link, steps))
 }
 
 // The answer of a resolve call.
@@ -68,8 +63,7 @@ fn resolved(answer: Result<ResolveAnswer, Worn>) -> Result<Answer, Worn>
 /// What is answered where a trust anchor is to have other keys. The node resolves.
 pub(crate) fn change_keys<R: Wait, G: Ledger>(
     node: &Node,
-    rt: &R,
-    alloc: Global,
+    context: &Context<'_, R>,
     pass: &mut FedPass,
     change: AnchorChange,
     steps: &mut Steps<G>,
@@ -84,20 +78,7 @@ pub(crate) fn change_keys<R: Wait, G: Ledger>(
     let Some(part) = &node.resolver else {
         unreachable!()
     };
-    let AnchorChange {
-        body,
-        anchor,
-        epoch,
-        keys,
-    } = change;
-    let change = KeyChange {
-        anchor,
-        epoch,
-        keys,
-    };
-    let response = answer_rotation(part, rt, alloc, pass, &body, change, steps);
-    drop(body);
-    match response {
+    match answer_rotation(part, context, pass, change, steps) {
         Ok(response) => Ok(plain(Kind::AnchorKeys, response)),
         Err(worn) => Err(worn),
     }

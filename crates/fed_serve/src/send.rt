@@ -3,7 +3,7 @@
 ghost use Rattle.std.specs.Prelude.{◌≡◌, ◌≤◌, ℕ, length, take, OnErr, OnOk, IfOk};
 ghost use Rattle.fed_ports.specs.Bytes.{Appends};
 ghost use Rattle.fed_ports.specs.Causes.{HasCause};
-ghost use Rattle.http_plain.specs.declared.response.Response.{Response as Said};
+ghost use Rattle.http_messages.specs.declared.response.Response.{Response as Said};
 ghost use Rattle.http_plain.specs.Responses.{HasReason};
 ghost use Rattle.fed_serve.specs.Responses.{out_of_memory};
 ghost use Rattle.fed_serve.specs.Steps.{IsSaid, IsSent, Sends};

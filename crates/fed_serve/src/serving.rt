@@ -3,14 +3,15 @@
 ghost use Rattle.std.specs.Prelude.{◌≡◌, IfSome};
 ghost use Rattle.turn_log.specs.Groups.{known};
 ghost use Rattle.statement_shelf.specs.Passes.{IsPassOfAll};
-ghost use Rattle.resolve_pages.specs.Acts.{IsKept};
+ghost use Rattle.resolve_round.specs.Acts.{IsKept};
 ghost use Rattle.fed_resolver.specs.Calls.{GaveAll};
-ghost use Rattle.resolver_answers.specs.Resolutions.{call_at};
+ghost use Rattle.fed_serve.specs.Resolutions.{call_at};
 ghost use Rattle.fed_serve.specs.Moments.{around, clock_at, peer_at};
 ghost use Rattle.fed_serve.specs.Serving.{Serves};
 ghost use Rattle.fed_serve.specs.Steps.{IsReading};
 
 use crate::answer::answer_to;
+use crate::context::Context;
 use crate::node::Node;
 use crate::send::send_answer;
 use crate::served::Served;
@@ -109,7 +110,8 @@ pub(crate) fn serve_by<R: Wait, P: Peer, L: Link, C, S: TimeSource<C>, G: Ledger
 {
     let came = read(alloc, peer)?;
     let t = S::now(clock);
-    let answer = answer_to(node, rt, alloc, pass, &came, link, t, steps);
+    let context = Context { rt, alloc, t };
+    let answer = answer_to(node, &context, pass, &came, link, steps);
     drop(came);
     match answer {
         Ok(answer) => send_answer(alloc, peer, answer),

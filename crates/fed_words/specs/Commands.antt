@@ -1,4 +1,4 @@
--- The command that the words give.
+-- The command that the words behind its verb give.
 use Rattle.std.specs.Prelude.{ℕ, List, [], ◌∷◌, ◌==◌, ◌&&◌, ◌||◌, length, codes, bytes_eq, Option, Some, None, is_some, if◌then◌else◌}
 use Rattle.std.specs.Option.{option_and_then}
 use Rattle.base64url.specs.Base64url.{decoded_32}
@@ -72,18 +72,3 @@ check_of words =
     if length words == 4 || (length words == 6 && is_some (moment_in (codes "--at") words))
     then check_with (option_and_then identifier_of (option_in (codes "--anchor") words)) (option_in (codes "--keys") words) (moment_in (codes "--at") words)
     else Faulty
-
--- the words behind the first one, which is the command
-unfoldable pub verb_of : List ℕ → List (List ℕ) → Command
-verb_of verb words =
-    if bytes_eq verb (codes "verify") then verify_of words
-    else (if bytes_eq verb (codes "keygen") then keygen_of words
-    else (if bytes_eq verb (codes "issue") then issue_of words
-    else (if bytes_eq verb (codes "rotate") then rotate_of words
-    else (if bytes_eq verb (codes "check") then check_of words
-    else flag_of verb words))))
-
--- the words after the program's name
-unfoldable pub command_of : List (List ℕ) → Command
-command_of [] = Faulty
-command_of (verb ∷ words) = verb_of verb words

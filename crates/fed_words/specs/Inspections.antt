@@ -1,6 +1,6 @@
--- What the words ask to be shown.
-use Rattle.std.specs.Prelude.{ℕ, List, [], ◌∷◌, ◌==◌, ◌&&◌, ◌||◌, length, codes, bytes_eq, Option, Some, None, option_map, is_some, if◌then◌else◌}
-use Rattle.fed_help.specs.Topics.{topic_of}
+-- What the words behind a verb ask to be shown.
+use Rattle.std.specs.Prelude.{ℕ, List, [], ◌∷◌, ◌==◌, ◌&&◌, ◌||◌, length, codes, Option, Some, None, option_map, is_some, if◌then◌else◌}
+use Rattle.fed_help.specs.Verbs.{verb_of}
 use Rattle.fed_words.specs.Options.{option_in, moment_in}
 use Rattle.fed_words.specs.declared.inspection.Inspection.{Inspection}
 use Rattle.fed_words.specs.declared.inspection.Inspection.TheVariants.{Public, Show, Config, Help}
@@ -27,15 +27,5 @@ config_of words =
 -- how one command is called
 unfoldable pub help_of : List (List ℕ) → Option Inspection
 help_of [] = None
-help_of (word ∷ []) = option_map Help (topic_of word)
+help_of (word ∷ []) = option_map Help (verb_of word)
 help_of (word ∷ next ∷ words) = None
-
--- the words after the program's name
-unfoldable pub inspection_of : List (List ℕ) → Option Inspection
-inspection_of [] = None
-inspection_of (verb ∷ words) =
-    if bytes_eq verb (codes "public") then public_of words
-    else (if bytes_eq verb (codes "show") then show_of words
-    else (if bytes_eq verb (codes "check-config") then config_of words
-    else (if bytes_eq verb (codes "help") then help_of words
-    else None)))

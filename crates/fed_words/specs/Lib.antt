@@ -1,4 +1,5 @@
 pub mod Acts
+pub mod Calls
 pub mod Commands
 pub mod Inspections
 pub mod Options

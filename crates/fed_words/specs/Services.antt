@@ -1,11 +1,10 @@
--- What the words ask for over a network: to answer others, or to resolve an entity; or over one in memory.
-use Rattle.std.specs.Prelude.{ℕ, List, [], ◌∷◌, ◌==◌, length, codes, bytes_eq, Option, Some, None, option_map, if◌then◌else◌}
+-- What the words behind a verb ask for over a network: to answer others, or to resolve an entity; or over one in memory.
+use Rattle.std.specs.Prelude.{ℕ, List, ◌==◌, length, codes, Option, Some, None, if◌then◌else◌}
 use Rattle.std.specs.Option.{option_and_then}
 use Rattle.entity_id.specs.Identifiers.{identifier_of}
 use Rattle.fed_words.specs.Options.{count_in, option_in}
-use Rattle.fed_words.specs.Rehearsals.{rehearsal_of}
 use Rattle.fed_words.specs.declared.service.Service.{Service}
-use Rattle.fed_words.specs.declared.service.Service.TheVariants.{Authority, Rehearse, Resolve, Resolver}
+use Rattle.fed_words.specs.declared.service.Service.TheVariants.{Authority, Resolve, Resolver}
 
 -- the service, where the file and both numbers are there
 abbrev pub authority_with : Option (List ℕ) → Option ℕ → Option ℕ → Option Service
@@ -51,13 +50,3 @@ resolve_of words =
     if length words == 6
     then resolve_with (option_in (codes "--config") words) (identifier_in (codes "--sub") words) (identifier_in (codes "--anchor") words)
     else None
-
--- the words after the program's name
-unfoldable pub service_of : List (List ℕ) → Option Service
-service_of [] = None
-service_of (verb ∷ words) =
-    if bytes_eq verb (codes "authority") then authority_of words
-    else (if bytes_eq verb (codes "resolver") then resolver_of words
-    else (if bytes_eq verb (codes "resolve") then resolve_of words
-    else (if bytes_eq verb (codes "rehearse") then option_map Rehearse (rehearsal_of words)
-    else None)))

@@ -1,11 +1,11 @@
-// The command line.
+// Commands that read, write and end.
 
 ghost use Rattle.std.specs.Prelude.{◌≡◌, IfOk, codes};
 ghost use Rattle.std.specs.Option.{option_and_then};
 ghost use Rattle.fed_words.specs.TextTypes.{type_of};
 ghost use Rattle.fed_words.specs.declared.command.Command.TheVariants.{Check};
 ghost use Rattle.fed_words.specs.Options.{option_in};
-ghost use Rattle.fed_words.specs.Commands.{command_of, verb_of, verify_of, keygen_of, issue_of, rotate_of, check_of, flag_of};
+ghost use Rattle.fed_words.specs.Commands.{verify_of, keygen_of, issue_of, rotate_of, check_of, flag_of};
 
 use crate::act::{Act, read_act};
 use crate::moment::Moment;
@@ -16,7 +16,7 @@ use entity_id::EntityId;
 use fed_base::{Duplicate, Memory, Text};
 use std::alloc::Global;
 
-/// What the words ask for.
+/// What is to be read, written and kept.
 #[derive(Drop)]
 pub enum Command {
     /// `verify PUB`: check one entity configuration under this public key.
@@ -51,38 +51,9 @@ pub enum Command {
     Faulty,
 }
 
-/// The command that the words after the program's name give.
-#[tactic(auto, unfolding(crate::specs::Commands::command_of))]
-pub fn read_command(alloc: Global, words: &[Text]) -> Result<Command, Memory>
-    ensures { IfOk result (λ c. c ≡ command_of words.now) }
-{
-    match words {
-        [] => Ok(Command::Faulty),
-        [verb, rest @ ..] => read_verb(alloc, verb.as_slice(), rest),
-    }
-}
-
-#[tactic(auto, unfolding(crate::specs::Commands::verb_of))]
-fn read_verb(alloc: Global, verb: &[u8], rest: &[Text]) -> Result<Command, Memory>
-    ensures { IfOk result (λ c. c ≡ verb_of verb.now rest.now) }
-{
-    if verb == b"verify".as_slice() {
-        Ok(read_verify(rest))
-    } else if verb == b"keygen".as_slice() {
-        read_keygen(alloc, rest)
-    } else if verb == b"issue".as_slice() {
-        read_issue(alloc, rest)
-    } else if verb == b"rotate".as_slice() {
-        read_rotate(alloc, rest)
-    } else if verb == b"check".as_slice() {
-        read_check(alloc, rest)
-    } else {
-        Ok(read_flag(verb, rest))
-    }
-}
-
+/// The flag, which stands alone.
 #[tactic(auto, unfolding(crate::specs::Commands::flag_of))]
-fn read_flag(verb: &[u8], rest: &[Text]) -> Command
+pub(crate) fn read_flag(verb: &[u8], rest: &[Text]) -> Command
     ensures { result ≡ flag_of verb.now rest.now }
 {
     if !rest.is_empty() {
@@ -96,8 +67,9 @@ fn read_flag(verb: &[u8], rest: &[Text]) -> Command
     }
 }
 
+/// The command behind `verify`.
 #[tactic(auto, unfolding(crate::specs::Commands::verify_of))]
-fn read_verify(rest: &[Text]) -> Command
+pub(crate) fn read_verify(rest: &[Text]) -> Command
     ensures { result ≡ verify_of rest.now }
 {
     let [word] = rest else {
@@ -109,8 +81,9 @@ fn read_verify(rest: &[Text]) -> Command
     }
 }
 
+/// The command behind `keygen`.
 #[tactic(auto, unfolding(crate::specs::Commands::keygen_of))]
-fn read_keygen(alloc: Global, rest: &[Text]) -> Result<Command, Memory>
+pub(crate) fn read_keygen(alloc: Global, rest: &[Text]) -> Result<Command, Memory>
     ensures { IfOk result (λ c. c ≡ keygen_of rest.now) }
 {
     match (
@@ -127,8 +100,9 @@ fn read_keygen(alloc: Global, rest: &[Text]) -> Result<Command, Memory>
     }
 }
 
+/// The command behind `issue`.
 #[tactic(auto, unfolding(crate::specs::Commands::issue_of))]
-fn read_issue(alloc: Global, rest: &[Text]) -> Result<Command, Memory>
+pub(crate) fn read_issue(alloc: Global, rest: &[Text]) -> Result<Command, Memory>
     ensures { IfOk result (λ c. c ≡ issue_of rest.now) }
 {
     if rest.len() != 4 {
@@ -153,8 +127,9 @@ fn type_in(rest: &[Text]) -> Option<TextType>
     }
 }
 
+/// The command behind `rotate`.
 #[tactic(auto, unfolding(crate::specs::Commands::rotate_of))]
-fn read_rotate(alloc: Global, rest: &[Text]) -> Result<Command, Memory>
+pub(crate) fn read_rotate(alloc: Global, rest: &[Text]) -> Result<Command, Memory>
     ensures { IfOk result (λ c. c ≡ rotate_of rest.now) }
 {
     let Some(ring_file) = option_in(rest, b"--ring") else {
@@ -169,8 +144,9 @@ fn read_rotate(alloc: Global, rest: &[Text]) -> Result<Command, Memory>
     }
 }
 
+/// The command behind `check`.
 #[tactic(auto, unfolding(crate::specs::Commands::check_of))]
-fn read_check(alloc: Global, rest: &[Text]) -> Result<Command, Memory>
+pub(crate) fn read_check(alloc: Global, rest: &[Text]) -> Result<Command, Memory>
     ensures { IfOk result (λ c. c ≡ check_of rest.now) }
 {
     let at = moment_in(rest, b"--at");

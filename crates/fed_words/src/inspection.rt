@@ -2,12 +2,12 @@
 
 ghost use Rattle.std.specs.Prelude.{◌≡◌, IfOk};
 ghost use Rattle.std.specs.Option.{option_copied};
-ghost use Rattle.fed_words.specs.Inspections.{config_of, help_of, inspection_of, public_of, show_of};
+ghost use Rattle.fed_words.specs.Inspections.{config_of, help_of, public_of, show_of};
 
 use crate::moment::Moment;
 use crate::options::{moment_in, option_in};
 use fed_base::{Duplicate, Memory, Text};
-use fed_help::Topic;
+use fed_help::Verb;
 use std::alloc::Global;
 
 /// What is to be shown.
@@ -26,32 +26,12 @@ pub enum Inspection {
         at: Option<Moment>,
     },
     /// `help COMMAND`: how a command is called.
-    Help(Topic),
+    Help(Verb),
 }
 
-/// What the words after the program's name ask to be shown, or `None` where they ask for something else or for nothing.
-#[tactic(auto, unfolding(crate::specs::Inspections::inspection_of))]
-pub fn read_inspection(alloc: Global, words: &[Text]) -> Result<Option<Inspection>, Memory>
-    ensures { IfOk result (λ inspection. inspection ≡ inspection_of words.now) }
-{
-    let Some((verb, rest)) = words.split_first() else {
-        return Ok(None);
-    };
-    if verb.as_slice() == b"public".as_slice() {
-        read_public(alloc, rest)
-    } else if verb.as_slice() == b"show".as_slice() {
-        Ok(read_show(rest))
-    } else if verb.as_slice() == b"check-config".as_slice() {
-        read_config(alloc, rest)
-    } else if verb.as_slice() == b"help".as_slice() {
-        Ok(read_help(rest))
-    } else {
-        Ok(None)
-    }
-}
-
+/// What is to be shown behind `public`, or `None` where the words aren't of its form.
 #[tactic(auto, unfolding(crate::specs::Inspections::public_of))]
-fn read_public(alloc: Global, rest: &[Text]) -> Result<Option<Inspection>, Memory>
+pub(crate) fn read_public(alloc: Global, rest: &[Text]) -> Result<Option<Inspection>, Memory>
     ensures { IfOk result (λ inspection. inspection ≡ public_of rest.now) }
 {
     let kid = option_in(rest, b"--kid");
@@ -77,8 +57,9 @@ fn copied(alloc: Global, value: Option<&Text>) -> Result<Option<Text>, Memory>
     }
 }
 
+/// The same behind `show`.
 #[tactic(auto, unfolding(crate::specs::Inspections::show_of))]
-fn read_show(rest: &[Text]) -> Option<Inspection>
+pub(crate) fn read_show(rest: &[Text]) -> Option<Inspection>
     ensures { result ≡ show_of rest.now }
 {
     match rest {
@@ -87,8 +68,9 @@ fn read_show(rest: &[Text]) -> Option<Inspection>
     }
 }
 
+/// The same behind `check-config`.
 #[tactic(auto, unfolding(crate::specs::Inspections::config_of))]
-fn read_config(alloc: Global, rest: &[Text]) -> Result<Option<Inspection>, Memory>
+pub(crate) fn read_config(alloc: Global, rest: &[Text]) -> Result<Option<Inspection>, Memory>
     ensures { IfOk result (λ inspection. inspection ≡ config_of rest.now) }
 {
     let at = moment_in(rest, b"--at");
@@ -104,15 +86,16 @@ fn read_config(alloc: Global, rest: &[Text]) -> Result<Option<Inspection>, Memor
     }
 }
 
+/// The same behind `help`.
 #[tactic(auto, unfolding(crate::specs::Inspections::help_of))]
-fn read_help(rest: &[Text]) -> Option<Inspection>
+pub(crate) fn read_help(rest: &[Text]) -> Option<Inspection>
     ensures { result ≡ help_of rest.now }
 {
     let [word] = rest else {
         return None;
     };
-    match Topic::of(word.as_slice()) {
-        Some(topic) => Some(Inspection::Help(topic)),
+    match Verb::of_word(word.as_slice()) {
+        Some(verb) => Some(Inspection::Help(verb)),
         None => None,
     }
 }

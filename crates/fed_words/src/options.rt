@@ -45,7 +45,7 @@ pub fn count_in(words: &[Text], name: &[u8], most: u64) -> Option<u64>
 }
 
 /// The number of these decimal digits, from 1 up to the most that it may be.
-pub(crate) fn count_of(word: &[u8], most: u64) -> Option<u64>
+pub fn count_of(word: &[u8], most: u64) -> Option<u64>
     ensures number { result ≡ count_of most word.now }
     ensures within { IfSome result (λ n. (1 ≤ n) × (n ≤ most)) }
 {
@@ -58,7 +58,7 @@ pub(crate) fn count_of(word: &[u8], most: u64) -> Option<u64>
 }
 
 /// The moment of these decimal digits, without sign and without a leading zero, below 2^62.
-pub(crate) fn moment_of(word: &[u8]) -> Option<Moment>
+pub fn moment_of(word: &[u8]) -> Option<Moment>
     ensures { result ≡ number_of word.now }
 {
     Some(Moment::of(number_of(word)?))

@@ -22,7 +22,7 @@ pub(crate) fn params_in(words: &[Text]) -> Option<u64>
 }
 
 /// The number of these decimal digits, from 0 to 200.
-pub(crate) fn params_of(word: &[u8]) -> Option<u64>
+pub fn params_of(word: &[u8]) -> Option<u64>
     ensures { result ≡ params_of word.now }
 {
     let number = number_of(word)?;

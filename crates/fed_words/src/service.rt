@@ -2,7 +2,7 @@
 
 ghost use Rattle.std.specs.Prelude.{◌≡◌, IfOk, Some, codes, option_map};
 ghost use Rattle.fed_words.specs.Rehearsals.{rehearsal_of};
-ghost use Rattle.fed_words.specs.Services.{authority_of, identifier_in, resolve_of, resolve_with, resolver_of, service_of};
+ghost use Rattle.fed_words.specs.Services.{authority_of, identifier_in, resolve_of, resolve_with, resolver_of};
 ghost use Rattle.fed_words.specs.declared.service.Service.TheVariants.{Rehearse, Resolve};
 
 use crate::options::{count_in, option_in};
@@ -12,10 +12,10 @@ use fed_base::{Duplicate, Memory, Text};
 use std::alloc::Global;
 
 /// The most connections that a service answers.
-pub(crate) const CONNECTIONS: u64 = 1_000_000;
+pub const CONNECTIONS: u64 = 1_000_000;
 
 /// The greatest port.
-pub(crate) const PORTS: u64 = 65_535;
+pub const PORTS: u64 = 65_535;
 
 /// What is to be done over a network, or over one in memory.
 #[derive(Drop)]
@@ -50,36 +50,17 @@ pub enum Service {
     },
 }
 
-/// What the words after the program's name ask for over a network, or `None` where they ask for no such thing.
-#[tactic(auto, unfolding(crate::specs::Services::service_of))]
-pub fn read_service(alloc: Global, words: &[Text]) -> Result<Option<Service>, Memory>
-    ensures service { IfOk result (λ service. service ≡ service_of words.now) }
-{
-    let Some((verb, rest)) = words.split_first() else {
-        return Ok(None);
-    };
-    if verb.as_slice() == b"authority".as_slice() {
-        read_authority(alloc, rest)
-    } else if verb.as_slice() == b"resolver".as_slice() {
-        read_resolver(alloc, rest)
-    } else if verb.as_slice() == b"resolve".as_slice() {
-        read_resolve(alloc, rest)
-    } else if verb.as_slice() == b"rehearse".as_slice() {
-        Ok(read_rehearsal(rest))
-    } else {
-        Ok(None)
-    }
-}
-
-fn read_rehearsal(rest: &[Text]) -> Option<Service>
+/// What is to be done behind `rehearse`, or `None` where the words aren't of its form.
+pub(crate) fn read_rehearsal(rest: &[Text]) -> Option<Service>
     ensures { result ≡ option_map Rehearse (rehearsal_of rest.now) }
 {
     let params = params_in(rest)?;
     Some(Service::Rehearse { params })
 }
 
+/// The same behind `authority`.
 #[tactic(auto, unfolding(crate::specs::Services::authority_of))]
-fn read_authority(alloc: Global, rest: &[Text]) -> Result<Option<Service>, Memory>
+pub(crate) fn read_authority(alloc: Global, rest: &[Text]) -> Result<Option<Service>, Memory>
     ensures service { IfOk result (λ service. service ≡ authority_of rest.now) }
 {
     match (
@@ -98,8 +79,9 @@ fn read_authority(alloc: Global, rest: &[Text]) -> Result<Option<Service>, Memor
     }
 }
 
+/// The same behind `resolver`.
 #[tactic(auto, unfolding(crate::specs::Services::resolver_of))]
-fn read_resolver(alloc: Global, rest: &[Text]) -> Result<Option<Service>, Memory>
+pub(crate) fn read_resolver(alloc: Global, rest: &[Text]) -> Result<Option<Service>, Memory>
     ensures service { IfOk result (λ service. service ≡ resolver_of rest.now) }
 {
     if rest.len() != 6 {
@@ -117,8 +99,9 @@ fn read_resolver(alloc: Global, rest: &[Text]) -> Result<Option<Service>, Memory
     }
 }
 
+/// The same behind `resolve`.
 #[tactic(auto, unfolding(crate::specs::Services::resolve_of))]
-fn read_resolve(alloc: Global, rest: &[Text]) -> Result<Option<Service>, Memory>
+pub(crate) fn read_resolve(alloc: Global, rest: &[Text]) -> Result<Option<Service>, Memory>
     ensures { IfOk result (λ service. service ≡ resolve_of rest.now) }
 {
     match option_in(rest, b"--config") {

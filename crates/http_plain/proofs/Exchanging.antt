@@ -5,11 +5,11 @@ use Rattle.fed_ports.specs.Exchanges.{Exchange, Changed, change_last, fresh, wit
 use Rattle.fed_ports.specs.Lists.{Added}
 use Rattle.fed_ports.specs.declared.address.Address.{Address}
 use Rattle.fed_ports.specs.declared.page.Page.{Page}
-use Rattle.http_plain.specs.declared.inflow.Break.{Break}
+use Rattle.http_messages.specs.declared.inflow.Break.{Break}
 use Rattle.http_plain.specs.declared.route.Route.{Route}
-use Rattle.http_plain.specs.Asked.{AsksPart, SentPart, asked_of, asking}
+use Rattle.http_messages.specs.Asked.{AsksPart, SentPart, asked_of, asking}
 use Rattle.http_plain.specs.ExchangeLaws.{changed_same, changed_on}
-use Rattle.http_plain.specs.Flows.{BreakCause}
+use Rattle.http_messages.specs.Flows.{BreakCause}
 use Rattle.http_plain.specs.Links.{AddsExchange, Answers, Gets, Leaves}
 use Rattle.http_plain.specs.Plans.{SaysTarget}
 use Rattle.http_plain.specs.Shown.{Shows}

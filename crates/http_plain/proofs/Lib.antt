@@ -1,9 +1,4 @@
-pub mod Appending
-pub mod Ends
 pub mod Exchanging
 pub mod Pages
 pub mod Showing
-pub mod Sizes
-pub mod Takings
-pub mod Texts
 pub mod WebUrls

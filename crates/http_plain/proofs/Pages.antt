@@ -11,9 +11,9 @@ use Rattle.http_plain.specs.declared.form.Form.{Form}
 use Rattle.http_plain.specs.declared.form.Form.TheVariants.{Bad, Refused, Sized, Chunked as InChunks, ToEnd}
 use Rattle.http_plain.specs.declared.route.Route.{Route}
 use Rattle.http_plain.specs.Clients.{ClientPage}
-use Rattle.http_plain.specs.Heads.{BeginsWithHead}
+use Rattle.http_messages.specs.Heads.{BeginsWithHead}
 use Rattle.http_plain.specs.Pages.{IsAnswerHead, IsForm, IsBodyPage, IsPage, chunked_page, form_by}
-use Rattle.http_plain.proofs.Texts.{back_of, no_head, one_head}
+use Rattle.http_messages.proofs.Texts.{back_of, no_head, one_head}
 
 one_answer_head : (text : List ℕ) (h k : ResponseHead) → IsAnswerHead text h → IsAnswerHead text k → h ≡ k
 one_answer_head text h k a b = (response_unique text h k [] [] a.reads b.reads).0

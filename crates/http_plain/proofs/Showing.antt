@@ -11,13 +11,13 @@ use Rattle.fed_ports.specs.declared.page.Page.{Page}
 use Rattle.fed_ports.specs.declared.page.Page.TheVariants.{Garbled}
 use Rattle.http_plain.specs.declared.form.Form.{Form}
 use Rattle.http_plain.specs.declared.form.Form.TheVariants.{Chunked as InChunks}
-use Rattle.http_plain.specs.declared.inflow.Break.{Break}
-use Rattle.http_plain.specs.Heads.{head_end, head_limit}
-use Rattle.http_plain.specs.Flows.{HeadComes}
+use Rattle.http_messages.specs.declared.inflow.Break.{Break}
+use Rattle.http_messages.specs.Heads.{head_end, head_limit}
+use Rattle.http_messages.specs.Flows.{HeadComes}
 use Rattle.http_plain.specs.Pages.{IsForm, IsBodyPage, chunked_page, chunks_limit, piece_limit}
 use Rattle.http_plain.specs.Shown.{Shows, ShowsBody, ShowsRest}
-use Rattle.http_plain.proofs.Ends.{end_inside}
-use Rattle.http_plain.proofs.Takings.{begins}
+use Rattle.http_messages.proofs.Ends.{end_inside}
+use Rattle.http_messages.proofs.Takings.{begins}
 
 pub no_head : (flow : List ℕ → Bool → Type 0) (text : List ℕ) → HeadComes flow text None → Shows flow Garbled
 no_head flow text h = record {

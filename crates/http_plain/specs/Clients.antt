@@ -12,7 +12,7 @@ use Rattle.url.specs.Parser.{parse_url}
 use Rattle.url.specs.Parts.{Parts, nonempty_host, text_between}
 use Rattle.http_plain.specs.declared.route.Route.{Route}
 use Rattle.http_plain.specs.Pages.{IsPage, answer_limit}
-use Rattle.http_plain.specs.Responses.{crlf}
+use Rattle.http_messages.specs.Responses.{crlf}
 
 -- the scheme is one of the web (RFC 9110 section 4.2)
 abbrev pub is_web : Parts → Bool

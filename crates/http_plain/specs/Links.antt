@@ -9,7 +9,7 @@ use Rattle.fed_ports.specs.Lists.{Added}
 use Rattle.http_plain.specs.declared.link.HttpLink.{HttpLink}
 use Rattle.http_plain.specs.declared.route.Route.{Route}
 use Rattle.url.specs.Parts.{Parts}
-use Rattle.http_plain.specs.Asked.{AsksPart}
+use Rattle.http_messages.specs.Asked.{AsksPart}
 use Rattle.http_plain.specs.Clients.{ClientPage, HasNoRoute, address_of, message_of, url_in}
 use Rattle.http_plain.specs.Pages.{IsPage, answer_limit}
 

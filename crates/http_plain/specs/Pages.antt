@@ -11,8 +11,8 @@ use Rattle.httparse.specs.Spans.{name_and_value}
 use Rattle.httparse.specs.Grammar.{ResponseHead, ReadsResponse, status_code}
 use Rattle.http_plain.specs.declared.form.Form.{Form}
 use Rattle.http_plain.specs.declared.form.Form.TheVariants.{Bad, Refused, Sized, Chunked as InChunks, ToEnd}
-use Rattle.http_plain.specs.Fields.{Line, values_named, stated}
-use Rattle.http_plain.specs.Heads.{head_limit, line_limit, HasNoHead, BeginsWithHead}
+use Rattle.http_messages.specs.Fields.{Line, values_named, stated}
+use Rattle.http_messages.specs.Heads.{head_limit, line_limit, HasNoHead, BeginsWithHead}
 
 -- how many bytes of an answer are asked for at once
 abbrev pub piece_limit : ℕ

@@ -5,7 +5,7 @@ use Rattle.chunked_body.specs.Readers.{HasRead, is_over, room_of}
 use Rattle.fed_ports.specs.declared.page.Page.{Page}
 use Rattle.http_plain.specs.declared.form.Form.{Form}
 use Rattle.http_plain.specs.declared.form.Form.TheVariants.{Chunked}
-use Rattle.http_plain.specs.Heads.{head_limit}
+use Rattle.http_messages.specs.Heads.{head_limit}
 use Rattle.http_plain.specs.Pages.{IsPage, IsBodyPage, answer_limit, chunks_limit, piece_limit}
 
 -- what came is that page

@@ -3,14 +3,14 @@
 ghost use Rattle.std.specs.Prelude.{◌≡◌, IfOk, OnOk, OnErr};
 ghost use Rattle.fed_ports.specs.Causes.{HasCause};
 ghost use Rattle.fed_ports.specs.Exchanges.{Changed, with_sent};
-ghost use Rattle.http_plain.specs.Flows.{BreakCause};
-ghost use Rattle.http_plain.specs.Asked.{AsksPart, SentPart};
+ghost use Rattle.http_messages.specs.Flows.{BreakCause};
+ghost use Rattle.http_messages.specs.Asked.{AsksPart, SentPart};
 ghost use Rattle.http_plain.specs.Links.{AddsExchange, Answers};
 
-use crate::inflow::Break;
 use crate::networks::Wire;
 use crate::page::read_page;
 use fed_ports::{Address, Failed, Page};
+use http_messages::Break;
 use std::alloc::Global;
 
 // Sends the whole message.

@@ -3,13 +3,13 @@
 ghost use Rattle.std.specs.Prelude.{◌≡◌, length, map, All, codes};
 ghost use Rattle.std.specs.Char.{to_ascii_lowercase};
 ghost use Rattle.httparse.specs.Spans.{IsHeaderWithin, header_bytes};
-ghost use Rattle.http_plain.specs.Fields.{values_named};
-ghost use Rattle.http_plain.specs.Heads.{line_limit};
+ghost use Rattle.http_messages.specs.Fields.{values_named};
+ghost use Rattle.http_messages.specs.Heads.{line_limit};
 ghost use Rattle.http_plain.specs.Pages.{all_are, chunked_by, framed, framing, IsForm};
-ghost use Rattle.http_plain.specs.Plans.{IsAnswerHeading, stated_view};
+ghost use Rattle.http_messages.specs.Plans.{stated_view};
+ghost use Rattle.http_plain.specs.Plans.{IsAnswerHeading};
 
-use crate::fields::{Found, Stated, content_length, find, is_name};
-use crate::heads::LINE_LIMIT;
+use http_messages::{Found, LINE_LIMIT, Stated, content_length, find, is_name};
 use httparse::Status;
 use httparse::spans::{EMPTY_HEADER_SPAN, HeaderSpan, ResponseSpans, parse_response};
 

@@ -6,11 +6,11 @@ ghost use Rattle.fed_ports.specs.Webs.{HasLinkCause, Serves};
 ghost use Rattle.http_plain.specs.Links.{GotOrLeft, Gets, Leaves, link_calls, link_network, link_routes, listening};
 
 use crate::exchange::exchange;
-use crate::inflow::Break;
 use crate::networks::Connection;
 use crate::route::Route;
 use crate::target::target_of;
 use fed_ports::{Link, LinkFault, Network, Page, Seq, Text};
+use http_messages::Break;
 use std::alloc::Global;
 
 /// A client of HTTP/1.1 (RFC 9110, RFC 9112), as a link: each call opens a connection, sends one GET, reads its answer and shuts the

@@ -4,11 +4,11 @@ ghost use Rattle.std.specs.Prelude.{◌≡◌, ◌≤◌, ◌<◌, ◌∷◌, �
 ghost use Rattle.fed_ports.specs.Causes.{HasCause};
 ghost use Rattle.fed_ports.specs.Exchanges.{Exchange, Changed, fresh, with_received, with_sent};
 ghost use Rattle.fed_ports.specs.Lists.{Added};
-ghost use Rattle.http_plain.specs.Asked.{asked_of, AsksPart};
+ghost use Rattle.http_messages.specs.Asked.{asked_of, AsksPart};
 ghost use Rattle.http_plain.specs.Links.{Listening, listening};
 
-use crate::inflow::Inflow;
 use fed_ports::{Address, Failed, Network};
+use http_messages::Inflow;
 
 // How a connection of a network is used: without the bound `Send` of `Network`, which a method of an `impl` can't pass on.
 pub(crate) trait Wire<T>: Inflow<T> {

@@ -1,16 +1,16 @@
 // Reading the page of an answer.
 
 ghost use Rattle.std.specs.Prelude.{◌≡◌, ◌<◌, ◌≤◌, ℕ, false, length, IfOk, MatchResult};
-ghost use Rattle.http_plain.specs.Flows.{BreakCause};
-ghost use Rattle.http_plain.specs.Asked.{asked_of};
+ghost use Rattle.http_messages.specs.Flows.{BreakCause};
+ghost use Rattle.http_messages.specs.Asked.{asked_of};
 ghost use Rattle.http_plain.specs.Pages.{chunked_page, piece_limit};
-ghost use Rattle.http_plain.specs.Heads.{head_limit};
+ghost use Rattle.http_messages.specs.Heads.{head_limit};
 ghost use Rattle.http_plain.specs.Shown.{HasHead, Reaches, Shows, ShowsBody, ShowsRest, TakesRoom};
 
 use crate::form::{Form, form_of};
-use crate::inflow::{Break, Inflow, pour_head, pour_to};
 use chunked_body::{ChunkReader, Chunked};
 use fed_ports::{Failed, Memory, Page, Text};
+use http_messages::{Break, Inflow, pour_head, pour_to};
 use std::alloc::Global;
 
 const PAGE_LIMIT: u64 = 262_144;

@@ -5,3 +5,4 @@ pub mod Lasting
 pub mod Readings
 pub mod Rings
 pub mod Sets
+pub mod Terms

@@ -18,6 +18,7 @@ pub enum RevokeReason {
 
 impl RevokeReason {
     ghost use Rattle.std.specs.Prelude.{◌≡◌};
+    ghost use Rattle.key_ring.specs.Files.{reason_word};
     ghost use Rattle.key_ring.specs.Readings.{reason_in};
 
     /// The reason of a word, `unspecified`, `compromised` or `superseded`, or `None`.
@@ -32,6 +33,17 @@ impl RevokeReason {
             Some(RevokeReason::Superseded)
         } else {
             None
+        }
+    }
+
+    /// The word of the reason, which [`RevokeReason::of_word`] reads.
+    pub fn word(self) -> &'static [u8]
+        ensures { result.now ≡ reason_word self }
+    {
+        match self {
+            RevokeReason::Unspecified => b"unspecified",
+            RevokeReason::Compromised => b"compromised",
+            RevokeReason::Superseded => b"superseded",
         }
     }
 }

@@ -3,8 +3,8 @@
 //!
 //! A ring is a list of keys, newest first, each live, retired or revoked. The newest live key signs. A change is kept in the store before
 //! the ring changes. The crates above open a ring's file, sign by [`KeyRing::signer`], publish [`KeyRing::live_set`] and
-//! [`KeyRing::historical`], test old marks under [`KeyRing::kept_set`], and change rings by [`KeyRing::rotate`], [`KeyRing::retire`] and
-//! [`KeyRing::revoke`].
+//! [`KeyRing::historical`], test old marks under [`KeyRing::kept_set`], tell of a ring by [`KeyRing::terms`], which have no seeds, and
+//! change rings by [`KeyRing::rotate`], [`KeyRing::retire`] and [`KeyRing::revoke`].
 #![tactic(auto)]
 
 mod changing;
@@ -16,10 +16,13 @@ mod laws;
 mod reading;
 mod ring;
 mod sets;
+mod term;
 mod writing;
 
 pub use fault::{OrderFault, RingFault};
 pub use first::first_file;
 pub use key::{KeyState, RevokeReason, RingKey};
 pub use laws::{changes, files};
+pub use reading::moment_at;
 pub use ring::KeyRing;
+pub use term::KeyTerm;

@@ -166,7 +166,8 @@ fn seeds_at(members: &[Member]) -> Option<[u8; 48]>
     }
 }
 
-fn moment_at(members: &[Member], name: &[u8]) -> Option<u64>
+/// The moment under that name in the members of an object, in seconds since 1970 and below 2^62.
+pub fn moment_at(members: &[Member], name: &[u8]) -> Option<u64>
     ensures moment { result ≡ moment_at name.now members.now }
     ensures small { IfSome result (λ moment. moment < moment_limit) }
 {

@@ -1,17 +1,19 @@
 // Rings of keys.
 
-ghost use Rattle.std.specs.Prelude.{◌≡◌, IfOk, Some};
+ghost use Rattle.std.specs.Prelude.{◌≡◌, IfOk, Some, map};
 ghost use Rattle.fed_json.specs.Forms.{IsWhole};
 ghost use Rattle.fed_json.specs.declared.tree.Json.{List as ListOf};
 ghost use Rattle.key_ring.specs.Files.{Joins, Opens, OpensKeys};
 ghost use Rattle.key_ring.specs.Rings.{HasForm};
 ghost use Rattle.key_ring.specs.Sets.{IsNamedIn, historical_keys, kept_set, live_set, signer_seeds};
+ghost use Rattle.key_ring.specs.Terms.{term_of};
 
 use crate::fault::RingFault;
 use crate::held::{HeldKey, first_live, has_key};
 use crate::key::RingKey;
 use crate::reading::read_keys;
 use crate::sets::{historical_keys, own_keys};
+use crate::term::{KeyTerm, terms_of};
 use fed_base::{Duplicate, Memory, Seq};
 use fed_json::Json;
 use jwk_set::JwkSet;
@@ -81,6 +83,13 @@ impl KeyRing {
         ensures whole { IfOk result IsWhole }
     {
         historical_keys(alloc, self.keys.as_slice())
+    }
+
+    /// The keys without their seeds, newest first.
+    pub fn terms(&self, alloc: Global) -> Result<Seq<KeyTerm>, Memory>
+        ensures { IfOk result (λ terms. terms ≡ map term_of self.now) }
+    {
+        terms_of(alloc, self.keys.as_slice())
     }
 }
 

@@ -6,7 +6,7 @@ ghost use Rattle.fed_json.specs.declared.tree.Json.{Object};
 ghost use Rattle.fed_json.specs.Forms.{IsWhole, nesting};
 ghost use Rattle.fed_json.specs.Members.{text_member};
 ghost use Rattle.fed_json.specs.Reading.{member_of};
-ghost use Rattle.key_ring.specs.Files.{IsRingFile, key_tree, number_member, reason_word, revocation_tree, ring_text, ring_tree, state_tree};
+ghost use Rattle.key_ring.specs.Files.{IsRingFile, key_tree, number_member, revocation_tree, ring_text, ring_tree, state_tree};
 ghost use Rattle.key_ring.specs.Rings.{HasForm};
 
 use crate::key::{KeyState, RevokeReason, RingKey};
@@ -91,19 +91,9 @@ pub(crate) fn revocation_tree(alloc: Global, at: u64, reason: RevokeReason) -> R
     ensures { IfOk result (λ tree. tree ≡ revocation_tree at reason) }
 {
     let mut members = Seq::new(alloc);
-    add_text(alloc, &mut members, b"reason", reason_word(reason))?;
+    add_text(alloc, &mut members, b"reason", reason.word())?;
     add_number(alloc, &mut members, b"revoked_at", at)?;
     Ok(Json::Object(members))
-}
-
-fn reason_word(reason: RevokeReason) -> &'static [u8]
-    ensures { result.now ≡ reason_word reason }
-{
-    match reason {
-        RevokeReason::Unspecified => b"unspecified",
-        RevokeReason::Compromised => b"compromised",
-        RevokeReason::Superseded => b"superseded",
-    }
 }
 
 /// Adds a member of that name that is a text.

@@ -4,12 +4,14 @@
 //! with what was answered. A line that begins with `#` tells what the rows behind it are about, and is written as it stands.
 #![tactic(auto)]
 
+mod heed_rows;
 mod read_rows;
 mod seal_rows;
 mod verify_rows;
 mod words;
 
 use fed_base::{Memory, Text};
+use heed_rows::Returned;
 use std::alloc::Global;
 use std::io;
 use words::cut;
@@ -30,19 +32,42 @@ fn keep(alloc: Global, kind: &str, given: &str, kept: &mut Text) -> Result<Text,
     *kept = match kind {
         "seal" => seal_rows::seal(alloc, given, kept)?,
         "grow" => seal_rows::grown(alloc, given, kept)?,
+        "text" => Text::of(alloc, given.as_bytes())?,
         _ => read_rows::text_of(alloc, given)?,
     };
+    Text::of(alloc, b"kept")
+}
+
+// What is answered to a row that is about marks that are asked about, which are none again when they were.
+fn ask(
+    alloc: Global,
+    kind: &str,
+    given: &str,
+    kept: &Text,
+    returned: &mut Returned,
+) -> Result<Text, Memory> {
+    match kind {
+        "returned" => returned.add(alloc, given, kept)?,
+        "page" => returned.add_page(alloc, given, kept)?,
+        _ => {
+            let told = returned.heed(alloc, given);
+            *returned = Returned::new(alloc);
+            return told;
+        },
+    }
     Text::of(alloc, b"kept")
 }
 
 fn main(rt: HostRuntime) -> io::Result<()> {
     let alloc = rt.alloc();
     let mut kept = Text::new(alloc);
+    let mut returned = Returned::new(alloc);
     for line in rt.lines(alloc) {
         let line = line?;
         let (kind, given) = cut(line.as_str());
         let told = match kind {
-            "seal" | "grow" | "unsealed" => keep(alloc, kind, given, &mut kept),
+            "seal" | "grow" | "unsealed" | "text" => keep(alloc, kind, given, &mut kept),
+            "returned" | "page" | "heed" => ask(alloc, kind, given, &kept, &mut returned),
             _ => answer(alloc, kind, given, &kept),
         };
         if line.as_str().starts_with('#') {

@@ -1,4 +1,4 @@
-// Rows that seal a mark or a delegation.
+// Rows that seal a mark, a delegation or an answer on a mark's status.
 
 ghost use Rattle.std.specs.Prelude.{IfOk};
 ghost use Rattle.std.specs.Str.{IsUtf8};
@@ -23,10 +23,10 @@ fn seeds(first: u8) -> [u8; 48] {
 fn typ_of(alloc: Global, word: &str) -> Result<Text, Memory>
     ensures { IfOk result IsUtf8 }
 {
-    if word == "mark" {
-        Text::of(alloc, b"trust-mark+jwt")
-    } else {
-        Text::of(alloc, b"trust-mark-delegation+jwt")
+    match word {
+        "mark" => Text::of(alloc, b"trust-mark+jwt"),
+        "status" => Text::of(alloc, b"trust-mark-status-response+jwt"),
+        _ => Text::of(alloc, b"trust-mark-delegation+jwt"),
     }
 }
 
@@ -50,7 +50,7 @@ fn sealed_tree(alloc: Global, first: u8, word: &str, tree: &Json) -> Result<Text
     sealed::seal(alloc, &KeyPair::from_seeds(&seeds(first)), &typ, tree)
 }
 
-/// `seal SEED TYPE CLAIMS`: the claims as a mark or a delegation, sealed by the key of the 48 seeds from this one on.
+/// `seal SEED TYPE CLAIMS`: the claims as a mark, a delegation or an answer on a status, sealed by the key of the 48 seeds from this one.
 pub(crate) fn seal(alloc: Global, given: &str, kept: &Text) -> Result<Text, Memory> {
     let (first, given) = cut(given);
     let (word, claims) = cut(given);

@@ -4,8 +4,8 @@ use Rattle.std.specs.Prelude.{IfOk, MatchOption}
 use Rattle.std.proofs.lemmas.Option.{option_and_then_some}
 use Rattle.fed_base.specs.declared.faults.Memory.{Memory}
 use Rattle.fed_base.specs.Values.{◌>>=◌}
-use Rattle.http_plain.specs.declared.request.Pair.{Pair}
-use Rattle.http_plain.specs.declared.request.Request.{Request}
+use Rattle.http_messages.specs.declared.request.Pair.{Pair}
+use Rattle.http_messages.specs.declared.request.Request.{Request}
 use Rattle.authority_core.specs.declared.query.ListQuery.{ListQuery}
 use Rattle.node_requests.specs.declared.asked.Asked.{Asked}
 use Rattle.node_requests.specs.declared.asked.Asked.TheVariants as asked

@@ -2,9 +2,9 @@
 use Rattle.std.proofs.Common.{◌≡◌, ℕ, List, ◌++◌, codes, bytes_eq, Bool, true, false, cond, refl, sym, ap, ap₂, ◌∙◌, subst}
 use Rattle.std.proofs.lemmas.List.{append_cancel_left}
 use Rattle.std.proofs.lemmas.Slice.Eq.{bytes_eq-Decides}
-use Rattle.http_plain.specs.declared.request.Method.{Method}
-use Rattle.http_plain.specs.declared.request.Method.TheVariants.{Get, Post}
-use Rattle.http_plain.specs.declared.request.Request.{Request}
+use Rattle.http_messages.specs.declared.request.Method.{Method}
+use Rattle.http_messages.specs.declared.request.Method.TheVariants.{Get, Post}
+use Rattle.http_messages.specs.declared.request.Request.{Request}
 use Rattle.node_requests.specs.declared.asked.Asked.{Asked}
 use Rattle.node_requests.specs.declared.asked.Asked.TheVariants as asked
 use Rattle.node_requests.specs.declared.kind.Kind.{Kind}

@@ -7,8 +7,8 @@ use Rattle.entity_id.specs.declared.fault.IdFault.{IdFault}
 use Rattle.entity_id.specs.Identifiers.{IsIdentifier, identifier_in, identifier_of}
 use Rattle.entity_id.proofs.Identifying.{identifier_in-found, identifier_in-only}
 use Rattle.entity_statement.specs.Claims.{Identifier}
-use Rattle.http_plain.specs.declared.request.Pair.{Pair}
-use Rattle.node_requests.specs.declared.resolution.Resolution.{Resolution}
+use Rattle.http_messages.specs.declared.request.Pair.{Pair}
+use Rattle.resolve_round.specs.declared.request.ResolveRequest.{ResolveRequest}
 use Rattle.node_requests.specs.Parameters.{values_of}
 use Rattle.node_requests.specs.Requests.{IsResolution, NamesOnce}
 use Rattle.node_requests.specs.Steps.{identifier_once, resolution_in}
@@ -30,7 +30,7 @@ names-only pairs name id names = ap (λ o. o >>= identifier_of) names.0 ∙ ap (
 
 -- ---- a resolution
 
-pub resolution_found : (pairs : List Pair) (resolution : Resolution) → resolution_in pairs ≡ Some resolution → IsResolution pairs resolution
+pub resolution_found : (pairs : List Pair) (resolution : ResolveRequest) → resolution_in pairs ≡ Some resolution → IsResolution pairs resolution
 unfolding resolution_in
 resolution_found pairs resolution is =
     option_and_then_some _ _ resolution is (λ sub first then.
@@ -42,7 +42,7 @@ resolution_found pairs resolution is =
       types = refl;
     })))
 
-pub resolution_only : (pairs : List Pair) (resolution : Resolution) → IsResolution pairs resolution → resolution_in pairs ≡ Some resolution
+pub resolution_only : (pairs : List Pair) (resolution : ResolveRequest) → IsResolution pairs resolution → resolution_in pairs ≡ Some resolution
 unfolding resolution_in
 resolution_only pairs resolution is =
     let sub = names-only pairs (codes "sub") resolution.sub is.sub in

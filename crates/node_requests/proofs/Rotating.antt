@@ -23,7 +23,8 @@ use Rattle.entity_statement.proofs.Facts.{moment-small}
 use Rattle.entity_statement.proofs.Identities.{identifier-is, identifier-of, moment-is, moment-of}
 use Rattle.node_requests.specs.declared.change.AnchorChange.{AnchorChange}
 use Rattle.node_requests.specs.Changes.{IsAnchorChange, NamesEpoch, StatesNone, anchor_keys_type, epoch_limit}
-use Rattle.node_requests.specs.Steps.{StatedClaims, anchor_at, claims_in, claims_of, epoch_at, has_type, keys_at, keys_of, payload_in, stated_in}
+use Rattle.node_config.specs.Subordinates.{keys_of}
+use Rattle.node_requests.specs.Steps.{StatedClaims, anchor_at, claims_in, claims_of, epoch_at, has_type, keys_at, payload_in, stated_in}
 use Rattle.node_requests.proofs.SameSets.{same_set}
 
 -- ---- the claims, one by one

@@ -3,7 +3,7 @@ use Rattle.std.proofs.Common.{◌≡◌, ℕ, List, [], ◌∷◌, ◌++◌, byt
 use Rattle.std.specs.Prelude.{IfSome}
 use Rattle.std.specs.List.{AllByRecursion}
 use Rattle.std.specs.Str.{IsUtf8}
-use Rattle.http_plain.specs.declared.request.Pair.{Pair}
+use Rattle.http_messages.specs.declared.request.Pair.{Pair}
 use Rattle.node_requests.specs.Parameters.{once, values_of}
 use Rattle.node_requests.specs.Steps.{HasUtf8Value}
 

@@ -1,6 +1,6 @@
 -- Parameters of a request, by their names.
 use Rattle.std.specs.Prelude.{List, [], ◌∷◌, ℕ, codes, bytes_eq, Bool, true, false, Option, Some, None, if◌then◌else◌}
-use Rattle.http_plain.specs.declared.request.Pair.{Pair}
+use Rattle.http_messages.specs.declared.request.Pair.{Pair}
 
 -- the values of a parameter, in order
 abbrev pub values_of : List ℕ → List Pair → List (List ℕ)

@@ -4,10 +4,10 @@ use Rattle.std.specs.Str.{IsUtf8}
 use Rattle.jws_form.specs.Compact.{IsCompact}
 use Rattle.entity_id.specs.Identifiers.{IsIdentifier}
 use Rattle.entity_statement.specs.Claims.{Identifier}
-use Rattle.http_plain.specs.declared.request.Method.{Method}
-use Rattle.http_plain.specs.declared.request.Method.TheVariants.{Get, Post}
-use Rattle.http_plain.specs.declared.request.Pair.{Pair}
-use Rattle.http_plain.specs.declared.request.Request.{Request}
+use Rattle.http_messages.specs.declared.request.Method.{Method}
+use Rattle.http_messages.specs.declared.request.Method.TheVariants.{Get, Post}
+use Rattle.http_messages.specs.declared.request.Pair.{Pair}
+use Rattle.http_messages.specs.declared.request.Request.{Request}
 use Rattle.http_plain.specs.Requests.{pairs_of}
 use Rattle.authority_core.specs.declared.query.ListQuery.{ListQuery}
 use Rattle.node_requests.specs.declared.asked.Asked.{Asked}
@@ -15,7 +15,7 @@ use Rattle.node_requests.specs.declared.asked.Asked.TheVariants.{Configuration, 
 use Rattle.node_requests.specs.declared.kind.Kind.{Kind}
 use Rattle.node_requests.specs.declared.kind.Kind.TheVariants as kind
 use Rattle.node_requests.specs.declared.place.Place.{Place}
-use Rattle.node_requests.specs.declared.resolution.Resolution.{Resolution}
+use Rattle.resolve_round.specs.declared.request.ResolveRequest.{ResolveRequest}
 use Rattle.node_requests.specs.Changes.{IsAnchorChange}
 use Rattle.node_requests.specs.Parameters.{at_most_once, flag_of, once, values_of}
 
@@ -39,7 +39,7 @@ pub record IsListQuery (pairs : List Pair) (query : ListQuery) : Type 0 where
   pub intermediate : flag_of (values_of (codes "intermediate") pairs) ≡ Some query.intermediate
 
 -- the entity that is to be resolved, the trust anchor, and the entity types that are wanted, in order (section 8.3.1)
-pub record IsResolution (pairs : List Pair) (resolution : Resolution) : Type 0 where
+pub record IsResolution (pairs : List Pair) (resolution : ResolveRequest) : Type 0 where
   pub sub : NamesOnce pairs (codes "sub") resolution.sub
   pub anchor : NamesOnce pairs (codes "trust_anchor") resolution.anchor
   pub types : resolution.types ≡ values_of (codes "entity_type") pairs

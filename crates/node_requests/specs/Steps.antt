@@ -1,7 +1,6 @@
 -- What the parts of reading a request know of one another; no public clause cites it.
 use Rattle.std.specs.Prelude.{◌≡◌, ℕ, List, [], ◌∷◌, codes, bytes_eq, Bool, false, Option, Some, None, option_map, if◌then◌else◌}
 use Rattle.std.specs.Option.{option_map_or}
-use Rattle.std.specs.Result.{result_ok}
 use Rattle.std.specs.Str.{IsUtf8}
 use Rattle.fed_base.specs.Values.{◌>>=◌}
 use Rattle.fed_json.specs.declared.tree.Json.{Json}
@@ -11,15 +10,15 @@ use Rattle.fed_json.specs.Trees.{as_object, count_below, find}
 use Rattle.jws_form.specs.declared.compact.Compact.{Compact}
 use Rattle.jwk_set.specs.declared.jwk.Jwk.{Jwk}
 use Rattle.jwk_set.specs.declared.set.JwkSet.{JwkSet}
-use Rattle.jwk_set.specs.KeySets.{key_set_in}
 use Rattle.entity_id.specs.Identifiers.{identifier_of}
 use Rattle.entity_statement.specs.Claims.{Identifier}
 use Rattle.entity_statement.specs.Forms.{identifier}
-use Rattle.http_plain.specs.declared.request.Method.{Method}
-use Rattle.http_plain.specs.declared.request.Method.TheVariants.{Get, Post}
-use Rattle.http_plain.specs.declared.request.Pair.{Pair}
-use Rattle.http_plain.specs.declared.request.Request.{Request}
+use Rattle.http_messages.specs.declared.request.Method.{Method}
+use Rattle.http_messages.specs.declared.request.Method.TheVariants.{Get, Post}
+use Rattle.http_messages.specs.declared.request.Pair.{Pair}
+use Rattle.http_messages.specs.declared.request.Request.{Request}
 use Rattle.http_plain.specs.Requests.{pairs_of}
+use Rattle.node_config.specs.Subordinates.{keys_of}
 use Rattle.authority_core.specs.declared.query.ListQuery.{ListQuery}
 use Rattle.node_requests.specs.declared.asked.Asked.{Asked}
 use Rattle.node_requests.specs.declared.asked.Asked.TheVariants as asked
@@ -28,7 +27,7 @@ use Rattle.node_requests.specs.declared.kind.Kind.{Kind}
 use Rattle.node_requests.specs.declared.kind.Kind.TheVariants as kind
 use Rattle.node_requests.specs.declared.parameters.Found.{Found}
 use Rattle.node_requests.specs.declared.parameters.Found.TheVariants.{Absent, Once, Again}
-use Rattle.node_requests.specs.declared.resolution.Resolution.{Resolution}
+use Rattle.resolve_round.specs.declared.request.ResolveRequest.{ResolveRequest}
 use Rattle.node_requests.specs.Changes.{IsAnchorChange, StatesNone, anchor_keys_type, epoch_limit}
 use Rattle.node_requests.specs.Parameters.{at_most_once, flag_of, once, values_of}
 
@@ -91,7 +90,7 @@ query_in pairs =
       intermediate = intermediate;
     })
 
-unfoldable pub resolution_in : List Pair → Option Resolution
+unfoldable pub resolution_in : List Pair → Option ResolveRequest
 resolution_in pairs =
     identifier_once (values_of (codes "sub") pairs) >>= λ sub.
     identifier_once (values_of (codes "trust_anchor") pairs) >>= λ anchor.
@@ -143,10 +142,6 @@ anchor_at members = find (codes "anchor") members >>= identifier
 
 abbrev pub epoch_at : List Member → Option ℕ
 epoch_at members = find (codes "epoch") members >>= count_below epoch_limit
-
--- the keys of a set (RFC 7517 section 5)
-abbrev pub keys_of : Json → Option (List Jwk)
-keys_of tree = result_ok (key_set_in tree)
 
 abbrev pub keys_at : List Member → Option (List Jwk)
 keys_at members = find (codes "jwks") members >>= keys_of

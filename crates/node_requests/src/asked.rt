@@ -5,9 +5,9 @@ ghost use Rattle.node_requests.specs.Requests.{kind_of};
 
 use crate::change::AnchorChange;
 use crate::kind::Kind;
-use crate::resolution::Resolution;
 use authority_core::ListQuery;
 use fed_base::{Duplicate, Memory, Text};
+use resolve_round::ResolveRequest;
 use std::alloc::Global;
 
 /// What a node is asked (OpenID Federation 1.0 sections 8 and 9).
@@ -24,7 +24,7 @@ pub enum Asked {
     /// What has become of this trust mark, any UTF-8 text.
     Status(Text),
     /// A resolved entity.
-    Resolution(Resolution),
+    Resolution(ResolveRequest),
     /// To take other keys for a trust anchor.
     Rotation(AnchorChange),
 }

@@ -1,7 +1,7 @@
 // Laws over the definitions alone.
 
 ghost use Rattle.std.specs.Prelude.{◌≡◌, List, ℕ, false, true};
-ghost use Rattle.http_plain.specs.declared.request.Request.{Request};
+ghost use Rattle.http_messages.specs.declared.request.Request.{Request};
 ghost use Rattle.node_requests.specs.declared.asked.Asked.{Asked};
 ghost use Rattle.node_requests.specs.declared.place.Place.{Place};
 ghost use Rattle.node_requests.specs.Places.{place_at};

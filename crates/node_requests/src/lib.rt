@@ -20,4 +20,4 @@ pub use kind::Kind;
 pub use laws::requests;
 pub use place::Place;
 pub use reading::asked_for;
-pub use resolution::Resolution;
+pub use resolve_round::ResolveRequest;

@@ -4,17 +4,17 @@ use Rattle.std.proofs.lemmas.List.{map-append}
 use Rattle.std.specs.List.{AllByRecursion}
 use Rattle.fed_ports.specs.Lists.{Added, Gave}
 use Rattle.authority_core.specs.Nodes.{Node}
-use Rattle.resolver_answers.specs.Resolutions.{Walking}
+use Rattle.fed_serve.specs.Resolutions.{Walking}
 use Rattle.fed_serve.specs.declared.node.Node.{Node as AnyNode}
 use Rattle.fed_serve.specs.declared.served.Served.{Served}
 use Rattle.fed_serve.specs.declared.serving.ServeFault.{ServeFault}
 use Rattle.fed_serve.specs.Moments.{Around, ClockAt, PeerAt}
 use Rattle.fed_serve.specs.Serving.{Serves as ServesOne}
 use Rattle.fed_serve.proofs.Walks.{serves}
-use Rattle.resolver_answers.specs.declared.part.ResolverPart.{ResolverPart}
+use Rattle.fed_serve.specs.declared.part.ResolverPart.{ResolverPart}
 use Rattle.std.specs.Prelude.{Err, Result}
-use Rattle.node_service.specs.declared.connections.Stop.{Stop}
-use Rattle.node_service.specs.declared.connections.Stop.TheVariants.{Network, Memory}
+use Rattle.node_service.specs.declared.stop.Stop.{Stop}
+use Rattle.node_service.specs.declared.stop.Stop.TheVariants.{Network, Memory}
 use Rattle.node_service.specs.Ends.{NextOf, StopsAfter}
 use Rattle.node_service.specs.Connections.{AreServed, Connection, ReadInTurn, ServiceAt, Serves, alone, came_of, gone_of, uncalled}
 

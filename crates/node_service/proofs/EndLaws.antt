@@ -3,18 +3,19 @@ use Rattle.std.proofs.Common.{rules, ◌≡◌, ℕ, Option, Err, refl, ap, inl,
 use Rattle.fed_ports.specs.Stores.{Files}
 use Rattle.authority_core.specs.Nodes.{Node}
 use Rattle.fed_serve.specs.Moments.{PeerAt}
-use Rattle.node_service.specs.declared.node_files.NodeFault.{NodeFault}
-use Rattle.node_service.specs.declared.node_files.NodeFault.TheVariants.{Input, Store, Memory}
+use Rattle.node_files.specs.declared.fault.NodeFault.{NodeFault}
+use Rattle.node_files.specs.declared.fault.NodeFault.TheVariants.{Input, Store, Memory}
 use Rattle.node_service.specs.Connections.{ServiceAt}
 use Rattle.node_service.specs.declared.service.ServiceEnd.{ServiceEnd}
 use Rattle.node_service.specs.declared.service.ServiceEnd.TheVariants as ends
-use Rattle.node_service.specs.Ends.{Ends, EndsOf, IsOrdered, NetworkAt, Order, end_without_node}
-use Rattle.node_service.specs.NodeFiles.{Answers, Counts, IsAuthorityAlone, IsNodeOf}
+use Rattle.node_service.specs.Ends.{Ends, EndsOf, IsOrdered, NetworkAt, at_moment, end_without_node}
+use Rattle.node_files.specs.Orders.{Order}
+use Rattle.node_files.specs.NodeFiles.{Answers, Counts, IsAuthorityAlone, IsNodeOf}
 
 pub ends_without : {P : Type 0} (at : P → PeerAt) (order : Order) (files files' : Option Files) (service : ServiceAt P) (a b n : ℕ) (fault : NodeFault) → files' ≡ files
     → Answers files (λ (node : Node). IsNodeOf files order.config node × IsAuthorityAlone node) (Err fault) → Counts {X = Node} a b (Err fault)
-    → Ends at order (record { files = files; service = service; store_faults = a; network_faults = n })
-    (record { files = files'; service = service; store_faults = b; network_faults = n }) (end_without_node fault)
+    → Ends at order (at_moment files service a n)
+    (at_moment files' service b n) (end_without_node fault)
 ends_without at order files files' service a b n Input same none counts = record {
   served = λ is. search (rules, is);
   input = λ is node it alone. none node (it, alone);
@@ -52,8 +53,8 @@ ends_without at order files files' service a b n Memory same none counts = recor
 -- so does the node of the file
 pub ends_with : {P : Type 0} (at : P → PeerAt) (order : Order) (files files' : Option Files) (service service' : ServiceAt P) (a b m n : ℕ) (node : Node) (end : ServiceEnd)
     → files' ≡ files → b ≡ a → IsOrdered order files node → EndsOf at node order.post (record { service = service; faults = m }) (record { service = service'; faults = n }) end
-    → Ends at order (record { files = files; service = service; store_faults = a; network_faults = m })
-    (record { files = files'; service = service'; store_faults = b; network_faults = n }) end
+    → Ends at order (at_moment files service a m)
+    (at_moment files' service' b n) end
 ends_with at order files files' service service' a b m n node ends.Served same steady is of = record {
   served = λ _. record { node = node; is = is; serves = of.0 };
   input = λ e. search (rules, e);

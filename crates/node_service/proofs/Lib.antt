@@ -1,3 +1,2 @@
 mod ConnectionLaws
 mod EndLaws
-mod NodeLaws

@@ -2,13 +2,17 @@
 use Rattle.std.specs.Prelude.{◌≡◌, ◌<◌, ℕ, List, [], ◌∷◌, length, map, Option, Some, None, Result}
 use Rattle.std.specs.List.{AllByRecursion}
 use Rattle.fed_ports.specs.Lists.{Added, Gave}
+use Rattle.fed_ports.specs.declared.clock.Clock.{Ghosts as ClockGhosts}
+use Rattle.fed_ports.specs.declared.network.Network.{Ghosts as NetworkGhosts}
+use Rattle.fed_ports.specs.declared.sink.Sink.{Ghosts as SinkGhosts}
+use Rattle.fed_ports.specs.declared.source.Source.{Ghosts as SourceGhosts}
 use Rattle.authority_core.specs.Nodes.{Node as Authority}
 use Rattle.resolve_reply.specs.declared.reply.Reply.{Reply}
 use Rattle.resolve_round.specs.declared.trace.Trace.{Trace}
 use Rattle.fed_resolver.specs.declared.outcome.Refusal.{Refusal}
-use Rattle.resolver_answers.specs.Resolutions.{CallAt}
+use Rattle.fed_serve.specs.Resolutions.{CallAt}
 use Rattle.fed_serve.specs.declared.node.Node.{Node}
-use Rattle.fed_serve.specs.Moments.{ClockAt, PeerAt, around}
+use Rattle.fed_serve.specs.Moments.{ClockAt, PeerAt, around, clock_at, peer_at}
 use Rattle.fed_serve.specs.Serving.{Serves as ServesOne}
 use Rattle.fed_serve.specs.declared.served.Served.{Served}
 use Rattle.fed_serve.specs.declared.serving.ServeFault.{ServeFault}
@@ -41,7 +45,16 @@ pub record ServiceAt (P : Type 0) : Type 0 where
 abbrev pub service_at : {P : Type 0} → Option ℕ → Option (List P) → Option (List P) → ClockAt → ServiceAt P
 service_at port callers settled clock = record { port = port; callers = callers; settled = settled; clock = clock }
 
--- the same, where it listens on this port
+-- the same, as a network and a clock show themselves
+abbrev pub service_seen : {N P C : Type 0} → NetworkGhosts N P → ClockGhosts C → N → C → ServiceAt P
+service_seen network times net clock =
+    service_at (network.port net) (network.callers net) (network.settled net) (clock_at (times.readings clock) (times.last clock) (times.told clock))
+
+-- a peer as it shows itself
+abbrev pub peer_seen : {P : Type 0} → SourceGhosts P → SinkGhosts P → P → PeerAt
+peer_seen source sink peer = peer_at (source.left peer) (sink.held peer) (source.read_faults peer) (sink.write_faults peer)
+
+-- the same service, where it listens on this port
 abbrev pub on_port : {P : Type 0} → ℕ → ServiceAt P → ServiceAt P
 on_port port service = record service { port = Some port }
 

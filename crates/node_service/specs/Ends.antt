@@ -2,16 +2,21 @@
 use Rattle.std.specs.Prelude.{◌≡◌, ◌⊎◌, ◌<◌, ℕ, List, Option, None, Result, Ok, Err}
 use Rattle.fed_base.specs.Counts.{Rose}
 use Rattle.fed_ports.specs.Stores.{Files}
+use Rattle.fed_ports.specs.declared.clock.Clock.{Ghosts as ClockGhosts}
+use Rattle.fed_ports.specs.declared.network.Network.{Ghosts as NetworkGhosts}
 use Rattle.authority_core.specs.Nodes.{Node}
 use Rattle.fed_serve.specs.Moments.{PeerAt}
-use Rattle.node_service.specs.declared.connections.Stop.{Stop}
-use Rattle.node_service.specs.declared.connections.Stop.TheVariants as stop
-use Rattle.node_service.specs.declared.node_files.NodeFault.{NodeFault}
-use Rattle.node_service.specs.declared.node_files.NodeFault.TheVariants as node_fault
+use Rattle.node_service.specs.declared.stop.Stop.{Stop}
+use Rattle.node_service.specs.declared.stop.Stop.TheVariants as stop
+use Rattle.node_files.specs.declared.fault.NodeFault.{NodeFault}
+use Rattle.node_files.specs.declared.fault.NodeFault.TheVariants as node_fault
 use Rattle.node_service.specs.declared.service.ServiceEnd.{ServiceEnd}
 use Rattle.node_service.specs.declared.service.ServiceEnd.TheVariants as ends
-use Rattle.node_service.specs.Connections.{DropsNext, ServesAndDrops, ServesFewer, ServiceAt, Serves, on_port}
-use Rattle.node_service.specs.NodeFiles.{IsAuthorityAlone, IsNodeOf}
+use Rattle.node_service.specs.Connections.{DropsNext, ServesAndDrops, ServesFewer, ServiceAt, Serves, on_port, service_seen}
+use Rattle.node_files.specs.Moments.{NodeAt, at_moment as node_moment}
+use Rattle.node_files.specs.Orders.{Order}
+use Rattle.node_files.specs.declared.post.Post.{Post}
+use Rattle.node_files.specs.NodeFiles.{IsAuthorityAlone, IsNodeOf}
 
 -- the network failed only where its count of faults rose, which else is as before
 abbrev pub NetworkCause : ℕ → ℕ → Result Unit Stop → Type 0
@@ -31,20 +36,14 @@ StopsAfter at node n before now (Ok done) = Serves at node n before now
 StopsAfter at node n before now (Err stop.Network) = ServesFewer at node n before now
 StopsAfter at node n before now (Err stop.Memory) = ServesAndDrops at node n before now
 
--- on which port how many connections are to be served
-pub record Post : Type 0 where
-  pub port : ℕ
-  pub connections : ℕ
-
--- what is asked for: the name of a configuration file, and what is to be served
-pub record Order : Type 0 where
-  pub config : List ℕ
-  pub post : Post
-
 -- a service and its network's count of faults, at one moment
 pub record NetworkAt (P : Type 0) : Type 0 where
   pub service : ServiceAt P
   pub faults : ℕ
+
+-- the same, as a network and a clock show themselves
+abbrev pub network_seen : {N P C : Type 0} → NetworkGhosts N P → ClockGhosts C → N → C → NetworkAt P
+network_seen network times net clock = record { service = service_seen network times net clock; faults = network.faults net }
 
 -- nobody was listened to; or fewer than so many were served on the port, and then the network failed
 abbrev pub FailsAfter : {P : Type 0} → (P → PeerAt) → Node → Post → ServiceAt P → ServiceAt P → Type 0
@@ -63,15 +62,11 @@ EndsOf at node post before now ends.Memory = WantsAfter at node post before now
 EndsOf at node post before now end = ⊥
 
 -- the files, where they are told, and the service, at one moment
-pub record At (P : Type 0) : Type 0 where
-  pub files : Option Files
-  pub service : ServiceAt P
-  pub store_faults : ℕ
-  pub network_faults : ℕ
+abbrev pub At : Type 0 → Type 0
+At P = NodeAt (NetworkAt P)
 
 abbrev pub at_moment : {P : Type 0} → Option Files → ServiceAt P → ℕ → ℕ → At P
-at_moment files service store_faults network_faults =
-    record { files = files; service = service; store_faults = store_faults; network_faults = network_faults }
+at_moment files service store_faults network_faults = node_moment files store_faults (record { service = service; faults = network_faults })
 
 -- why there is no node
 abbrev pub end_without_node : NodeFault → ServiceEnd
@@ -88,19 +83,19 @@ pub record IsOrdered (order : Order) (files : Option Files) (node : Node) : Type
 pub record HasServed {P : Type 0} (at : P → PeerAt) (order : Order) (before now : At P) : Type 0 where
   pub node : Node
   pub is : IsOrdered order before.files node
-  pub serves : Serves at node order.post.connections (on_port order.post.port before.service) now.service
+  pub serves : Serves at node order.post.connections (on_port order.post.port before.around.service) now.around.service
 
 -- the node of the file listened to nobody, or served fewer than so many on the port
 pub record HasFailed {P : Type 0} (at : P → PeerAt) (order : Order) (before now : At P) : Type 0 where
   pub node : Node
   pub is : IsOrdered order before.files node
-  pub after : FailsAfter at node order.post before.service now.service
+  pub after : FailsAfter at node order.post before.around.service now.around.service
 
 -- the node of the file served fewer than so many on the port, and dropped the next one
 pub record HasDropped {P : Type 0} (at : P → PeerAt) (order : Order) (before now : At P) : Type 0 where
   pub node : Node
   pub is : IsOrdered order before.files node
-  pub after : ServesAndDrops at node order.post.connections (on_port order.post.port before.service) now.service
+  pub after : ServesAndDrops at node order.post.connections (on_port order.post.port before.around.service) now.around.service
 
 -- the end comes only where that count of faults rose, and always where it grew
 pub record Tells (result fault : ServiceEnd) (before now : ℕ) : Type 0 where
@@ -113,13 +108,13 @@ pub record Ends {P : Type 0} (at : P → PeerAt) (order : Order) (before now : A
   pub served : result ≡ ends.Served → HasServed at order before now
   -- a file isn't of its form, or the node isn't an authority alone
   pub input : result ≡ ends.Input → (node : Node) → IsNodeOf before.files order.config node → IsAuthorityAlone node → before.files ≡ None
-  pub unserved : result ≡ ends.Input → now.service ≡ before.service
+  pub unserved : result ≡ ends.Input → now.around.service ≡ before.around.service
   -- a file couldn't be read
   pub store : Tells result ends.StoreFailed before.store_faults now.store_faults
-  pub unread : result ≡ ends.StoreFailed → now.service ≡ before.service
+  pub unread : result ≡ ends.StoreFailed → now.around.service ≡ before.around.service
   -- the network failed to listen, or to accept the next connection
-  pub network : Tells result ends.NetworkFailed before.network_faults now.network_faults
+  pub network : Tells result ends.NetworkFailed before.around.faults now.around.faults
   pub failed : result ≡ ends.NetworkFailed → HasFailed at order before now
   -- memory was wanting before the port was taken, or to settle a connection
-  pub memory : result ≡ ends.Memory → (now.service ≡ before.service) ⊎ HasDropped at order before now
+  pub memory : result ≡ ends.Memory → (now.around.service ≡ before.around.service) ⊎ HasDropped at order before now
   pub files : now.files ≡ before.files

@@ -1,18 +1,18 @@
 // A node that answers connection after connection.
 
 ghost use Rattle.std.specs.Prelude.{◌≡◌, None};
-ghost use Rattle.fed_serve.specs.Moments.{clock_at, peer_at};
-ghost use Rattle.node_service.specs.Connections.{service_at};
-ghost use Rattle.node_service.specs.Ends.{Ends, EndsOf};
+ghost use Rattle.node_files.specs.Moments.{node_seen};
+ghost use Rattle.node_files.specs.Orders.{order_of};
+ghost use Rattle.node_service.specs.Connections.{peer_seen};
+ghost use Rattle.node_service.specs.Ends.{Ends, EndsOf, network_seen};
 
-use crate::connections::{Stop, serve_connections};
-use crate::node_files::{NodeFault, open_authority};
-use crate::notes::{explain_accept, explain_port};
-use fed_ports::{Clock, Link, Network, Seq, Store, Text};
+use crate::connections::{Server, serve_connections};
+use crate::stop::Stop;
+use fed_ports::{Clock, Network, Seq, Store, Text};
 use fed_serve::Node;
-use http_plain::HttpLink;
+use node_files::{NodeFault, Post, explain_accept, explain_port, open_authority};
 use plain_notes::Notes;
-use statement_shelf::{Commons, FedPass};
+use statement_shelf::Commons;
 use std::alloc::Global;
 use std::sync::Wait;
 
@@ -59,21 +59,9 @@ pub fn serve_authority<R: Wait, D: Store, N: Network + Drop, C: Clock>(
     clock: &mut C,
     notes: &mut Notes,
 ) -> ServiceEnd
-    ensures ends { Ends
-        (λ peer. peer_at (N.Peer.left peer) (N.Peer.held peer) (N.Peer.read_faults peer) (N.Peer.write_faults peer))
-        (record { config = config.now; post = record { port = port; connections = connections } })
-        (record {
-          files = D.files store.old;
-          service = service_at (N.port net.old) (N.callers net.old) (N.settled net.old) (clock_at (C.readings clock.old) (C.last clock.old) (C.told clock.old));
-          store_faults = D.store_faults store.old;
-          network_faults = N.faults net.old;
-        })
-        (record {
-          files = D.files store.new;
-          service = service_at (N.port net.new) (N.callers net.new) (N.settled net.new) (clock_at (C.readings clock.new) (C.last clock.new) (C.told clock.new));
-          store_faults = D.store_faults store.new;
-          network_faults = N.faults net.new;
-        }) result }
+    ensures ends { Ends (peer_seen N.Peer.Source N.Peer.Sink) (order_of config.now port connections)
+        (node_seen D.Store store.old (network_seen N.Network C.Clock net.old clock.old))
+        (node_seen D.Store store.new (network_seen N.Network C.Clock net.new clock.new)) result }
     ensures exchanges { N.exchanges net.new ≡ N.exchanges net.old }
 {
     match open_authority(alloc, config, store, notes) {
@@ -82,7 +70,13 @@ pub fn serve_authority<R: Wait, D: Store, N: Network + Drop, C: Clock>(
                 registry,
                 resolver: None,
             };
-            let end = serve_alone(&node, rt, alloc, port, connections, net, clock, notes);
+            let server = Server {
+                rt,
+                alloc,
+                node: &node,
+            };
+            let post = Post { port, connections };
+            let end = serve_alone(&server, post, net, clock, notes);
             drop(node);
             end
         }
@@ -90,89 +84,31 @@ pub fn serve_authority<R: Wait, D: Store, N: Network + Drop, C: Clock>(
     }
 }
 
-// Takes what is handed to each connection and that no authority uses: a pass of a cache and a book that nobody fills, and a link without
-// routes. Then it takes the port and answers the connections.
-fn serve_alone<R: Wait, N: Network + Drop, C: Clock>(
-    node: &Node,
-    rt: &R,
-    alloc: Global,
-    port: u16,
-    connections: u64,
+// Takes the port and answers the connections. The pass, which each connection is served with, is of a cache and a book that no authority
+// uses.
+fn serve_alone<R: Wait, N: Network, C: Clock>(
+    server: &Server<R>,
+    post: Post,
     net: &mut N,
     clock: &mut C,
     notes: &mut Notes,
 ) -> ServiceEnd
-    requires alone { node.now.resolver ≡ None }
-    ensures ends { EndsOf
-        (λ peer. peer_at (N.Peer.left peer) (N.Peer.held peer) (N.Peer.read_faults peer) (N.Peer.write_faults peer))
-        node.now.registry (record { port = port; connections = connections })
-        (record {
-          service = service_at (N.port net.old) (N.callers net.old) (N.settled net.old) (clock_at (C.readings clock.old) (C.last clock.old) (C.told clock.old));
-          faults = N.faults net.old;
-        })
-        (record {
-          service = service_at (N.port net.new) (N.callers net.new) (N.settled net.new) (clock_at (C.readings clock.new) (C.last clock.new) (C.told clock.new));
-          faults = N.faults net.new;
-        }) result }
+    requires alone { server.now.node.now.resolver ≡ None }
+    ensures ends { EndsOf (peer_seen N.Peer.Source N.Peer.Sink) server.now.node.now.registry post
+        (network_seen N.Network C.Clock net.old clock.old) (network_seen N.Network C.Clock net.new clock.new) result }
     ensures exchanges { N.exchanges net.new ≡ N.exchanges net.old }
 {
-    let Ok(another) = net.another(alloc) else {
+    let Ok((_commons, mut pass)) = Commons::new(server.alloc, Seq::new(server.alloc)) else {
         return ServiceEnd::Memory;
     };
-    let mut link = HttpLink::new(another, Seq::new(alloc));
-    let Ok((_commons, mut pass)) = Commons::new(alloc, Seq::new(alloc)) else {
-        drop(link);
-        return ServiceEnd::Memory;
-    };
-    serve_node(
-        node,
-        rt,
-        alloc,
-        port,
-        connections,
-        net,
-        &mut pass,
-        &mut link,
-        clock,
-        notes,
-    )
-}
-
-// Takes the port and answers the connections.
-fn serve_node<R: Wait, N: Network, L: Link, C: Clock>(
-    node: &Node,
-    rt: &R,
-    alloc: Global,
-    port: u16,
-    connections: u64,
-    net: &mut N,
-    pass: &mut FedPass,
-    link: &mut L,
-    clock: &mut C,
-    notes: &mut Notes,
-) -> ServiceEnd
-    requires alone { node.now.resolver ≡ None }
-    ensures ends { EndsOf
-        (λ peer. peer_at (N.Peer.left peer) (N.Peer.held peer) (N.Peer.read_faults peer) (N.Peer.write_faults peer))
-        node.now.registry (record { port = port; connections = connections })
-        (record {
-          service = service_at (N.port net.old) (N.callers net.old) (N.settled net.old) (clock_at (C.readings clock.old) (C.last clock.old) (C.told clock.old));
-          faults = N.faults net.old;
-        })
-        (record {
-          service = service_at (N.port net.new) (N.callers net.new) (N.settled net.new) (clock_at (C.readings clock.new) (C.last clock.new) (C.told clock.new));
-          faults = N.faults net.new;
-        }) result }
-    ensures exchanges { N.exchanges net.new ≡ N.exchanges net.old }
-{
-    if net.listen(port).is_err() {
-        explain_port(alloc, port, notes);
+    if net.listen(post.port).is_err() {
+        explain_port(server.alloc, post.port, notes);
         return ServiceEnd::NetworkFailed;
     }
-    match serve_connections(node, rt, alloc, net, pass, link, clock, connections) {
+    match serve_connections(server, net, &mut pass, clock, post.connections) {
         Ok(()) => ServiceEnd::Served,
         Err(Stop::Network) => {
-            explain_accept(alloc, notes);
+            explain_accept(server.alloc, notes);
             ServiceEnd::NetworkFailed
         }
         Err(Stop::Memory) => ServiceEnd::Memory,

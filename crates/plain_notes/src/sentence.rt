@@ -4,10 +4,10 @@ ghost use Rattle.std.specs.Prelude.{◌≡◌, ◌<◌, ◌++◌, ◌∷◌, [],
 ghost use Rattle.std.specs.List.{list_all};
 ghost use Rattle.plain_notes.specs.Notes.{IsLonger, IsPlain, digit, is_printable, piece, shown, shown_byte};
 
+use crate::dated::append_moment;
 use fed_base::{Memory, Text};
 use std::alloc::Global;
 use std::marker::Model;
-use utc_dates::append_date;
 
 // How many bytes of a piece are shown at most.
 const MOST: usize = 400;
@@ -66,13 +66,9 @@ impl Sentence {
 
     /// The sentence with a moment behind it, which is in seconds since 1970, and then its date.
     pub fn and_moment(self, alloc: Global, moment: u64) -> Sentence {
-        let mut date = Text::new(alloc);
-        match append_date(alloc, &mut date, moment) {
-            Ok(()) => self
-                .and_number(alloc, moment)
-                .and(b" (")
-                .and(date.as_slice())
-                .and(b")"),
+        let mut text = Text::new(alloc);
+        match append_moment(alloc, &mut text, moment) {
+            Ok(()) => self.and(text.as_slice()),
             Err(_) => Sentence { text: None },
         }
     }
@@ -129,7 +125,7 @@ fn add_byte(text: &mut Text, byte: u8) -> Result<(), Memory>
 }
 
 #[tactic(auto, unfolding(crate::specs::Notes::digit))]
-fn digit(n: u8) -> u8
+pub(crate) fn digit(n: u8) -> u8
     requires { n < 16 }
     ensures digit { result ≡ digit n }
     ensures plain { IsTrue (is_printable result) }

@@ -3,10 +3,10 @@ use Rattle.std.proofs.Common.{◌≡◌, ℕ, [], Some, Result, Ok, Err, IfOk, s
 use Rattle.fed_net.specs.declared.memory_peer.MemoryPeer.{MemoryPeer}
 use Rattle.fed_net.specs.MemoryPeers.{peer_held}
 use Rattle.turn_log.specs.Runs.{call_limit}
-use Rattle.resolve_pages.specs.Acts.{HasCounted}
+use Rattle.resolve_round.specs.Acts.{HasCounted}
 use Rattle.fed_resolver.specs.Calls.{GaveAll, WornOnly}
-use Rattle.resolver_answers.specs.Resolutions.{CallAt, Walking}
-use Rattle.resolver_answers.specs.Rotations.{stranger, asked, worn, untested}
+use Rattle.fed_serve.specs.Resolutions.{CallAt, Walking}
+use Rattle.fed_serve.specs.Rotations.{stranger, asked, worn, untested}
 use Rattle.fed_serve.specs.declared.node.Node.{Node}
 use Rattle.fed_serve.specs.declared.served.Served.{Served}
 use Rattle.fed_serve.specs.declared.serving.ServeFault.{ServeFault}

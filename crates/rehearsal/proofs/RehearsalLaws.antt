@@ -7,15 +7,7 @@ use Rattle.fed_net.specs.MemoryLinks.{link_plan, link_web, page_of}
 use Rattle.key_ring.specs.Rings.{Ring}
 use Rattle.authority_core.specs.Nodes.{Node as Authority}
 use Rattle.turn_log.specs.Groups.{known}
-use Rattle.turn_log.specs.declared.pass.PassSeat.{PassSeat}
-use Rattle.turn_log.specs.declared.group.Group.{Group}
-use Rattle.statement_shelf.specs.Book.{Book}
-use Rattle.statement_shelf.specs.Entries.{Part}
-use Rattle.statement_shelf.specs.Passes.{CommonsKnown}
-use Rattle.statement_shelf.specs.declared.calls.ShelfCall.{ShelfCall}
-use Rattle.statement_shelf.specs.declared.calls.ShelfReply.{ShelfReply}
-use Rattle.statement_shelf.specs.declared.calls.BookCall.{BookCall}
-use Rattle.statement_shelf.specs.declared.calls.BookReply.{BookReply}
+use Rattle.statement_shelf.specs.Passes.{CommonsKnown, CommonsPass}
 use Rattle.fed_serve.specs.declared.node.Node.{Node}
 use Rattle.rehearsal.specs.declared.fault.RehearsalFault.{RehearsalFault}
 use Rattle.rehearsal.specs.declared.fault.RehearsalFault.TheVariants.{Worn, Memory}
@@ -73,13 +65,13 @@ rehearsed params old pages anchor link plan summary none adds web planned unmade
 
 -- a pass is held where an object was worn, and none anywhere else
 module _ {S T : Type 0} {X : Type 0} where
-  pub held-worn : (result : Result X RehearsalFault) (pass : Group (PassSeat S Part ShelfCall ShelfReply) (PassSeat T Book BookCall BookReply))
-      (worn : Option (Group (PassSeat S Part ShelfCall ShelfReply) (PassSeat T Book BookCall BookReply))) → is_worn result ≡ true → IfErr result (IsWornOf (known pass)) → worn ≡ Some pass → HoldsWornBy result worn
+  pub held-worn : (result : Result X RehearsalFault) (pass : CommonsPass S T)
+      (worn : Option (CommonsPass S T)) → is_worn result ≡ true → IfErr result (IsWornOf (known pass)) → worn ≡ Some pass → HoldsWornBy result worn
   held-worn (Ok x) pass worn worn_so only is = cc worn_so
   held-worn (Err Worn) pass worn worn_so only is = (pass, is, only)
   held-worn (Err Memory) pass worn worn_so only is = cc worn_so
 
-  pub none-worn : (result : Result X RehearsalFault) (worn : Option (Group (PassSeat S Part ShelfCall ShelfReply) (PassSeat T Book BookCall BookReply))) → is_worn result ≡ false → worn ≡ None → HoldsWornBy result worn
+  pub none-worn : (result : Result X RehearsalFault) (worn : Option (CommonsPass S T)) → is_worn result ≡ false → worn ≡ None → HoldsWornBy result worn
   none-worn (Ok x) worn not_worn is = is
   none-worn (Err Worn) worn not_worn is = absurd (cc not_worn)
   none-worn (Err Memory) worn not_worn is = is

@@ -12,16 +12,8 @@ use Rattle.fed_net.specs.MemoryPeers.{peer_held}
 use Rattle.turn_log.specs.Passes.{unused}
 use Rattle.turn_log.specs.Runs.{call_limit}
 use Rattle.turn_log.specs.Groups.{known}
-use Rattle.turn_log.specs.declared.pass.PassSeat.{PassSeat}
-use Rattle.turn_log.specs.declared.group.Group.{Group}
-use Rattle.statement_shelf.specs.Book.{Book}
-use Rattle.statement_shelf.specs.Entries.{Part}
-use Rattle.statement_shelf.specs.Passes.{CommonsKnown}
-use Rattle.statement_shelf.specs.declared.calls.ShelfCall.{ShelfCall}
-use Rattle.statement_shelf.specs.declared.calls.ShelfReply.{ShelfReply}
-use Rattle.statement_shelf.specs.declared.calls.BookCall.{BookCall}
-use Rattle.statement_shelf.specs.declared.calls.BookReply.{BookReply}
-use Rattle.resolve_pages.specs.Acts.{HasCounted}
+use Rattle.statement_shelf.specs.Passes.{CommonsKnown, CommonsPass}
+use Rattle.resolve_round.specs.Acts.{HasCounted}
 use Rattle.fed_serve.specs.declared.node.Node.{Node}
 use Rattle.rehearsal.specs.declared.fault.RehearsalFault.{RehearsalFault}
 use Rattle.rehearsal.specs.declared.fault.RehearsalFault.TheVariants.{Worn, Memory}
@@ -99,11 +91,11 @@ is_worn (Err Memory) = false
 
 module _ {S T : Type 0} where
   -- a pass is held exactly where a shared object was worn: it has seen all the 2^62 calls on one
-  abbrev pub HoldsWornOf : RehearsalFault → Option (Group (PassSeat S Part ShelfCall ShelfReply) (PassSeat T Book BookCall BookReply)) → Type 0
+  abbrev pub HoldsWornOf : RehearsalFault → Option (CommonsPass S T) → Type 0
   HoldsWornOf Worn worn =
-      (pass : Group (PassSeat S Part ShelfCall ShelfReply) (PassSeat T Book BookCall BookReply)) × (worn ≡ Some pass) × HasCounted (known pass) call_limit
+      (pass : CommonsPass S T) × (worn ≡ Some pass) × HasCounted (known pass) call_limit
   HoldsWornOf Memory worn = worn ≡ None
 
-  abbrev pub HoldsWornBy : {X : Type 0} → Result X RehearsalFault → Option (Group (PassSeat S Part ShelfCall ShelfReply) (PassSeat T Book BookCall BookReply)) → Type 0
+  abbrev pub HoldsWornBy : {X : Type 0} → Result X RehearsalFault → Option (CommonsPass S T) → Type 0
   HoldsWornBy (Ok x) worn = worn ≡ None
   HoldsWornBy (Err fault) worn = HoldsWornOf fault worn

@@ -10,19 +10,19 @@ use Rattle.turn_log.specs.Passes.{unused}
 use Rattle.turn_log.specs.Runs.{call_limit}
 use Rattle.statement_shelf.specs.Book.{opened_with}
 use Rattle.statement_shelf.specs.Passes.{CommonsKnown, opened_book}
-use Rattle.resolve_pages.specs.Acts.{HasCounted}
-use Rattle.resolve_pages.specs.Walking.{Giving}
+use Rattle.resolve_round.specs.Acts.{HasCounted}
+use Rattle.resolve_round.specs.Walking.{Giving}
 use Rattle.fed_resolver.specs.Calls.{GaveAll}
-use Rattle.resolver_answers.specs.declared.part.ResolverPart.{ResolverPart}
-use Rattle.resolver_answers.specs.Resolutions.{CallAt, call_at}
+use Rattle.fed_serve.specs.declared.part.ResolverPart.{ResolverPart}
+use Rattle.fed_serve.specs.Resolutions.{CallAt, call_at}
 use Rattle.fed_serve.specs.declared.node.Node.{Node}
 use Rattle.fed_serve.specs.declared.served.Served.{Served}
 use Rattle.fed_serve.specs.declared.serving.ServeFault.{ServeFault}
 use Rattle.fed_serve.specs.declared.serving.ServeFault.TheVariants as serve
 use Rattle.fed_serve.specs.Moments.{ClockAt, PeerAt, around, clock_at}
 use Rattle.fed_serve.specs.Serving.{Serves}
-use Rattle.resolve_once.specs.declared.parts.Parts.{Parts}
-use Rattle.resolve_once.specs.Steps.{ArePartsOf}
+use Rattle.node_files.specs.declared.parts.Parts.{Parts}
+use Rattle.node_files.specs.ResolvingParts.{ArePartsOf}
 use Rattle.rehearsal.specs.declared.fault.RehearsalFault.{RehearsalFault}
 use Rattle.rehearsal.specs.declared.fault.RehearsalFault.TheVariants.{Worn, Memory}
 use Rattle.rehearsal.specs.declared.requesting.Answer.{Answer}
@@ -31,11 +31,12 @@ use Rattle.rehearsal.specs.Moments.{moment}
 
 -- ---- the resolver
 
--- the part for resolving is that of a configuration: it has the signer and the trust anchors that this sets
+-- the part for resolving is that of a configuration: it has the signer, the control keys and the trust anchors that this sets
 pub record IsPartOf (configured : Authority) (part : ResolverPart) : Type 0 where
   pub parts : Parts
   pub are : ArePartsOf configured parts
   pub signer : part.signer ≡ parts.signer
+  pub control : part.control ≡ parts.control
   pub opened : opened_book part.commons ≡ opened_with parts.anchors
 
 -- the node is that of a configuration, and has such a part

@@ -4,7 +4,7 @@ ghost use Rattle.std.specs.Prelude.{◌≡◌, IfErr, IfOk, IfSome, Some};
 ghost use Rattle.fed_base.specs.Ledgers.{plain_count};
 ghost use Rattle.statement_shelf.specs.Passes.{IsPassOfAll};
 ghost use Rattle.turn_log.specs.Groups.{known};
-ghost use Rattle.resolve_pages.specs.Acts.{IsKept};
+ghost use Rattle.resolve_round.specs.Acts.{IsKept};
 ghost use Rattle.rehearsal.specs.declared.fault.RehearsalFault.TheVariants.{Memory as WantOfMemory};
 ghost use Rattle.rehearsal.specs.Requests.{IsAnswer, IsBrokenOff, IsHandedOn, IsWornBy, IsWornOf, shared_at};
 

@@ -13,10 +13,9 @@ use crate::configurations::{RESOLVER_KEY, resolver_configuration};
 use crate::federation::registry_of;
 use crate::keys::ring_of;
 use authority_core::Registry;
-use fed_base::{Duplicate, Memory};
+use fed_base::Memory;
 use fed_serve::{Node, ResolverPart};
-use jwk_set::JwkSet;
-use resolve_once::{Parts, parts_of};
+use node_files::{Parts, parts_of};
 use statement_shelf::{Commons, FedPass};
 use std::alloc::Global;
 
@@ -69,21 +68,17 @@ fn part_of(alloc: Global, registry: &Registry) -> Result<(ResolverPart, FedPass)
     ensures unused { IfOk result (λ r. IsUnused r.1) }
     ensures whole { IfOk result (λ r. OwnsEach r.1) }
 {
-    let Some(config) = registry.resolver_config() else {
+    let Some(_) = registry.resolver_config() else {
         return Err(Memory);
     };
-    let control = config.control.copy(alloc)?;
     let parts = parts_of(alloc, registry)?;
-    open_parts(alloc, parts, control)
+    open_parts(alloc, parts)
 }
 
 // Opens the shared objects of these parts.
-fn open_parts(
-    alloc: Global,
-    parts: Parts,
-    control: JwkSet,
-) -> Result<(ResolverPart, FedPass), Memory>
+fn open_parts(alloc: Global, parts: Parts) -> Result<(ResolverPart, FedPass), Memory>
     ensures signer { IfOk result (λ r. r.0.signer ≡ parts.signer) }
+    ensures control { IfOk result (λ r. r.0.control ≡ parts.control) }
     ensures opened { IfOk result (λ r. opened_book r.0.commons ≡ opened_with parts.anchors) }
     ensures of { IfOk result (λ r. IsPassOfAll r.0.commons r.1) }
     ensures unused { IfOk result (λ r. IsUnused r.1) }
@@ -93,6 +88,8 @@ fn open_parts(
         signer,
         anchors,
         routes,
+        control,
+        workers: _,
     } = parts;
     drop(routes);
     match Commons::new(alloc, anchors) {

@@ -2,9 +2,9 @@
 
 use crate::reading::belongs;
 use chain_check::{Reason, Verdict};
+use chain_notes::{Asked, explain_verdict};
 use entity_statement::{SignedStatement, Statement};
 use fed_base::{Duplicate, Seq, Text};
-use fed_notes::{Asked, explain_verdict};
 use fed_ports::Page;
 use plain_notes::{Notes, Sentence};
 use resolve_round::{Ask, Got, Search, Trace, checked};

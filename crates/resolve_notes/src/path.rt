@@ -2,10 +2,10 @@
 
 use crate::reading::{belongs, read_at, read_of};
 use chain_check::{Verdict, check_chain};
+use chain_notes::{Asked, explain_verdict};
 use entity_id::EntityId;
 use entity_statement::{SignedStatement, Statement};
 use fed_base::{Duplicate, Plain, Seq, Steps, Text};
-use fed_notes::{Asked, explain_verdict};
 use plain_notes::{Notes, Sentence};
 use resolve_round::{Ask, ResolveRequest, Search, Trace};
 use std::alloc::Global;

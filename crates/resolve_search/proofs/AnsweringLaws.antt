@@ -26,13 +26,13 @@ use Rattle.resolve_round.specs.declared.trace.Search.{Search}
 use Rattle.resolve_round.specs.declared.trace.Trace.{Trace}
 use Rattle.resolve_search.specs.Answering.{IsRead, IsUseless, TellsAsk, is_link, passes_as, put_of, was_called}
 use Rattle.resolve_round.specs.Courses.{document_in, fetched, is_call, is_hit, text_got}
-use Rattle.resolve_pages.specs.Keeping.{IsFetchedPage, kept_here, kept_new}
+use Rattle.resolve_round.specs.Keeping.{IsFetchedPage, kept_here, kept_new}
 use Rattle.resolve_round.specs.Knowing.{with_search}
 use Rattle.resolve_round.specs.Pages.{good_text, is_good, named_statement}
 use Rattle.resolve_round.specs.Reading.{IsGotReading}
 use Rattle.resolve_round.specs.Told.{Obtained}
-use Rattle.resolve_pages.proofs.GettingLaws.{earlier}
-use Rattle.resolve_pages.proofs.KeepingLaws.{keeps}
+use Rattle.resolve_round.proofs.GettingLaws.{earlier}
+use Rattle.resolve_round.proofs.KeepingLaws.{keeps}
 use Rattle.resolve_round.specs.Traces.{Kept, asks_in, kept_text, kept_until}
 
 -- ---- what was got

@@ -44,10 +44,10 @@ use Rattle.resolve_round.specs.Courses.{pages_of, text_got, url_of}
 use Rattle.resolve_search.specs.Judging.{AreGot, IsCandidate, IsRuled, IsRulingOf, IsSealedMore, IsShown, IsTried, IsTurn, case_at, gives_text, refused_as, texts_at, untried, url_for}
 use Rattle.resolve_round.specs.Knowing.{IsKnownGood, with_search}
 use Rattle.resolve_round.specs.Pages.{ToMerge}
-use Rattle.resolve_pages.specs.Testing.{KeepsKnown, MayTest, OnlyTests}
+use Rattle.resolve_round.specs.Testing.{KeepsKnown, MayTest, OnlyTests}
 use Rattle.resolve_round.specs.Told.{Obtained, ShownSealed, ShowsSeals}
 use Rattle.resolve_round.proofs.Elements.{filter-among}
-use Rattle.resolve_pages.proofs.GettingLaws.{earlier}
+use Rattle.resolve_round.proofs.GettingLaws.{earlier}
 use Rattle.resolve_search.proofs.JudgeLaws.{refusal-rules, ruling_of, unsealed-set}
 
 -- ---- items at places

@@ -21,21 +21,21 @@ use Rattle.chain_climb.specs.Sessions.{Extends, FitsPage, IsNextBy, IsNoChain, I
 use Rattle.chain_climb.proofs.ClimbLaws.{among-any, any-among, both_ways}
 use Rattle.chain_climb.proofs.Elements.{among-left, among-split}
 use Rattle.chain_climb.proofs.GiveLaws.{calls-more}
-use Rattle.resolve_pages.specs.declared.aim.Aim.{Aim}
+use Rattle.resolve_round.specs.declared.aim.Aim.{Aim}
 use Rattle.resolve_round.specs.declared.trace.Ask.{Ask}
 use Rattle.resolve_round.specs.declared.trace.Search.{Search}
 use Rattle.resolve_round.specs.declared.trace.Trace.{Trace}
 use Rattle.resolve_search.specs.Answering.{AsksAgain, AsksNow, Reports}
 use Rattle.resolve_round.specs.Answers.{IsRuling}
-use Rattle.resolve_pages.specs.Asking.{one_if}
+use Rattle.resolve_round.specs.Asking.{one_if}
 use Rattle.resolve_round.specs.Courses.{is_call, pages_of, url_of}
 use Rattle.resolve_search.specs.Driving.{Drives, PagesTell, Rules, looks_for, puts_for}
-use Rattle.resolve_pages.specs.Getting.{Point, if_looks, point}
+use Rattle.resolve_round.specs.Getting.{Point, if_looks, point}
 use Rattle.resolve_round.specs.Pages.{Pages, Query, ToMerge, chain_of, findings, good_text}
 use Rattle.resolve_round.specs.Rounds.{need_url}
-use Rattle.resolve_pages.specs.Testing.{OnlyTests}
+use Rattle.resolve_round.specs.Testing.{OnlyTests}
 use Rattle.resolve_round.specs.Traces.{kept_of, look_for, looks_in, puts_in}
-use Rattle.resolve_pages.proofs.AskingLaws.{page-kept}
+use Rattle.resolve_round.proofs.AskingLaws.{page-kept}
 use Rattle.resolve_round.proofs.FollowLaws.{answer-split, follows-again, follows-new, follows-verdict, last-answer}
 
 -- ---- lists

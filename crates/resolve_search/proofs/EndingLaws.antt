@@ -16,13 +16,13 @@ use Rattle.chain_climb.specs.Elements.{Among}
 use Rattle.chain_climb.specs.Sessions.{IsNext, IsNoChain, IsPageAnswer, Search as Searched, Wants, WantsPage, answer_to, answers_page, findings_of, want_of}
 use Rattle.chain_climb.proofs.Elements.{among-right}
 use Rattle.chain_climb.proofs.WalkLaws.{extends-self}
-use Rattle.resolve_pages.specs.declared.aim.Aim.{Aim}
+use Rattle.resolve_round.specs.declared.aim.Aim.{Aim}
 use Rattle.resolve_round.specs.declared.trace.Search.{Search}
 use Rattle.resolve_round.specs.declared.trace.Trace.{Trace}
 use Rattle.resolve_round.specs.Answers.{AnswersTell, IsMadeBy, IsRuling}
 use Rattle.resolve_round.specs.Courses.{Counts, Course, Stop, is_budget, pages_of, url_of}
 use Rattle.resolve_search.specs.Driving.{Drives}
-use Rattle.resolve_pages.specs.Getting.{Point}
+use Rattle.resolve_round.specs.Getting.{Point}
 use Rattle.resolve_round.specs.Pages.{HasValidChain, PassesToMerge, Query, findings}
 use Rattle.resolve_round.specs.Rounds.{Round, StopsAt, pages_in}
 use Rattle.resolve_round.proofs.Following.{want-one}

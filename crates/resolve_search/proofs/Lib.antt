@@ -1,4 +1,5 @@
 pub mod AnsweringLaws
+pub mod CallLaws
 pub mod ChainLaws
 pub mod DrivingLaws
 pub mod EndingLaws

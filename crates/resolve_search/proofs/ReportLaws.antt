@@ -10,18 +10,18 @@ use Rattle.chain_climb.specs.declared.answer.Report.{Report}
 use Rattle.chain_climb.specs.declared.answer.Report.TheVariants.{Good, Useless, Fault, Spent}
 use Rattle.chain_climb.specs.Climbs.{Need, page_named}
 use Rattle.chain_climb.specs.Sessions.{FitsPage, IsPageAnswer, is_call as is_answered_call}
-use Rattle.resolve_pages.specs.declared.aim.Aim.{Aim}
-use Rattle.resolve_pages.specs.declared.getting.Place.{Place}
+use Rattle.resolve_round.specs.declared.aim.Aim.{Aim}
+use Rattle.resolve_round.specs.declared.getting.Place.{Place}
 use Rattle.resolve_round.specs.declared.trace.Ask.{Ask}
 use Rattle.resolve_round.specs.declared.trace.Got.{Got}
 use Rattle.resolve_round.specs.declared.trace.Got.TheVariants as got
 use Rattle.resolve_round.specs.declared.trace.Trace.{Trace}
 use Rattle.resolve_search.specs.Answering.{AsksAgain, AsksNow, IsPageReport, SameCall, TellsAsk, put_of}
 use Rattle.resolve_round.specs.Courses.{is_call, pages_of, text_got}
-use Rattle.resolve_pages.specs.Getting.{IsPlace, NotAsked, OnlyEvents, Point, TakesAsk, WasBefore, point}
-use Rattle.resolve_pages.specs.Keeping.{AddsPuts}
+use Rattle.resolve_round.specs.Getting.{IsPlace, NotAsked, OnlyEvents, Point, TakesAsk, WasBefore, point}
+use Rattle.resolve_round.specs.Keeping.{AddsPuts}
 use Rattle.resolve_round.specs.Pages.{findings, good_text}
-use Rattle.resolve_pages.specs.Testing.{CountsChecks, OnlyTests}
+use Rattle.resolve_round.specs.Testing.{CountsChecks, OnlyTests}
 use Rattle.resolve_round.specs.Traces.{Kept, kept_of, looks_in, puts_in}
 
 fits_report : (calls most : ℕ) (report : Report) → IsPageAnswer report → (is_answered_call report ≡ true → calls < most) → FitsPage false calls most (Some report)
@@ -54,7 +54,7 @@ module _ (aim : Aim) (issuer subject : Identifier) (url : List ℕ) (old mid : P
     (new : Trace) (answer : Answer) (moment : mid.trace.moment ≡ old.trace.moment)
     (told : TellsAsk mid.trace.moment (page_named issuer subject (is.ask).url) is.ask answer)
     (looks : looks_in new.events ≡ looks_in mid.trace.events)
-    (puts : puts_in new.events ≡ puts_in mid.trace.events ++ put_of place.now mid.trace.moment aim.age (page_named issuer subject (is.ask).url) is.ask) where
+    (puts : puts_in new.events ≡ puts_in mid.trace.events ++ put_of place.fresh mid.trace.moment aim.age (page_named issuer subject (is.ask).url) is.ask) where
   abbrev page : Need
   page = page_named issuer subject url
 
@@ -64,10 +64,10 @@ module _ (aim : Aim) (issuer subject : Identifier) (url : List ℕ) (old mid : P
   here : TellsAsk old.trace.moment page is.ask answer
   here = subst (λ p. TellsAsk old.trace.moment p is.ask answer) same_page (subst (λ t. TellsAsk t (page_named issuer subject (is.ask).url) is.ask answer) moment told)
 
-  put_here : puts_in new.events ≡ puts_in mid.trace.events ++ put_of place.now old.trace.moment aim.age page is.ask
+  put_here : puts_in new.events ≡ puts_in mid.trace.events ++ put_of place.fresh old.trace.moment aim.age page is.ask
   put_here =
-      puts ∙ ap (λ t. puts_in mid.trace.events ++ put_of place.now t aim.age (page_named issuer subject (is.ask).url) is.ask) moment
-      ∙ ap (λ p. puts_in mid.trace.events ++ put_of place.now old.trace.moment aim.age p is.ask) same_page
+      puts ∙ ap (λ t. puts_in mid.trace.events ++ put_of place.fresh t aim.age (page_named issuer subject (is.ask).url) is.ask) moment
+      ∙ ap (λ p. puts_in mid.trace.events ++ put_of place.fresh old.trace.moment aim.age p is.ask) same_page
 
   again : WasBefore url place old mid → AsksAgain page old (point new mid.search)
   again was = record {
@@ -79,7 +79,7 @@ module _ (aim : Aim) (issuer subject : Identifier) (url : List ℕ) (old mid : P
         ∙ append-nil (puts_in mid.trace.events) ∙ ap (λ (p : Point). puts_in p.trace.events) was.same;
   }
 
-  now : TakesAsk aim.looks is.ask old mid → place.now ≡ is_call is.ask → AsksNow aim page old (point new mid.search) here.report
+  now : TakesAsk aim.looks is.ask old mid → place.fresh ≡ is_call is.ask → AsksNow aim page old (point new mid.search) here.report
   now takes calls = record {
     ask = is.ask;
     at = is.at;
@@ -107,7 +107,7 @@ module _ (aim : Aim) (issuer subject : Identifier) (url : List ℕ) (old mid : P
     },
   )
     where
-      by_source : WasBefore url place old mid ⊎ (TakesAsk aim.looks is.ask old mid × (place.now ≡ is_call is.ask)) → AsksAgain page old (point new mid.search) ⊎ AsksNow aim page old (point new mid.search) here.report
+      by_source : WasBefore url place old mid ⊎ (TakesAsk aim.looks is.ask old mid × (place.fresh ≡ is_call is.ask)) → AsksAgain page old (point new mid.search) ⊎ AsksNow aim page old (point new mid.search) here.report
       by_source (inl was) = inl (again was)
       by_source (inr (takes, calls)) = inr (now takes calls)
 

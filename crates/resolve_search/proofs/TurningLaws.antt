@@ -1,7 +1,7 @@
 -- How a round goes on from one turn of its session to the next, and how it ends.
 use Rattle.std.proofs.Common.{◌≡◌, ◌<◌, ◌+◌, ◌⊎◌, ℕ, List, [], ◌∷◌, ◌++◌, length, map, take, filter_map, Bool, true, false, cond, Option, Some, None, Result, Ok, Err, refl, sym, ap, ◌∙◌, subst, inl, inr, ⊎_elim, append-nil, append_assoc, arith, bytes_eq, true≢false}
 use Rattle.std.proofs.lemmas.List.Elements.{filter_map-append}
-use Rattle.std.specs.Prelude.{◌-◌, IfErr, OnErr, OnOk}
+use Rattle.std.specs.Prelude.{◌-◌, OnOk}
 use Rattle.std.specs.List.{list_any}
 use Rattle.std.proofs.lemmas.List.{length_push}
 use Rattle.fed_json.proofs.Order.{bytes_eq-itself, equal-bytes_eq}
@@ -30,7 +30,7 @@ use Rattle.chain_climb.proofs.ClimbLaws.{among-any, any-among}
 use Rattle.chain_climb.proofs.Elements.{among-right, among-split}
 use Rattle.chain_climb.proofs.LevelLaws.{judged-path}
 use Rattle.chain_climb.proofs.WalkLaws.{extends-self}
-use Rattle.resolve_pages.specs.declared.aim.Aim.{Aim}
+use Rattle.resolve_round.specs.declared.aim.Aim.{Aim}
 use Rattle.resolve_search.specs.declared.round.FoundChain.{FoundChain}
 use Rattle.resolve_search.specs.declared.round.RoundEnd.{RoundEnd}
 use Rattle.resolve_round.specs.declared.trace.Check.{Check}
@@ -39,30 +39,27 @@ use Rattle.resolve_round.specs.declared.trace.Search.{Search}
 use Rattle.resolve_round.specs.declared.trace.Trace.{Trace}
 use Rattle.resolve_search.specs.Answering.{AsksAgain, AsksNow, Reports, SameCall}
 use Rattle.resolve_round.specs.Answers.{AnswersTell, IsRuling}
-use Rattle.resolve_pages.specs.Asking.{one_if}
+use Rattle.resolve_round.specs.Asking.{one_if}
 use Rattle.resolve_round.specs.Courses.{Counts, Course, Stop, finished, found, is_budget, out_of_calls, out_of_paths, pages_of, url_of}
 use Rattle.resolve_search.specs.Driving.{Rules, looks_for}
-use Rattle.resolve_pages.specs.Getting.{IsSpentAt, Point, point}
+use Rattle.resolve_round.specs.Getting.{IsSpentAt, Point, point}
 use Rattle.resolve_search.specs.Judging.{IsFound, case_at, texts_at}
 use Rattle.resolve_round.specs.Knowing.{HoldsSoFar, with_search}
-use Rattle.resolve_pages.specs.declared.halt.Halt.{Halt}
-use Rattle.resolve_pages.specs.Acts.{IfWorn}
-use Rattle.resolve_pages.specs.Linking.{LinkSeen, TriesLink, UsesLink}
+use Rattle.resolve_round.specs.Linking.{LinkSeen, TriesLink, UsesLink}
 use Rattle.resolve_round.specs.Pages.{HasValidChain, Query, ToMerge, chain_of}
 use Rattle.resolve_round.specs.Rounds.{EndsAs, FoundPath, Round, StopsAt, need_url, pages_in}
-use Rattle.resolve_pages.specs.Testing.{OnlyTests}
+use Rattle.resolve_round.specs.Testing.{OnlyTests}
 use Rattle.resolve_round.specs.Told.{FetchedText, IsCheck, IsTrueSoFar, NamedByStatement, Obtained, ProvesGood, ShownSealed}
 use Rattle.resolve_round.specs.Traces.{ShelfEvent, asks_in, look_at_end, look_for, looks_in, puts_in}
 use Rattle.resolve_search.specs.Turning.{IsChain, IsRoundEnd, IsUnderWay, UsesLinkOnce, WantsPageNow, WantsVerdictNow, blank, ended_as, query_at}
-use Rattle.resolve_pages.proofs.ActsLaws.{worn-always}
 use Rattle.resolve_search.proofs.ChainLaws.{case-same}
 use Rattle.resolve_search.proofs.DrivingLaws.{drives-page, drives-tests, drives-verdict}
 use Rattle.resolve_search.proofs.EndingLaws.{Ending, ending, no_path, nothing, round-at, tells}
 use Rattle.resolve_round.proofs.FollowLaws.{follows-begun}
 use Rattle.resolve_round.proofs.Following.{AtPage, AtPath, at-page, at-path}
-use Rattle.resolve_pages.proofs.GettingLaws.{earlier, holds-counts}
-use Rattle.resolve_pages.proofs.Lasts.{front-taken}
-use Rattle.resolve_pages.proofs.LinkLaws.{uses-none}
+use Rattle.resolve_round.proofs.GettingLaws.{earlier, holds-counts}
+use Rattle.resolve_round.proofs.Lasts.{front-taken}
+use Rattle.resolve_round.proofs.LinkLaws.{uses-none}
 use Rattle.resolve_search.proofs.PathUrls.{chain-asked, found-answered}
 use Rattle.resolve_round.proofs.RoundEnds.{plain-end}
 use Rattle.resolve_round.proofs.TraceLaws.{ask-good, ask-more}
@@ -646,14 +643,6 @@ done-turn aim start p s under counts last want search made is end ends =
 pub ok-always : {X E P : Type 0} (r : Result X E) → P → OnOk r P
 ok-always (Ok x) p = p
 ok-always (Err e) p = tt
-
-pub err-always : {X E P : Type 0} (r : Result X E) → P → OnErr r P
-err-always (Ok x) p = tt
-err-always (Err e) p = p
-
-pub worn-result : {X P : Type 0} (r : Result X Halt) → P → IfErr r (λ h. IfWorn h P)
-worn-result (Ok x) p = tt
-worn-result (Err h) p = worn-always h p
 
 -- ---- the whole round
 

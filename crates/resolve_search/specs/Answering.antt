@@ -14,14 +14,14 @@ use Rattle.chain_climb.specs.declared.answer.Report.{Report}
 use Rattle.chain_climb.specs.Climbs.{Need, page_named}
 use Rattle.chain_climb.specs.Elements.{Among}
 use Rattle.chain_climb.specs.Sessions.{FitsPage, IsPageAnswer, finding_in, is_call as is_answered_call, report_in}
-use Rattle.resolve_pages.specs.declared.aim.Aim.{Aim}
+use Rattle.resolve_round.specs.declared.aim.Aim.{Aim}
 use Rattle.resolve_round.specs.declared.trace.Ask.{Ask}
 use Rattle.resolve_round.specs.declared.trace.Got.{Got}
 use Rattle.resolve_round.specs.declared.trace.Got.TheVariants.{Hit, Fetched, Fault}
 use Rattle.resolve_round.specs.declared.trace.Trace.{Trace}
-use Rattle.resolve_pages.specs.Asking.{with_ask}
+use Rattle.resolve_round.specs.Asking.{with_ask}
 use Rattle.resolve_round.specs.Courses.{is_call, is_hit, pages_of, text_got, url_of}
-use Rattle.resolve_pages.specs.Getting.{IsSpentAt, NotAsked, Point, if_looks}
+use Rattle.resolve_round.specs.Getting.{IsSpentAt, NotAsked, Point, if_looks}
 use Rattle.resolve_round.specs.Pages.{findings, good_text, named_statement}
 use Rattle.resolve_round.specs.Traces.{Kept, kept_of, look_for, looks_in, puts_in}
 
@@ -69,7 +69,7 @@ pub record TellsAsk (t : ℕ) (page : Need) (ask : Ask) (answer : Answer) : Type
 
 -- what is put of an ask that was made now
 abbrev pub put_of : Bool → ℕ → ℕ → Need → Ask → List Kept
-put_of now t age page ask = if now then cons_option (kept_of t age (page, ask)) [] else []
+put_of fresh t age page ask = if fresh then cons_option (kept_of t age (page, ask)) [] else []
 
 -- the URL was asked before: nothing was looked up, asked or put
 pub record AsksAgain (page : Need) (old new : Point) : Type 0 where

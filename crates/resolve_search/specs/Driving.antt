@@ -8,13 +8,13 @@ use Rattle.chain_climb.specs.declared.path.Path.{Path}
 use Rattle.chain_climb.specs.Climbs.{Need, with_chain}
 use Rattle.chain_climb.specs.Elements.{Among}
 use Rattle.chain_climb.specs.Sessions.{IsPageAnswer, Search as Searched, answer_to, calls_in, finding_in, was_asked}
-use Rattle.resolve_pages.specs.declared.aim.Aim.{Aim}
+use Rattle.resolve_round.specs.declared.aim.Aim.{Aim}
 use Rattle.resolve_round.specs.declared.trace.Ask.{Ask}
 use Rattle.resolve_round.specs.declared.trace.Trace.{Trace}
 use Rattle.resolve_round.specs.Answers.{IsRuling}
 use Rattle.resolve_round.specs.Courses.{pages_of, url_of}
 use Rattle.resolve_round.specs.Following.{Follows}
-use Rattle.resolve_pages.specs.Getting.{Point}
+use Rattle.resolve_round.specs.Getting.{Point}
 use Rattle.resolve_round.specs.Pages.{HasValidChain, PassesToMerge, Query, findings}
 use Rattle.resolve_round.specs.Rounds.{need_url}
 use Rattle.resolve_round.specs.Traces.{Kept, ShelfEvent, kept_of, look_for, looks_in, puts_in}

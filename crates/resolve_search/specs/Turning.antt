@@ -1,5 +1,5 @@
 -- What holds of a round between two turns of its session, and at its end.
-use Rattle.std.specs.Prelude.{◌≡◌, ◌<◌, ◌+◌, ◌⊎◌, ℕ, List, [], ◌∷◌, ◌++◌, length, Bool, true, false, Option, Some, None}
+use Rattle.std.specs.Prelude.{◌≡◌, ◌<◌, ◌+◌, ◌⊎◌, ℕ, List, [], ◌∷◌, ◌++◌, length, Bool, true, false, Option, Some, None, Result, Ok, Err}
 use Rattle.chain_climb.specs.declared.path.Path.{Path}
 use Rattle.chain_climb.specs.declared.want.End.{End}
 use Rattle.chain_climb.specs.declared.want.End.TheVariants.{Budget}
@@ -7,20 +7,23 @@ use Rattle.chain_climb.specs.declared.want.Want.TheVariants.{Judge}
 use Rattle.chain_climb.specs.Climbs.{Findings, Need}
 use Rattle.chain_climb.specs.Sessions.{Extends, IsNextBy, Search as Searched, answer_to, want_of}
 use Rattle.chain_climb.specs.Wants.{next_want}
-use Rattle.resolve_pages.specs.declared.aim.Aim.{Aim}
+use Rattle.resolve_round.specs.declared.aim.Aim.{Aim}
 use Rattle.resolve_search.specs.declared.round.FoundChain.{FoundChain}
 use Rattle.resolve_search.specs.declared.round.RoundEnd.{RoundEnd}
+use Rattle.resolve_round.specs.declared.halt.Halt.{Halt}
+use Rattle.resolve_round.specs.declared.halt.Halt.TheVariants as halt
 use Rattle.resolve_round.specs.declared.trace.Search.{Search}
 use Rattle.resolve_round.specs.declared.trace.Trace.{Trace}
 use Rattle.resolve_search.specs.Answering.{SameCall}
 use Rattle.resolve_round.specs.Courses.{Course, found}
 use Rattle.resolve_search.specs.Driving.{Drives}
-use Rattle.resolve_pages.specs.Getting.{Point, point}
+use Rattle.resolve_round.specs.Getting.{Point, point}
 use Rattle.resolve_search.specs.Judging.{IsFound}
-use Rattle.resolve_pages.specs.Linking.{LinkSeen, UsesLink}
+use Rattle.resolve_round.specs.Linking.{LinkSeen, LinkView, UsesLink, seen_by}
 use Rattle.resolve_round.specs.Pages.{Query, case_in}
 use Rattle.resolve_round.specs.Rounds.{EndsAs, FoundPath, Round, pages_in}
 use Rattle.resolve_round.specs.Traces.{looks_in, looks_of, puts_in, puts_of}
+use Rattle.resolve_round.specs.Walking.{StumblesOnce, WalkedRound}
 
 -- what a round is after, under the keys and at the moment of a trace
 abbrev pub query_at : Aim → Trace → Query
@@ -69,6 +72,10 @@ abbrev pub IsStep : Aim → Trace → Point → Searched → Option RoundEnd →
 IsStep aim start p s None = IsUnderWay aim start p s
 IsStep aim start p s (Some end) = IsRoundEnd aim start p end
 
+-- the same, whenever the round began
+abbrev pub Turns : Aim → Point → Searched → Point → Searched → Option RoundEnd → Type 0
+Turns aim old before new after end = (start : Trace) → IsUnderWay aim start old before → IsStep aim start new after end
+
 -- ---- what the session wants
 
 -- the session wants this page, and later answers don't change that
@@ -116,3 +123,16 @@ pub record UsesLinkOnce (extra : ℕ) (seen now : LinkSeen) (old new : Trace) : 
   pub added : (new.searches ≡ old.searches) ⊎ AddsRound old search new
   pub used : UsesLink extra seen now (blank []) search
   pub none : new.searches ≡ old.searches → now ≡ seen
+
+-- where memory was wanting the link was called once more, at most; where an object is worn, as the round counts
+abbrev pub TriesOnce : LinkSeen → LinkSeen → Trace → Trace → Halt → Type 0
+TriesOnce seen now old new (halt.Worn count) = UsesLinkOnce 0 seen now old new
+TriesOnce seen now old new halt.Memory = UsesLinkOnce 0 seen now old new ⊎ UsesLinkOnce 1 seen now old new
+
+-- how the round used the link, by the result: it was called as the round counts, and the asks got what it gave; where the round broke off,
+-- it may have been called once more
+abbrev pub RoundUsed : {L A : Type 0} → LinkView L → L → L → Trace → Trace → Result A Halt → Type 0
+RoundUsed view old new before after (Ok value) =
+    UsesLinkOnce 0 (seen_by view old) (seen_by view new) before after × WalkedRound view.gave old new before after
+RoundUsed view old new before after (Err cause) =
+    TriesOnce (seen_by view old) (seen_by view new) before after cause × StumblesOnce view.gave old new before after

@@ -1,28 +1,24 @@
 // Chains that are judged.
 
-ghost use Rattle.std.specs.Prelude.{◌≡◌, ◌<◌, [], ℕ, length, map, true, IfErr, IfOk, IsOk, OnOk, slice_index_or};
+ghost use Rattle.std.specs.Prelude.{◌≡◌, ◌<◌, [], ℕ, length, map, true, IfOk, IsOk, OnOk, slice_index_or};
 ghost use Rattle.std.specs.Option.{option_copied};
-ghost use Rattle.turn_log.specs.Groups.{known};
 ghost use Rattle.jws_form.specs.Compact.{IsCompact};
 ghost use Rattle.jws_form.specs.Splitting.{splitting};
 ghost use Rattle.sealed.specs.Seals.{IsSealed, pair_of};
 ghost use Rattle.chain_check.specs.Judging.{NeedsTest, texts_of};
-ghost use Rattle.statement_shelf.specs.Passes.{IsPassOfAll};
-ghost use Rattle.resolve_pages.specs.Acts.{Continues, IsHalt, IsKept};
 ghost use Rattle.resolve_round.specs.Courses.{pages_of};
+ghost use Rattle.resolve_search.specs.Calls.{HasPass, Judges, Tests};
 ghost use Rattle.resolve_search.specs.Judging.{AreGot, IsCandidate, IsRuled, IsRulingOf, IsSealedMore, IsTried, IsTurn, case_at, gives_text, refused_as, texts_at, untried, url_for};
-ghost use Rattle.resolve_round.specs.Knowing.{AnswersStand, HoldsSoFar, IsAnswer, IsKnownGood, with_search};
-ghost use Rattle.resolve_pages.specs.Testing.{CountsChecks, KeepsKnown, OnlyTests, StaysProved, StaysTrue};
-ghost use Rattle.resolve_round.specs.Told.{ProvesGood};
+ghost use Rattle.resolve_round.specs.Knowing.{AnswersStand, HoldsSoFar, IsAnswer, IsKnownGood};
+ghost use Rattle.resolve_round.specs.Testing.{KeepsKnown, StaysProved, StaysTrue};
 
+use crate::call::Call;
 use chain_check::{Judged, Reason, Resolved, Screened, Tried, Verdict, judge_candidate, screen};
 use entity_statement::SignedStatement;
-use fed_base::{Duplicate, Ledger, Memory, Seq, Steps, Text};
+use fed_base::{Duplicate, Ledger, Memory, Seq, Text};
 use jws_form::{Compact, FormFault, split};
-use resolve_pages::{Aim, Halt, verifies};
-use resolve_round::{Ask, Search, Trace, text_got};
+use resolve_round::{Aim, Ask, Halt, Search, text_got, verifies};
 use sealed::Sealed;
-use statement_shelf::{Commons, FedPass};
 use std::alloc::Global;
 use std::sync::Wait;
 
@@ -144,70 +140,58 @@ fn compact_of(alloc: Global, text: &Text) -> Result<Compact, Memory>
 
 // Whether a text at the URL verifies under the key.
 fn text_verifies<R: Wait, G: Ledger>(
-    commons: &Commons,
-    rt: &R,
-    alloc: Global,
-    pass: &mut FedPass,
-    trace: &mut Trace,
-    steps: &mut Steps<G>,
+    call: &mut Call<'_, R, G>,
     url: &Text,
     text: &Text,
     public: &[u8; 32],
 ) -> Result<bool, Halt>
-    requires of { IsPassOfAll commons.now pass.old }
+    requires of { HasPass call.old }
     requires compact { IsOk (splitting text.now) }
-    requires answers { AnswersStand trace.old.checks }
-    ensures kept { IsKept commons.now pass.old pass.new }
-    ensures continues { Continues trace.old.events trace.new.events (known pass.old) (known pass.new) }
-    ensures halt { IfErr result (IsHalt (known pass.new)) }
+    requires answers { AnswersStand call.old.trace.now.checks }
+    ensures tests { Tests G.count call.old call.new result }
     ensures answer { IfOk result (IsAnswer (pair_of text.now public.now)) }
-    ensures good { IfOk result (λ good. good ≡ true → IsKnownGood trace.new (pair_of text.now public.now)) }
-    ensures only { OnlyTests trace.old trace.new }
-    ensures stays_known { KeepsKnown trace.old trace.new }
-    ensures stays_true { StaysTrue url.now (pair_of text.now public.now) trace.old trace.new }
-    ensures proved { OnOk result (StaysProved url.now (pair_of text.now public.now) trace.old trace.new) }
-    ensures counted { CountsChecks trace.old.checks trace.new.checks (G.count steps.old.ledger) (G.count steps.new.ledger) }
+    ensures good { IfOk result (λ good. good ≡ true → IsKnownGood call.new.trace.now (pair_of text.now public.now)) }
+    ensures stays_known { KeepsKnown call.old.trace.now call.new.trace.now }
+    ensures stays_true { StaysTrue url.now (pair_of text.now public.now) call.old.trace.now call.new.trace.now }
+    ensures proved { OnOk result (StaysProved url.now (pair_of text.now public.now) call.old.trace.now call.new.trace.now) }
 {
-    let compact = compact_of(alloc, text)?;
+    let compact = compact_of(call.alloc, text)?;
     verifies(
-        commons, rt, alloc, pass, trace, steps, url, &compact, public,
+        call.commons,
+        call.rt,
+        call.alloc,
+        call.pass,
+        call.trace,
+        call.steps,
+        url,
+        &compact,
+        public,
     )
 }
 
 // Makes the test that is wanted. Where the text verifies, one seal more of the chain is known; where it doesn't, the chain fails.
 fn test_seal<R: Wait, G: Ledger>(
-    commons: &Commons,
-    rt: &R,
-    alloc: Global,
-    pass: &mut FedPass,
-    trace: &mut Trace,
-    steps: &mut Steps<G>,
+    call: &mut Call<'_, R, G>,
     search: &Search,
     aim: &Aim,
     chain: Seq<Tried>,
     place: usize,
     public: &[u8; 32],
 ) -> Result<Turn, Halt>
-    requires of { IsPassOfAll commons.now pass.old }
-    requires holds { HoldsSoFar aim.now.age search.now trace.old }
+    requires of { HasPass call.old }
+    requires holds { HoldsSoFar aim.now.age search.now call.old.trace.now }
     requires got { AreGot search.now.asks (texts_of chain) }
-    requires needs { NeedsTest (case_at trace.old aim.now.anchor (texts_of chain)) chain place public.now }
-    ensures kept { IsKept commons.now pass.old pass.new }
-    ensures continues { Continues trace.old.events trace.new.events (known pass.old) (known pass.new) }
-    ensures halt { IfErr result (IsHalt (known pass.new)) }
-    ensures only { OnlyTests trace.old trace.new }
-    ensures holds { HoldsSoFar aim.now.age search.now trace.new }
-    ensures good { OnOk result (ProvesGood (with_search trace.old search.now) → ProvesGood (with_search trace.new search.now)) }
-    ensures turn { IfOk result (λ turn. (n : ℕ) → IsTried trace.old (case_at trace.old aim.now.anchor (texts_of chain)) n chain
-        → IsTurn trace.new (case_at trace.old aim.now.anchor (texts_of chain)) n turn) }
-    ensures counted { CountsChecks trace.old.checks trace.new.checks (G.count steps.old.ledger) (G.count steps.new.ledger) }
+    requires needs { NeedsTest (case_at call.old.trace.now aim.now.anchor (texts_of chain)) chain place public.now }
+    ensures judges { Judges G.count aim.now.age search.now call.old call.new result }
+    ensures turn { IfOk result (λ turn. (n : ℕ) → IsTried call.old.trace.now (case_at call.old.trace.now aim.now.anchor (texts_of chain)) n chain
+        → IsTurn call.new.trace.now (case_at call.old.trace.now aim.now.anchor (texts_of chain)) n turn) }
 {
     let text = &chain.as_slice()[place].text;
     let Some(url) = url_got(search.asks.as_slice(), text) else {
         unreachable!()
     };
-    if text_verifies(commons, rt, alloc, pass, trace, steps, url, text, public)? {
-        Ok(Turn::More(with_seal(alloc, chain, place, public)?))
+    if text_verifies(call, url, text, public)? {
+        Ok(Turn::More(with_seal(call.alloc, chain, place, public)?))
     } else {
         Ok(Turn::Ruled(Ruling::Invalid))
     }
@@ -215,82 +199,48 @@ fn test_seal<R: Wait, G: Ledger>(
 
 // One turn of a judgement.
 fn take_turn<R: Wait, G: Ledger>(
-    commons: &Commons,
-    rt: &R,
-    alloc: Global,
-    pass: &mut FedPass,
-    trace: &mut Trace,
-    steps: &mut Steps<G>,
+    call: &mut Call<'_, R, G>,
     search: &Search,
     aim: &Aim,
     entries: &Seq<SignedStatement>,
     chain: Seq<Tried>,
 ) -> Result<Turn, Halt>
-    requires of { IsPassOfAll commons.now pass.old }
-    requires holds { HoldsSoFar aim.now.age search.now trace.old }
+    requires of { HasPass call.old }
+    requires holds { HoldsSoFar aim.now.age search.now call.old.trace.now }
     requires got { AreGot search.now.asks (texts_of chain) }
-    requires candidate { IsCandidate (case_at trace.old aim.now.anchor (texts_of chain)) entries.now }
-    requires tried { IsTried trace.old (case_at trace.old aim.now.anchor (texts_of chain)) 0 chain }
-    ensures kept { IsKept commons.now pass.old pass.new }
-    ensures continues { Continues trace.old.events trace.new.events (known pass.old) (known pass.new) }
-    ensures halt { IfErr result (IsHalt (known pass.new)) }
-    ensures only { OnlyTests trace.old trace.new }
-    ensures holds { HoldsSoFar aim.now.age search.now trace.new }
-    ensures good { OnOk result (ProvesGood (with_search trace.old search.now) → ProvesGood (with_search trace.new search.now)) }
-    ensures turn { IfOk result (λ turn. (n : ℕ) → IsTried trace.old (case_at trace.old aim.now.anchor (texts_of chain)) n chain
-        → IsTurn trace.new (case_at trace.old aim.now.anchor (texts_of chain)) n turn) }
-    ensures counted { CountsChecks trace.old.checks trace.new.checks (G.count steps.old.ledger) (G.count steps.new.ledger) }
+    requires candidate { IsCandidate (case_at call.old.trace.now aim.now.anchor (texts_of chain)) entries.now }
+    requires tried { IsTried call.old.trace.now (case_at call.old.trace.now aim.now.anchor (texts_of chain)) 0 chain }
+    ensures judges { Judges G.count aim.now.age search.now call.old call.new result }
+    ensures turn { IfOk result (λ turn. (n : ℕ) → IsTried call.old.trace.now (case_at call.old.trace.now aim.now.anchor (texts_of chain)) n chain
+        → IsTurn call.new.trace.now (case_at call.old.trace.now aim.now.anchor (texts_of chain)) n turn) }
 {
-    match judge_candidate(alloc, entries, &chain, &trace.keys)? {
+    match judge_candidate(call.alloc, entries, &chain, &call.trace.keys)? {
         Judged::Told(verdict) => Ok(Turn::Ruled(ruled_by(chain, verdict))),
-        Judged::Untried { place, public } => test_seal(
-            commons,
-            rt,
-            alloc,
-            pass,
-            trace,
-            steps,
-            search,
-            aim,
-            chain,
-            place as usize,
-            &public,
-        ),
+        Judged::Untried { place, public } => {
+            test_seal(call, search, aim, chain, place as usize, &public)
+        }
     }
 }
 
 // Judges a candidate, and tests each pair that has to be known for it.
 fn judge_turns<R: Wait, G: Ledger>(
-    commons: &Commons,
-    rt: &R,
-    alloc: Global,
-    pass: &mut FedPass,
-    trace: &mut Trace,
-    steps: &mut Steps<G>,
+    call: &mut Call<'_, R, G>,
     search: &Search,
     aim: &Aim,
     entries: &Seq<SignedStatement>,
     chain: Seq<Tried>,
 ) -> Result<Ruling, Halt>
-    requires of { IsPassOfAll commons.now pass.old }
-    requires holds { HoldsSoFar aim.now.age search.now trace.old }
+    requires of { HasPass call.old }
+    requires holds { HoldsSoFar aim.now.age search.now call.old.trace.now }
     requires got { AreGot search.now.asks (texts_of chain) }
-    requires candidate { IsCandidate (case_at trace.old aim.now.anchor (texts_of chain)) entries.now }
-    requires tried { IsTried trace.old (case_at trace.old aim.now.anchor (texts_of chain)) 0 chain }
-    ensures kept { IsKept commons.now pass.old pass.new }
-    ensures continues { Continues trace.old.events trace.new.events (known pass.old) (known pass.new) }
-    ensures halt { IfErr result (IsHalt (known pass.new)) }
-    ensures only { OnlyTests trace.old trace.new }
-    ensures holds { HoldsSoFar aim.now.age search.now trace.new }
-    ensures good { OnOk result (ProvesGood (with_search trace.old search.now) → ProvesGood (with_search trace.new search.now)) }
-    ensures ruled { IfOk result (IsRuled trace.new (case_at trace.old aim.now.anchor (texts_of chain))) }
-    ensures counted { CountsChecks trace.old.checks trace.new.checks (G.count steps.old.ledger) (G.count steps.new.ledger) }
+    requires candidate { IsCandidate (case_at call.old.trace.now aim.now.anchor (texts_of chain)) entries.now }
+    requires tried { IsTried call.old.trace.now (case_at call.old.trace.now aim.now.anchor (texts_of chain)) 0 chain }
+    ensures judges { Judges G.count aim.now.age search.now call.old call.new result }
+    ensures ruled { IfOk result (IsRuled call.new.trace.now (case_at call.old.trace.now aim.now.anchor (texts_of chain))) }
 {
     let mut tried = chain;
     for _turn in 0..MOST_TURNS {
-        match take_turn(
-            commons, rt, alloc, pass, trace, steps, search, aim, entries, tried,
-        )? {
+        match take_turn(call, search, aim, entries, tried)? {
             Turn::Ruled(ruling) => return Ok(ruling),
             Turn::More(more) => tried = more,
         }
@@ -321,32 +271,19 @@ fn refused(reason: &Reason) -> Ruling
 
 // Judges the chain of the texts that a round got at these URLs, and tests each pair that has to be known for it.
 pub(crate) fn judge_path<R: Wait, G: Ledger>(
-    commons: &Commons,
-    rt: &R,
-    alloc: Global,
-    pass: &mut FedPass,
-    trace: &mut Trace,
-    steps: &mut Steps<G>,
+    call: &mut Call<'_, R, G>,
     search: &Search,
     aim: &Aim,
     urls: &[Text],
 ) -> Result<Ruling, Halt>
-    requires of { IsPassOfAll commons.now pass.old }
-    requires holds { HoldsSoFar aim.now.age search.now trace.old }
-    ensures kept { IsKept commons.now pass.old pass.new }
-    ensures continues { Continues trace.old.events trace.new.events (known pass.old) (known pass.new) }
-    ensures halt { IfErr result (IsHalt (known pass.new)) }
-    ensures only { OnlyTests trace.old trace.new }
-    ensures holds { HoldsSoFar aim.now.age search.now trace.new }
-    ensures good { OnOk result (ProvesGood (with_search trace.old search.now) → ProvesGood (with_search trace.new search.now)) }
-    ensures ruled { IfOk result (IsRuled trace.new (case_at trace.old aim.now.anchor (texts_at search.now.asks urls.now))) }
-    ensures counted { CountsChecks trace.old.checks trace.new.checks (G.count steps.old.ledger) (G.count steps.new.ledger) }
+    requires of { HasPass call.old }
+    requires holds { HoldsSoFar aim.now.age search.now call.old.trace.now }
+    ensures judges { Judges G.count aim.now.age search.now call.old call.new result }
+    ensures ruled { IfOk result (IsRuled call.new.trace.now (case_at call.old.trace.now aim.now.anchor (texts_at search.now.asks urls.now))) }
 {
-    let chain = texts_at(alloc, search.asks.as_slice(), urls)?;
-    match screen(alloc, &chain, &aim.anchor, trace.moment)? {
-        Screened::Candidate(entries) => judge_turns(
-            commons, rt, alloc, pass, trace, steps, search, aim, &entries, chain,
-        ),
+    let chain = texts_at(call.alloc, search.asks.as_slice(), urls)?;
+    match screen(call.alloc, &chain, &aim.anchor, call.trace.moment)? {
+        Screened::Candidate(entries) => judge_turns(call, search, aim, &entries, chain),
         Screened::Refused { place: _, reason } => Ok(refused(&reason)),
     }
 }

@@ -7,8 +7,10 @@
 #![tactic(auto)]
 
 mod answering;
+mod call;
 mod judging;
 mod round;
 
-pub use resolve_pages::{Aim, Halt};
+pub use call::Call;
+pub use resolve_round::{Aim, Halt};
 pub use round::{FoundChain, RoundEnd, search_round};

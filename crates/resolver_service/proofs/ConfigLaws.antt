@@ -1,5 +1,5 @@
 -- What a configuration says of resolving has the form, and so at least one worker.
-use Rattle.std.proofs.Common.{rules, ◌≡◌, ◌≤◌, ℕ, List, [], ◌∷◌, codes, true, false, Option, Some, None, refl, subst, option_map}
+use Rattle.std.proofs.Common.{rules, ◌≡◌, ◌≤◌, ℕ, List, codes, Option, Some, None, refl, subst, option_map}
 use Rattle.fed_base.specs.Values.{◌>>=◌}
 use Rattle.fed_json.specs.declared.tree.Json.{Json}
 use Rattle.fed_json.specs.declared.tree.Member.{Member}

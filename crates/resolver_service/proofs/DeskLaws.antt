@@ -1,5 +1,5 @@
 -- Desks before and after a connection was served at each.
-use Rattle.std.proofs.Common.{◌≡◌, ◌≤◌, ℕ, suc, List, [], ◌∷◌, ◌++◌, length, map, option_map, Bool, true, false, Option, Some, None, Result, Ok, Err, inl, inr, refl, sym, ap, ◌∙◌, subst, append_assoc, append-nil, take, drop, arith}
+use Rattle.std.proofs.Common.{◌≡◌, ◌≤◌, ℕ, suc, List, [], ◌∷◌, ◌++◌, length, option_map, true, false, Option, Some, None, Result, Ok, Err, inl, inr, refl, sym, ap, ◌∙◌, subst, append_assoc, append-nil, take, drop, arith}
 use Rattle.std.specs.Prelude.{All, IfOk, IfSome, OnOk}
 use Rattle.std.proofs.lemmas.List.{drop_all, take_all}
 use Rattle.std.proofs.lemmas.List.Elements.{All-append, All-cons, All-nil, All-tail}
@@ -14,11 +14,11 @@ use Rattle.turn_log.specs.Passes.{untaken}
 use Rattle.turn_log.specs.Runs.{call_limit}
 use Rattle.statement_shelf.specs.Passes.{CommonsKnown, IsPassOfAll, IsPurgeOfSome, IsShelfCall}
 use Rattle.statement_shelf.specs.declared.calls.ShelfCall.TheVariants.{Purge}
-use Rattle.resolve_pages.specs.Acts.{HasCounted, IsKept}
+use Rattle.resolve_round.specs.Acts.{HasCounted, IsKept}
 use Rattle.fed_resolver.specs.Calls.{WornOnly}
-use Rattle.resolver_answers.specs.declared.part.ResolverPart.{ResolverPart}
-use Rattle.resolver_answers.specs.Resolutions.{CallAt, Walking, call_at}
-use Rattle.resolver_answers.specs.Rotations.{asked, stranger, untested, worn}
+use Rattle.fed_serve.specs.declared.part.ResolverPart.{ResolverPart}
+use Rattle.fed_serve.specs.Resolutions.{CallAt, Walking, call_at}
+use Rattle.fed_serve.specs.Rotations.{asked, stranger, untested, worn}
 use Rattle.fed_serve.specs.declared.desk.Desk.{Desk}
 use Rattle.fed_serve.specs.declared.node.Node.{Node}
 use Rattle.fed_serve.specs.declared.served.Served.{Served}

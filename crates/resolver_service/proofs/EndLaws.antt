@@ -7,32 +7,32 @@ use Rattle.authority_core.specs.Nodes.{Node as Authority}
 use Rattle.turn_log.specs.Groups.{IsHistory}
 use Rattle.turn_log.specs.Runs.{call_limit}
 use Rattle.statement_shelf.specs.Book.{BookStep, opened_with}
-use Rattle.statement_shelf.specs.Passes.{CommonsKnown, IsPassOfAll, opened_book}
+use Rattle.statement_shelf.specs.Passes.{CommonsKnown, opened_book}
 use Rattle.statement_shelf.specs.Shelf.{ShelfStep}
-use Rattle.resolve_pages.specs.Acts.{HasCounted}
-use Rattle.resolver_answers.specs.declared.part.ResolverPart.{ResolverPart}
+use Rattle.resolve_round.specs.Acts.{HasCounted}
+use Rattle.fed_serve.specs.declared.part.ResolverPart.{ResolverPart}
 use Rattle.fed_serve.specs.Desks.{network_at}
 use Rattle.fed_serve.specs.Moments.{ClockAt}
 use Rattle.fed_serve.specs.declared.node.Node.{Node}
 use Rattle.jwk_set.specs.declared.set.JwkSet.{JwkSet}
-use Rattle.node_config.specs.Nodes.{Resolver}
-use Rattle.resolve_once.specs.Alone.{HasSeenNothing}
-use Rattle.resolve_once.specs.Nodes.{signer_of}
-use Rattle.node_service.specs.declared.node_files.NodeFault.{NodeFault}
-use Rattle.node_service.specs.declared.node_files.NodeFault.TheVariants.{Input, Store, Memory}
-use Rattle.node_service.specs.Ends.{Order, Post}
-use Rattle.node_service.specs.NodeFiles.{Answers, Counts, IsNodeOf, IsResolver}
+use Rattle.resolver_service.specs.Alone.{HasSeenNothing}
+use Rattle.node_files.specs.ResolvingParts.{ArePartsOf}
+use Rattle.node_files.specs.declared.parts.Parts.{Parts}
+use Rattle.node_files.specs.declared.fault.NodeFault.{NodeFault}
+use Rattle.node_files.specs.declared.fault.NodeFault.TheVariants.{Input, Store, Memory}
+use Rattle.node_files.specs.Moments.{at_moment}
+use Rattle.node_files.specs.Orders.{Order}
+use Rattle.node_files.specs.declared.post.Post.{Post}
+use Rattle.node_files.specs.NodeFiles.{Answers, Counts, IsNodeOf, IsResolver}
 use Rattle.resolver_service.specs.declared.ending.ResolverEnd.{ResolverEnd}
 use Rattle.resolver_service.specs.declared.ending.ResolverEnd.TheVariants as ends
 use Rattle.resolver_service.specs.declared.node.Opened.{Opened}
-use Rattle.resolver_service.specs.declared.node.Start.{Start}
-use Rattle.resolver_service.specs.declared.node.Terms.{Terms}
 use Rattle.resolver_service.specs.declared.stop.Stop.{Stop}
 use Rattle.resolver_service.specs.declared.stop.Stop.TheVariants as stop
 use Rattle.resolver_service.specs.Batches.{ServesAll, ServiceViews, Setup, Standing, setup, standing}
-use Rattle.resolver_service.specs.Ends.{Around, EndsBy, HasServed, HasStopped, StopsIn, around, at_moment, on_port, with_faults}
+use Rattle.resolver_service.specs.Ends.{Around, EndsBy, HasServed, HasStopped, StopsIn, around, on_port, with_faults}
 use Rattle.resolver_service.specs.Faults.{end_without_node}
-use Rattle.resolver_service.specs.Steps.{AreTermsOf, EndsOn, EndsServing, IsEndOf, IsNewStart, IsOpenedFrom, StopsAfter, StopsBatch, StopsBy}
+use Rattle.resolver_service.specs.Steps.{EndsOn, EndsServing, IsEndOf, IsOpenedFrom, StopsAfter, StopsBatch, StopsBy}
 use Rattle.resolver_service.specs.Stopped.{ServesSome}
 
 -- the end of a batch, by what stopped it
@@ -145,38 +145,30 @@ module _ {P N C : Type 0} (views : ServiceViews P N C) where
   ends_post node post before now ends.Memory (same, stopped) = (same, inr stopped)
   ends_post node post before now end is = is
 
--- the pass is of the part's objects
-pub pass_of : (start : Start) (part : ResolverPart) → IsNewStart start → start.opened.node.resolver ≡ Some part → IsPassOfAll part.commons start.pass
-pass_of start part new has =
-    let same : new.part ≡ part = cc (sym new.has ∙ has) in
-    subst (λ (p : ResolverPart). IsPassOfAll p.commons start.pass) same new.of
-
 -- what was opened is the node with its part
-pub opened_from : (node : Authority) (terms : Terms) (part : ResolverPart) (opened : Opened) → AreTermsOf node terms → part.signer ≡ terms.parts.signer → part.control ≡ terms.control
-    → opened_book part.commons ≡ opened_with terms.parts.anchors → opened.node ≡ record { registry = node; resolver = Some part } → opened.routes ≡ terms.parts.routes
-    → opened.workers ≡ terms.workers → IsOpenedFrom node opened
-opened_from node terms part opened are signer control book is routes workers =
-    let same : are.parts.resolver ≡ are.resolver = cc (sym are.parts.resolves ∙ are.resolves) in
-    record {
-      resolver = are.resolver;
-      is_full = record {
-        resolves = are.resolves;
-        registry = ap (λ (n : Node). n.registry) is;
-        part = part;
-        has = ap (λ (n : Node). n.resolver) is;
-        is = record {
-          seeds = are.parts.seeds;
-          signs = are.parts.signs;
-          signer = signer ∙ are.parts.signer ∙ ap (λ r. signer_of node r are.parts.seeds) same;
-          control = ap (λ (set : JwkSet). set.keys) control ∙ are.control;
-          anchors = terms.parts.anchors;
-          listed = are.parts.listed ∙ ap (λ (r : Resolver). r.anchors) same;
-          opened = book;
-        };
-      };
-      routes = routes ∙ are.parts.routes ∙ ap (λ (r : Resolver). r.routes) same;
-      workers = workers ∙ are.workers;
-    }
+pub opened_from : (node : Authority) (parts : Parts) (part : ResolverPart) (opened : Opened) → ArePartsOf node parts → part.signer ≡ parts.signer → part.control ≡ parts.control
+    → opened_book part.commons ≡ opened_with parts.anchors → opened.node ≡ record { registry = node; resolver = Some part } → opened.routes ≡ parts.routes
+    → opened.workers ≡ parts.workers → IsOpenedFrom node opened
+opened_from node parts part opened are signer control book is routes workers = record {
+  resolver = are.resolver;
+  is_full = record {
+    resolves = are.resolves;
+    registry = ap (λ (n : Node). n.registry) is;
+    part = part;
+    has = ap (λ (n : Node). n.resolver) is;
+    is = record {
+      seeds = are.seeds;
+      signs = are.signs;
+      signer = signer ∙ are.signer;
+      control = ap (λ (set : JwkSet). set.keys) control ∙ are.control;
+      anchors = parts.anchors;
+      listed = are.listed;
+      opened = book;
+    };
+  };
+  routes = routes ∙ are.routes;
+  workers = workers ∙ are.workers;
+}
 
 -- the network listens, and else is as before
 pub listened : {P : Type 0} (port : ℕ) (p q : Option ℕ) (e e' : Option (List Exchange)) (c c' s s' : Option (List P)) (f f' : ℕ) (clock : ClockAt) → p ≡ Some port → e' ≡ e → c' ≡ c → s' ≡ s → f' ≡ f

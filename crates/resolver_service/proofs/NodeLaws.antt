@@ -1,5 +1,5 @@
 -- A node that resolves has at least one worker, since its configuration has the form.
-use Rattle.std.proofs.Common.{rules, ◌≡◌, ◌≤◌, ℕ, List, [], ◌∷◌, codes, Option, Some, None, Result, Ok, Err, refl, sym, ap, ◌∙◌, subst, ok_or}
+use Rattle.std.proofs.Common.{rules, ◌≡◌, ◌≤◌, ℕ, List, codes, Option, Some, None, Result, Ok, Err, refl, sym, ap, ◌∙◌, ok_or}
 use Rattle.fed_base.specs.Answers.{◌>>=◌}
 use Rattle.fed_json.specs.declared.tree.Json.{Json}
 use Rattle.fed_json.specs.declared.tree.Member.{Member}
@@ -15,7 +15,7 @@ use Rattle.node_config.specs.Resolvers.{resolver_of}
 use Rattle.node_config.specs.Subordinates.{subordinates_of}
 use Rattle.authority_core.specs.Configurations.{if_short, node_in, sizes_of}
 use Rattle.authority_core.specs.Nodes.{Node}
-use Rattle.node_service.specs.NodeFiles.{IsNodeOf}
+use Rattle.node_files.specs.NodeFiles.{IsNodeOf}
 use Rattle.resolver_service.specs.Steps.{HasWorkers}
 use Rattle.resolver_service.proofs.ConfigLaws.{workers_at}
 

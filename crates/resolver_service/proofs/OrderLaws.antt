@@ -17,9 +17,9 @@ use Rattle.statement_shelf.specs.declared.calls.BookReply.{BookReply}
 use Rattle.statement_shelf.specs.declared.calls.ShelfCall.TheVariants.{Purge}
 use Rattle.statement_shelf.specs.declared.calls.ShelfReply.{ShelfReply}
 use Rattle.statement_shelf.specs.declared.calls.ShelfReply.TheVariants.{Hit, Miss, Done, Gone, Dropped, Memory}
-use Rattle.resolve_pages.specs.Acts.{on_book, on_part}
-use Rattle.resolver_answers.specs.Resolutions.{CallAt, Walking}
-use Rattle.resolver_answers.specs.Rotations.{asked, stranger, untested, worn}
+use Rattle.resolve_round.specs.Acts.{on_book, on_part}
+use Rattle.fed_serve.specs.Resolutions.{CallAt, Walking}
+use Rattle.fed_serve.specs.Rotations.{asked, stranger, untested, worn}
 use Rattle.fed_serve.specs.declared.desk.Desk.{Desk}
 use Rattle.fed_serve.specs.declared.node.Node.{Node}
 use Rattle.fed_serve.specs.declared.served.Served.{Served}

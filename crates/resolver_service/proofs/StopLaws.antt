@@ -15,8 +15,8 @@ use Rattle.turn_log.specs.Runs.{call_limit}
 use Rattle.statement_shelf.specs.Passes.{CommonsKnown, IsPurgeOfSome, IsShelfCall}
 use Rattle.statement_shelf.specs.declared.calls.ShelfCall.TheVariants.{Purge}
 use Rattle.statement_shelf.specs.declared.calls.ShelfReply.{ShelfReply}
-use Rattle.resolve_pages.specs.Acts.{HasCounted}
-use Rattle.resolver_answers.specs.declared.part.ResolverPart.{ResolverPart}
+use Rattle.resolve_round.specs.Acts.{HasCounted}
+use Rattle.fed_serve.specs.declared.part.ResolverPart.{ResolverPart}
 use Rattle.fed_serve.specs.declared.desk.Desk.{Desk}
 use Rattle.fed_serve.specs.declared.node.Node.{Node}
 use Rattle.fed_serve.specs.Desks.{IsServedAt, NetworkAt, ServesMany, Views, desks_at}

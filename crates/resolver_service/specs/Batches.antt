@@ -11,7 +11,7 @@ use Rattle.turn_log.specs.Groups.{AreJoined, IsSame, IsUntaken, known}
 use Rattle.statement_shelf.specs.Passes.{CommonsKnown, IsShelfCall}
 use Rattle.statement_shelf.specs.declared.calls.ShelfCall.TheVariants.{Purge}
 use Rattle.statement_shelf.specs.declared.calls.ShelfReply.{ShelfReply}
-use Rattle.resolver_answers.specs.Resolutions.{call_at}
+use Rattle.fed_serve.specs.Resolutions.{call_at}
 use Rattle.fed_serve.specs.declared.desk.Desk.{Desk}
 use Rattle.fed_serve.specs.declared.node.Node.{Node}
 use Rattle.fed_serve.specs.declared.served.Served.{Served}
@@ -19,7 +19,7 @@ use Rattle.fed_serve.specs.declared.serving.ServeFault.{ServeFault}
 use Rattle.fed_serve.specs.declared.serving.ServeFault.TheVariants.{Worn}
 use Rattle.fed_serve.specs.Desks.{AreServedAt, IsServedAt, NetworkAt, Views, views_of}
 use Rattle.fed_serve.specs.Moments.{ClockAt, IsOneReading, PeerAt}
-use Rattle.resolve_once.specs.Exchanged.{link_gave}
+use Rattle.resolver_service.specs.Exchanged.{link_gave}
 
 -- ---- one moment
 

@@ -9,13 +9,14 @@ use Rattle.turn_log.specs.Runs.{call_limit}
 use Rattle.statement_shelf.specs.Book.{BookStep, opened_with}
 use Rattle.statement_shelf.specs.Passes.{CommonsKnown}
 use Rattle.statement_shelf.specs.Shelf.{ShelfStep}
-use Rattle.resolve_pages.specs.Acts.{HasCounted}
+use Rattle.resolve_round.specs.Acts.{HasCounted}
 use Rattle.fed_serve.specs.declared.node.Node.{Node}
 use Rattle.fed_serve.specs.Desks.{NetworkAt}
 use Rattle.fed_serve.specs.Moments.{ClockAt}
-use Rattle.node_service.specs.Ends.{Order}
-use Rattle.node_service.specs.NodeFiles.{IsNodeOf, IsResolver}
-use Rattle.resolve_once.specs.Alone.{HasSeenNothing}
+use Rattle.node_files.specs.Moments.{NodeAt}
+use Rattle.node_files.specs.Orders.{Order}
+use Rattle.node_files.specs.NodeFiles.{IsNodeOf, IsResolver}
+use Rattle.resolver_service.specs.Alone.{HasSeenNothing}
 use Rattle.resolver_service.specs.declared.ending.ResolverEnd.{ResolverEnd}
 use Rattle.resolver_service.specs.declared.ending.ResolverEnd.TheVariants as ends
 use Rattle.resolver_service.specs.Batches.{ServesAll, ServiceViews, Setup, Standing, setup, standing}
@@ -27,19 +28,14 @@ pub record Around (P : Type 0) : Type 0 where
   pub net : NetworkAt P
   pub clock : ClockAt
 
--- the same with the files, where they are told, and how often the store failed
-pub record At (P : Type 0) : Type 0 where
-  pub files : Option Files
-  pub store_faults : ℕ
-  pub around : Around P
-
 abbrev pub around : {P : Type 0} → NetworkAt P → ClockAt → Around P
 around net clock = record { net = net; clock = clock }
 
-abbrev pub at_moment : {P : Type 0} → Option Files → ℕ → Around P → At P
-at_moment files store_faults seen = record { files = files; store_faults = store_faults; around = seen }
+-- the same with the files, where they are told, and how often the store failed
+abbrev pub At : Type 0 → Type 0
+At P = NodeAt (Around P)
 
--- the same, where the network listens on this port
+-- around, where the network listens on this port
 abbrev pub on_port : {P : Type 0} → ℕ → Around P → Around P
 on_port port seen = record seen { net = record seen.net { port = Some port } }
 

@@ -1,6 +1,6 @@
 -- Why there is no node to serve as.
-use Rattle.node_service.specs.declared.node_files.NodeFault.{NodeFault}
-use Rattle.node_service.specs.declared.node_files.NodeFault.TheVariants.{Input, Store, Memory}
+use Rattle.node_files.specs.declared.fault.NodeFault.{NodeFault}
+use Rattle.node_files.specs.declared.fault.NodeFault.TheVariants.{Input, Store, Memory}
 use Rattle.resolver_service.specs.declared.ending.ResolverEnd.{ResolverEnd}
 use Rattle.resolver_service.specs.declared.ending.ResolverEnd.TheVariants as ends
 

@@ -6,9 +6,9 @@ use Rattle.authority_core.specs.Nodes.{Node as Authority}
 use Rattle.statement_shelf.specs.Book.{opened_with}
 use Rattle.statement_shelf.specs.Passes.{opened_book}
 use Rattle.statement_shelf.specs.declared.calls.AnchorKeys.{AnchorKeys}
-use Rattle.resolver_answers.specs.declared.part.ResolverPart.{ResolverPart}
+use Rattle.fed_serve.specs.declared.part.ResolverPart.{ResolverPart}
 use Rattle.fed_serve.specs.declared.node.Node.{Node}
-use Rattle.resolve_once.specs.Nodes.{signer_of, told_anchor}
+use Rattle.node_files.specs.ResolvingParts.{signer_of, told_anchor}
 
 -- the part signs by the node's newest live key, keeps pages for the configured age, obeys the configured control keys, and its book was
 -- opened with the configured trust anchors

@@ -9,23 +9,20 @@ use Rattle.http_plain.specs.declared.link.HttpLink.{HttpLink}
 use Rattle.http_plain.specs.declared.route.Route.{Route}
 use Rattle.node_config.specs.Nodes.{Resolver}
 use Rattle.authority_core.specs.Nodes.{Node as Authority}
-use Rattle.turn_log.specs.Groups.{AreJoined, IsUnused, known}
+use Rattle.turn_log.specs.Groups.{AreJoined, known}
 use Rattle.turn_log.specs.Runs.{call_limit}
 use Rattle.statement_shelf.specs.Passes.{CommonsKnown, IsPassOfAll, IsPurgeOfSome, IsShelfCall}
 use Rattle.statement_shelf.specs.declared.calls.ShelfCall.TheVariants.{Purge}
 use Rattle.statement_shelf.specs.declared.calls.ShelfReply.{ShelfReply}
-use Rattle.resolve_pages.specs.Acts.{HasCounted}
-use Rattle.resolver_answers.specs.declared.part.ResolverPart.{ResolverPart}
+use Rattle.resolve_round.specs.Acts.{HasCounted}
+use Rattle.fed_serve.specs.declared.part.ResolverPart.{ResolverPart}
 use Rattle.fed_serve.specs.declared.desk.Desk.{Desk}
 use Rattle.fed_serve.specs.declared.node.Node.{Node}
 use Rattle.fed_serve.specs.Desks.{Views}
-use Rattle.node_service.specs.Ends.{Post}
-use Rattle.resolve_once.specs.Steps.{ArePartsOf}
+use Rattle.node_files.specs.declared.post.Post.{Post}
 use Rattle.resolver_service.specs.declared.ending.ResolverEnd.{ResolverEnd}
 use Rattle.resolver_service.specs.declared.ending.ResolverEnd.TheVariants as ends
 use Rattle.resolver_service.specs.declared.node.Opened.{Opened}
-use Rattle.resolver_service.specs.declared.node.Start.{Start}
-use Rattle.resolver_service.specs.declared.node.Terms.{Terms}
 use Rattle.resolver_service.specs.declared.stop.Stop.{Stop}
 use Rattle.resolver_service.specs.declared.stop.Stop.TheVariants as stop
 use Rattle.resolver_service.specs.Batches.{Batch, IsBatch, IsNewDesk, Progress, ServiceViews, Setup, Standing, is_worn, peers_at, peers_of}
@@ -34,14 +31,6 @@ use Rattle.resolver_service.specs.Nodes.{IsNodeWith}
 use Rattle.resolver_service.specs.Stopped.{AddsSome, BreaksOff, BreaksOffUnsettled, IsWornAt, ServesPart, ServesSome, WantsIn, WearsIn}
 
 -- ---- the node
-
--- the terms are those of a node that resolves
-pub record AreTermsOf (node : Authority) (terms : Terms) : Type 0 where
-  pub resolver : Resolver
-  pub resolves : node.settings.resolver ≡ Some resolver
-  pub parts : ArePartsOf node terms.parts
-  pub control : terms.control.keys ≡ resolver.control
-  pub workers : terms.workers ≡ resolver.workers
 
 -- what was opened is the node with its part, its routes and its workers
 pub record IsOpenedFrom (node : Authority) (opened : Opened) : Type 0 where
@@ -53,13 +42,6 @@ pub record IsOpenedFrom (node : Authority) (opened : Opened) : Type 0 where
 -- each node that resolves has at least one worker
 abbrev pub HasWorkers : Authority → Type 0
 HasWorkers node = (resolver : Resolver) → node.settings.resolver ≡ Some resolver → 1 ≤ resolver.workers
-
--- the pass is of the shared objects of what was opened, and has seen nothing
-pub record IsNewStart (start : Start) : Type 0 where
-  pub part : ResolverPart
-  pub has : start.opened.node.resolver ≡ Some part
-  pub of : IsPassOfAll part.commons start.pass
-  pub unused : IsUnused start.pass
 
 -- ---- the pass
 

@@ -2,43 +2,35 @@
 
 ghost use Rattle.std.specs.Prelude.{◌≡◌, All, OnErr, OnOk, Some, Ok, true, is_some};
 ghost use Rattle.fed_ports.specs.Lists.{Added};
-ghost use Rattle.fed_serve.specs.Desks.{network_at, views_of};
-ghost use Rattle.fed_serve.specs.Moments.{clock_at, peer_at};
-ghost use Rattle.http_plain.specs.Links.{listening};
-ghost use Rattle.resolver_answers.specs.Resolutions.{call_at};
 ghost use Rattle.statement_shelf.specs.Passes.{IsPassOfAll};
 ghost use Rattle.turn_log.specs.Groups.{known};
-ghost use Rattle.resolver_service.specs.Batches.{ServesDesks, is_worn, peers_of, progress, service_views, setup, standing};
+ghost use Rattle.resolver_service.specs.Batches.{ServesDesks, is_worn, peers_of, setup};
+ghost use Rattle.resolver_service.specs.Ports.{desk_views, progress_seen, standing_seen, views_by};
 ghost use Rattle.resolver_service.specs.Steps.{EndInTurn, EndsDesk, IfWorn, IsDone, IsPurged, IsReady, IsServedBatch, StopsBatch, StopsBy, StopsDesks, StopsPurge, Takes, memory_first, network_first};
 
 use crate::desks::add_desks;
-use crate::node::Opened;
+use crate::server::Server;
 use crate::stop::Stop;
 use fed_base::Memory;
 use fed_ports::{Clock, Failed, Ledger, Link, Network};
-use fed_serve::{Desk, Node, ResolverPart, ServeFault, serve_many};
+use fed_serve::{Desk, ServeFault, serve_many};
 use statement_shelf::{FedPass, ShelfCall};
 use std::alloc::Global;
 use std::sync::Wait;
 use std::thread::Threads;
 
 // Drops from the cache what is stale at the moment.
-fn purge<R: Wait>(
-    part: &ResolverPart,
-    rt: &R,
-    alloc: Global,
-    pass: &mut FedPass,
-    moment: u64,
-) -> Result<(), Stop>
-    requires of { IsPassOfAll part.now.commons pass.old }
-    ensures of { IsPassOfAll part.now.commons pass.new }
+fn purge<R: Wait>(server: &Server<R>, pass: &mut FedPass, moment: u64) -> Result<(), Stop>
+    requires of { IsPassOfAll server.now.part.now.commons pass.old }
+    ensures of { IsPassOfAll server.now.part.now.commons pass.new }
     ensures purged { OnOk result (IsPurged moment (known pass.old) (known pass.new)) }
     ensures worn { IfWorn (known pass.new) result }
     ensures stops { StopsPurge moment (known pass.old) (known pass.new) result }
 {
-    match part
+    match server
+        .part
         .commons
-        .shelf(rt, alloc, pass, ShelfCall::Purge { moment })
+        .shelf(server.rt, server.alloc, pass, ShelfCall::Purge { moment })
     {
         Ok(dropped) => {
             drop(dropped);
@@ -93,42 +85,40 @@ fn settle_peer<N: Network>(alloc: Global, net: &mut N, peer: Option<N::Peer>) ->
 
 // Joins the pass of a desk to the one pass. That of a desk where an object was worn takes its place.
 fn take_next<R>(
-    part: &ResolverPart,
-    rt: &R,
+    server: &Server<R>,
     pass: &mut FedPass,
     own: FedPass,
     is_worn: bool,
 ) -> Result<(), Stop>
-    requires of { IsPassOfAll part.now.commons pass.old }
-    requires own_of { IsPassOfAll part.now.commons own }
-    ensures of { IsPassOfAll part.now.commons pass.new }
+    requires of { IsPassOfAll server.now.part.now.commons pass.old }
+    requires own_of { IsPassOfAll server.now.part.now.commons own }
+    ensures of { IsPassOfAll server.now.part.now.commons pass.new }
     ensures takes { Takes (Ok tt) is_worn (known pass.old) (known own) (known pass.new) result }
 {
     if is_worn {
         *pass = own;
         Err(Stop::Worn)
     } else {
-        part.commons.join(rt, pass, own);
+        server.part.commons.join(server.rt, pass, own);
         Ok(())
     }
 }
 
 // The same, unless the batch has stopped.
 fn take_in<R>(
-    part: &ResolverPart,
-    rt: &R,
+    server: &Server<R>,
     pass: &mut FedPass,
     own: FedPass,
     is_worn: bool,
     so_far: Result<(), Stop>,
 ) -> Result<(), Stop>
-    requires of { IsPassOfAll part.now.commons pass.old }
-    requires own_of { IsPassOfAll part.now.commons own }
-    ensures of { IsPassOfAll part.now.commons pass.new }
+    requires of { IsPassOfAll server.now.part.now.commons pass.old }
+    requires own_of { IsPassOfAll server.now.part.now.commons own }
+    ensures of { IsPassOfAll server.now.part.now.commons pass.new }
     ensures takes { Takes so_far is_worn (known pass.old) (known own) (known pass.new) result }
 {
     match so_far {
-        Ok(()) => take_next(part, rt, pass, own, is_worn),
+        Ok(()) => take_next(server, pass, own, is_worn),
         Err(stop) => {
             drop(own);
             Err(stop)
@@ -161,9 +151,7 @@ fn network_first(served: Result<(), Failed>, ended: Result<(), Stop>) -> Result<
 
 // Settles the peer of a desk, and takes its pass in.
 fn end_desk<R, N: Network, L: Drop, C: Drop, G: Ledger + Drop>(
-    part: &ResolverPart,
-    rt: &R,
-    alloc: Global,
+    server: &Server<R>,
     net: &mut N,
     pass: &mut FedPass,
     so_far: Result<(), Stop>,
@@ -171,12 +159,10 @@ fn end_desk<R, N: Network, L: Drop, C: Drop, G: Ledger + Drop>(
 ) -> Result<(), Stop>
 where
     N::Peer: Drop,
-    requires of { IsPassOfAll part.now.commons pass.old }
-    requires done { IsDone part.now desk }
-    ensures of { IsPassOfAll part.now.commons pass.new }
-    ensures ends { EndsDesk desk
-        (progress (network_at (N.port net.old) (N.exchanges net.old) (N.callers net.old) (N.settled net.old) (N.faults net.old)) (known pass.old))
-        (progress (network_at (N.port net.new) (N.exchanges net.new) (N.callers net.new) (N.settled net.new) (N.faults net.new)) (known pass.new)) so_far result }
+    requires of { IsPassOfAll server.now.part.now.commons pass.old }
+    requires done { IsDone server.now.part.now desk }
+    ensures of { IsPassOfAll server.now.part.now.commons pass.new }
+    ensures ends { EndsDesk desk (progress_seen N.Network net.old (known pass.old)) (progress_seen N.Network net.new (known pass.new)) so_far result }
     ensures callers { N.callers net.new ≡ N.callers net.old }
     ensures port { N.port net.new ≡ N.port net.old }
     ensures exchanges { N.exchanges net.new ≡ N.exchanges net.old }
@@ -184,29 +170,26 @@ where
 {
     let worn = is_worn(&desk);
     let (own, peer) = parted(desk);
-    let settled = settle_peer(alloc, net, peer);
-    let taken = take_in(part, rt, pass, own, worn, so_far);
+    let settled = settle_peer(server.alloc, net, peer);
+    let taken = take_in(server, pass, own, worn, so_far);
     memory_first(taken, settled)
 }
 
 // Settles the peers of the desks, in order, and takes their passes in.
 fn end_desks<R, N: Network, L: Drop, C: Drop, G: Ledger + Drop>(
-    part: &ResolverPart,
-    rt: &R,
-    alloc: Global,
+    server: &Server<R>,
     net: &mut N,
     pass: &mut FedPass,
     desks: Vec<Desk<N::Peer, L, C, G>>,
 ) -> Result<(), Stop>
 where
     N::Peer: Drop,
-    requires of { IsPassOfAll part.now.commons pass.old }
-    requires done { All (IsDone part.now) desks.items }
-    ensures of { IsPassOfAll part.now.commons pass.new }
+    requires of { IsPassOfAll server.now.part.now.commons pass.old }
+    requires done { All (IsDone server.now.part.now) desks.items }
+    ensures of { IsPassOfAll server.now.part.now.commons pass.new }
     ensures worn { IfWorn (known pass.new) result }
-    ensures ends { EndInTurn desks.items
-        (progress (network_at (N.port net.old) (N.exchanges net.old) (N.callers net.old) (N.settled net.old) (N.faults net.old)) (known pass.old)) (Ok tt)
-        (progress (network_at (N.port net.new) (N.exchanges net.new) (N.callers net.new) (N.settled net.new) (N.faults net.new)) (known pass.new)) result }
+    ensures ends { EndInTurn desks.items (progress_seen N.Network net.old (known pass.old)) (Ok tt)
+        (progress_seen N.Network net.new (known pass.new)) result }
     ensures callers { N.callers net.new ≡ N.callers net.old }
     ensures port { N.port net.new ≡ N.port net.old }
     ensures exchanges { N.exchanges net.new ≡ N.exchanges net.old }
@@ -214,7 +197,7 @@ where
 {
     let mut ended = Ok(());
     for desk in desks {
-        ended = end_desk(part, rt, alloc, net, pass, ended, desk);
+        ended = end_desk(server, net, pass, ended, desk);
     }
     ended
 }
@@ -227,10 +210,7 @@ fn serve_desks<
     C: Clock + Drop,
     G: Ledger + Send + Drop,
 >(
-    node: &Node,
-    part: &ResolverPart,
-    rt: &R,
-    alloc: Global,
+    server: &Server<R>,
     net: &mut N,
     pass: &mut FedPass,
     mut desks: Vec<Desk<N::Peer, L, C, G>>,
@@ -238,40 +218,33 @@ fn serve_desks<
 where
     N::Peer: Drop,
     requires listens { is_some (N.port net.old) ≡ true }
-    requires part { node.now.resolver ≡ Some part.now }
-    requires of { IsPassOfAll part.now.commons pass.old }
-    requires ready { All (IsReady part.now) desks.items }
-    ensures of { IsPassOfAll part.now.commons pass.new }
-    ensures serves { OnOk result (ServesDesks
-        (views_of (λ peer. peer_at (N.Peer.left peer) (N.Peer.held peer) (N.Peer.read_faults peer) (N.Peer.write_faults peer))
-        (λ clock. clock_at (C.readings clock) (C.last clock) (C.told clock))
-        (λ known link ledger. call_at known (L.web link) (L.calls link) (L.link_faults link) (G.count ledger)) L.gave)
-        node.now desks.items
-        (progress (network_at (N.port net.old) (N.exchanges net.old) (N.callers net.old) (N.settled net.old) (N.faults net.old)) (known pass.old))
-        (progress (network_at (N.port net.new) (N.exchanges net.new) (N.callers net.new) (N.settled net.new) (N.faults net.new)) (known pass.new))) }
+    requires part { server.now.opened.now.node.resolver ≡ Some server.now.part.now }
+    requires of { IsPassOfAll server.now.part.now.commons pass.old }
+    requires ready { All (IsReady server.now.part.now) desks.items }
+    ensures of { IsPassOfAll server.now.part.now.commons pass.new }
+    ensures serves { OnOk result (ServesDesks (desk_views N.Peer.Source N.Peer.Sink C.Clock L.Link G.Ledger) server.now.opened.now.node desks.items
+        (progress_seen N.Network net.old (known pass.old)) (progress_seen N.Network net.new (known pass.new))) }
     ensures stops { StopsBy (N.faults net.old) (N.faults net.new) (known pass.new) result }
-    ensures stopped { StopsDesks
-        (views_of (λ peer. peer_at (N.Peer.left peer) (N.Peer.held peer) (N.Peer.read_faults peer) (N.Peer.write_faults peer))
-        (λ clock. clock_at (C.readings clock) (C.last clock) (C.told clock))
-        (λ known link ledger. call_at known (L.web link) (L.calls link) (L.link_faults link) (G.count ledger)) L.gave)
-        node.now desks.items
-        (progress (network_at (N.port net.old) (N.exchanges net.old) (N.callers net.old) (N.settled net.old) (N.faults net.old)) (known pass.old))
-        (progress (network_at (N.port net.new) (N.exchanges net.new) (N.callers net.new) (N.settled net.new) (N.faults net.new)) (known pass.new)) result }
+    ensures stopped { StopsDesks (desk_views N.Peer.Source N.Peer.Sink C.Clock L.Link G.Ledger) server.now.opened.now.node desks.items
+        (progress_seen N.Network net.old (known pass.old)) (progress_seen N.Network net.new (known pass.new)) result }
     ensures port { N.port net.new ≡ N.port net.old }
     ensures exchanges { N.exchanges net.new ≡ N.exchanges net.old }
 {
-    let served = serve_many(node, rt, alloc, net, desks.as_mut_slice());
-    let ended = end_desks(part, rt, alloc, net, pass, desks);
+    let served = serve_many(
+        &server.opened.node,
+        server.rt,
+        server.alloc,
+        net,
+        desks.as_mut_slice(),
+    );
+    let ended = end_desks(server, net, pass, desks);
     network_first(served, ended)
 }
 
 /// Serves a batch of so many connections: reads the clock once, drops from the cache what is stale, makes the desks, and serves a
 /// connection at each.
 pub(crate) fn serve_batch<R: Threads + Wait + Sync, N: Network + Drop, C: Clock + Drop>(
-    opened: &Opened,
-    part: &ResolverPart,
-    rt: &R,
-    alloc: Global,
+    server: &Server<R>,
     net: &mut N,
     pass: &mut FedPass,
     clock: &mut C,
@@ -280,46 +253,24 @@ pub(crate) fn serve_batch<R: Threads + Wait + Sync, N: Network + Drop, C: Clock 
 where
     N::Peer: Drop,
     requires listens { is_some (N.port net.old) ≡ true }
-    requires part { opened.now.node.resolver ≡ Some part.now }
-    requires of { IsPassOfAll part.now.commons pass.old }
-    ensures of { IsPassOfAll part.now.commons pass.new }
-    ensures batch { OnOk result (IsServedBatch count (setup
-        (service_views (λ peer. peer_at (N.Peer.left peer) (N.Peer.held peer) (N.Peer.read_faults peer) (N.Peer.write_faults peer))
-        (λ clock. clock_at (C.readings clock) (C.last clock) (C.told clock)) N.exchanges N.faults
-        (λ net. listening (N.port net) (N.callers net) (N.settled net)))
-        opened.now.node opened.now.routes)
-        (standing (network_at (N.port net.old) (N.exchanges net.old) (N.callers net.old) (N.settled net.old) (N.faults net.old)) (known pass.old)
-        (clock_at (C.readings clock.old) (C.last clock.old) (C.told clock.old)))
-        (standing (network_at (N.port net.new) (N.exchanges net.new) (N.callers net.new) (N.settled net.new) (N.faults net.new)) (known pass.new)
-        (clock_at (C.readings clock.new) (C.last clock.new) (C.told clock.new)))) }
+    requires part { server.now.opened.now.node.resolver ≡ Some server.now.part.now }
+    requires of { IsPassOfAll server.now.part.now.commons pass.old }
+    ensures of { IsPassOfAll server.now.part.now.commons pass.new }
+    ensures batch { OnOk result (IsServedBatch count
+        (setup (views_by N.Network N.Peer.Source N.Peer.Sink C.Clock) server.now.opened.now.node server.now.opened.now.routes)
+        (standing_seen N.Network C.Clock net.old (known pass.old) clock.old) (standing_seen N.Network C.Clock net.new (known pass.new) clock.new)) }
     ensures stops { StopsBy (N.faults net.old) (N.faults net.new) (known pass.new) result }
-    ensures stopped { StopsBatch (setup
-        (service_views (λ peer. peer_at (N.Peer.left peer) (N.Peer.held peer) (N.Peer.read_faults peer) (N.Peer.write_faults peer))
-        (λ clock. clock_at (C.readings clock) (C.last clock) (C.told clock)) N.exchanges N.faults
-        (λ net. listening (N.port net) (N.callers net) (N.settled net)))
-        opened.now.node opened.now.routes) count
-        (standing (network_at (N.port net.old) (N.exchanges net.old) (N.callers net.old) (N.settled net.old) (N.faults net.old)) (known pass.old)
-        (clock_at (C.readings clock.old) (C.last clock.old) (C.told clock.old)))
-        (standing (network_at (N.port net.new) (N.exchanges net.new) (N.callers net.new) (N.settled net.new) (N.faults net.new)) (known pass.new)
-        (clock_at (C.readings clock.new) (C.last clock.new) (C.told clock.new))) result }
+    ensures stopped { StopsBatch
+        (setup (views_by N.Network N.Peer.Source N.Peer.Sink C.Clock) server.now.opened.now.node server.now.opened.now.routes) count
+        (standing_seen N.Network C.Clock net.old (known pass.old) clock.old) (standing_seen N.Network C.Clock net.new (known pass.new) clock.new) result }
     ensures port { N.port net.new ≡ N.port net.old }
     ensures exchanges { N.exchanges net.new ≡ N.exchanges net.old }
 {
     let moment = clock.now();
-    purge(part, rt, alloc, pass, moment)?;
-    let mut desks = Vec::new(alloc);
-    match add_desks(
-        part,
-        rt,
-        alloc,
-        pass,
-        &opened.routes,
-        net,
-        clock,
-        count,
-        &mut desks,
-    ) {
-        Ok(()) => serve_desks(&opened.node, part, rt, alloc, net, pass, desks),
+    purge(server, pass, moment)?;
+    let mut desks = Vec::new(server.alloc);
+    match add_desks(server, pass, net, clock, count, &mut desks) {
+        Ok(()) => serve_desks(server, net, pass, desks),
         Err(_) => {
             drop(desks);
             Err(Stop::Memory)

@@ -1,6 +1,6 @@
 // How serving ended.
 
-use node_service::NodeFault;
+use node_files::NodeFault;
 use statement_shelf::FedPass;
 
 /// How serving ended.

@@ -1,29 +1,21 @@
 // What a resolver serves with.
 
-ghost use Rattle.std.specs.Prelude.{◌≡◌, IfOk, Some};
-ghost use Rattle.node_service.specs.NodeFiles.{IsResolver};
-ghost use Rattle.resolver_service.specs.Steps.{AreTermsOf, IsNewStart, IsOpenedFrom};
+ghost use Rattle.std.specs.Prelude.{◌≡◌, IfOk, IfSome, Some};
+ghost use Rattle.node_files.specs.NodeFiles.{IsResolver};
+ghost use Rattle.node_files.specs.ResolvingParts.{ArePartsOf};
+ghost use Rattle.statement_shelf.specs.Passes.{IsPassOfAll};
+ghost use Rattle.turn_log.specs.Groups.{IsUnused};
+ghost use Rattle.resolver_service.specs.Steps.{IsOpenedFrom};
 
 use authority_core::Registry;
-use fed_base::{Duplicate, Memory, Seq};
+use fed_base::{Memory, Seq};
 use fed_resolver::Signer;
 use fed_serve::{Node, ResolverPart};
 use http_plain::Route;
 use jwk_set::JwkSet;
-use resolve_once::{Parts, parts_of};
+use node_files::{Parts, parts_of};
 use statement_shelf::{Commons, FedPass};
 use std::alloc::Global;
-
-/// What a configuration gives a resolver.
-#[derive(Drop)]
-pub(crate) struct Terms {
-    /// Who signs, the trust anchors with their keys, and where hosts are reached.
-    pub(crate) parts: Parts,
-    /// The keys at whose word those of a trust anchor are changed.
-    pub(crate) control: JwkSet,
-    /// How many connections are served at once.
-    pub(crate) workers: u64,
-}
 
 /// What a resolver serves with.
 #[derive(Drop)]
@@ -36,51 +28,19 @@ pub(crate) struct Opened {
     pub(crate) workers: u64,
 }
 
-/// What serving begins with.
-#[derive(Drop)]
-pub(crate) struct Start {
-    pub(crate) opened: Opened,
-    /// A pass of the node's cache and book, which has seen nothing.
-    pub(crate) pass: FedPass,
-}
-
-/// What the node's configuration gives it to resolve with.
-pub(crate) fn terms_of(alloc: Global, registry: &Registry) -> Result<Terms, Memory>
-    requires { IsResolver registry.now }
-    ensures { IfOk result (AreTermsOf registry.now) }
+// The node with its part for resolving, which has an empty cache and the configured book, and a pass of both.
+fn open_with(alloc: Global, registry: Registry, parts: Parts) -> Result<(Opened, FedPass), Memory>
+    requires { ArePartsOf registry parts }
+    ensures opened { IfOk result (λ r. IsOpenedFrom registry r.0) }
+    ensures of { IfOk result (λ r. IfSome r.0.node.resolver (λ part. IsPassOfAll part.commons r.1)) }
+    ensures unused { IfOk result (λ r. IsUnused r.1) }
 {
-    let Some(config) = registry.resolver_config() else {
-        unreachable!()
-    };
-    let control = config.control.copy(alloc)?;
-    match parts_of(alloc, registry) {
-        Ok(parts) => Ok(Terms {
-            parts,
-            control,
-            workers: config.workers,
-        }),
-        Err(memory) => {
-            drop(control);
-            Err(memory)
-        }
-    }
-}
-
-// The node with its part for resolving, which has an empty cache and the configured book.
-fn open_with(alloc: Global, registry: Registry, terms: Terms) -> Result<Start, Memory>
-    requires { AreTermsOf registry terms }
-    ensures opened { IfOk result (λ start. IsOpenedFrom registry start.opened) }
-    ensures pass { IfOk result IsNewStart }
-{
-    let Terms {
-        parts,
-        control,
-        workers,
-    } = terms;
     let Parts {
         signer,
         anchors,
         routes,
+        control,
+        workers,
     } = parts;
     match Commons::new(alloc, anchors) {
         Ok((commons, pass)) => {
@@ -90,7 +50,7 @@ fn open_with(alloc: Global, registry: Registry, terms: Terms) -> Result<Start, M
                 routes,
                 workers,
             };
-            Ok(Start { opened, pass })
+            Ok((opened, pass))
         }
         Err(memory) => {
             drop(registry);
@@ -115,14 +75,15 @@ fn node_with(registry: Registry, commons: Commons, signer: Signer, control: JwkS
     }
 }
 
-/// What a node that resolves begins to serve with.
-pub(crate) fn open(alloc: Global, registry: Registry) -> Result<Start, Memory>
+/// What a node that resolves begins to serve with, and a pass of its cache and book, which has seen nothing.
+pub(crate) fn open(alloc: Global, registry: Registry) -> Result<(Opened, FedPass), Memory>
     requires { IsResolver registry }
-    ensures opened { IfOk result (λ start. IsOpenedFrom registry start.opened) }
-    ensures pass { IfOk result IsNewStart }
+    ensures opened { IfOk result (λ r. IsOpenedFrom registry r.0) }
+    ensures of { IfOk result (λ r. IfSome r.0.node.resolver (λ part. IsPassOfAll part.commons r.1)) }
+    ensures unused { IfOk result (λ r. IsUnused r.1) }
 {
-    match terms_of(alloc, &registry) {
-        Ok(terms) => open_with(alloc, registry, terms),
+    match parts_of(alloc, &registry) {
+        Ok(parts) => open_with(alloc, registry, parts),
         Err(memory) => {
             drop(registry);
             Err(memory)

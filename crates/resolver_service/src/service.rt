@@ -1,23 +1,24 @@
 // A node that resolves, and answers many connections.
 
-ghost use Rattle.std.specs.Prelude.{◌≡◌, ◌≤◌, true, is_some};
+ghost use Rattle.std.specs.Prelude.{◌≡◌, ◌≤◌, Some, true, is_some};
 ghost use Rattle.authority_core.specs.Nodes.{Node as Authority};
-ghost use Rattle.fed_serve.specs.Desks.{network_at};
-ghost use Rattle.fed_serve.specs.Moments.{clock_at, peer_at};
-ghost use Rattle.http_plain.specs.Links.{listening};
-ghost use Rattle.node_service.specs.NodeFiles.{IsResolver};
-ghost use Rattle.resolver_service.specs.Batches.{service_views};
-ghost use Rattle.resolver_service.specs.Ends.{Ends, around, at_moment};
-ghost use Rattle.resolver_service.specs.Steps.{EndsOn, EndsServing, HasWorkers, IsEndOf, IsNewStart, IsOpenedFrom};
-ghost use Rattle.turn_log.specs.Groups.{known};
+ghost use Rattle.node_files.specs.Moments.{node_seen};
+ghost use Rattle.node_files.specs.NodeFiles.{IsResolver};
+ghost use Rattle.node_files.specs.Orders.{order_of};
+ghost use Rattle.statement_shelf.specs.Passes.{IsPassOfAll};
+ghost use Rattle.turn_log.specs.Groups.{IsUnused, known};
+ghost use Rattle.resolver_service.specs.Ends.{Ends};
+ghost use Rattle.resolver_service.specs.Ports.{around_seen, views_by};
+ghost use Rattle.resolver_service.specs.Steps.{EndsOn, EndsServing, HasWorkers, IsEndOf, IsOpenedFrom};
 
 use crate::batches::serve_batches;
 use crate::ending::ResolverEnd;
-use crate::node::{Opened, Start, open};
+use crate::node::open;
+use crate::server::Server;
 use crate::stop::Stop;
 use authority_core::Registry;
 use fed_ports::{Clock, Network, Store, Text};
-use node_service::{explain_accept, explain_port, open_resolver};
+use node_files::{Post, explain_accept, explain_port, open_resolver};
 use plain_notes::Notes;
 use statement_shelf::FedPass;
 use std::alloc::Global;
@@ -40,21 +41,15 @@ pub fn serve_resolver<R: Threads + Wait + Sync, D: Store, N: Network + Drop, C: 
 ) -> ResolverEnd
 where
     N::Peer: Drop,
-    ensures ends { Ends
-        (service_views (λ peer. peer_at (N.Peer.left peer) (N.Peer.held peer) (N.Peer.read_faults peer) (N.Peer.write_faults peer))
-        (λ clock. clock_at (C.readings clock) (C.last clock) (C.told clock)) N.exchanges N.faults
-        (λ net. listening (N.port net) (N.callers net) (N.settled net)))
-        (record { config = config.now; post = record { port = port; connections = connections } })
-        (at_moment (D.files store.old) (D.store_faults store.old) (around
-        (network_at (N.port net.old) (N.exchanges net.old) (N.callers net.old) (N.settled net.old) (N.faults net.old))
-        (clock_at (C.readings clock.old) (C.last clock.old) (C.told clock.old))))
-        (at_moment (D.files store.new) (D.store_faults store.new) (around
-        (network_at (N.port net.new) (N.exchanges net.new) (N.callers net.new) (N.settled net.new) (N.faults net.new))
-        (clock_at (C.readings clock.new) (C.last clock.new) (C.told clock.new))))
-        result }
+    ensures ends { Ends (views_by N.Network N.Peer.Source N.Peer.Sink C.Clock) (order_of config.now port connections)
+        (node_seen D.Store store.old (around_seen N.Network C.Clock net.old clock.old))
+        (node_seen D.Store store.new (around_seen N.Network C.Clock net.new clock.new)) result }
 {
     match open_resolver(alloc, config, store, notes) {
-        Ok(registry) => serve_registry(registry, rt, alloc, port, connections, net, clock, notes),
+        Ok(registry) => {
+            let post = Post { port, connections };
+            serve_registry(registry, rt, alloc, post, net, clock, notes)
+        }
         Err(fault) => ResolverEnd::from(fault),
     }
 }
@@ -64,8 +59,7 @@ fn serve_registry<R: Threads + Wait + Sync, N: Network + Drop, C: Clock + Drop>(
     registry: Registry,
     rt: &R,
     alloc: Global,
-    port: u16,
-    connections: u64,
+    post: Post,
     net: &mut N,
     clock: &mut C,
     notes: &mut Notes,
@@ -74,31 +68,22 @@ where
     N::Peer: Drop,
     requires resolves { IsResolver registry }
     requires workers { HasWorkers registry }
-    ensures ends { EndsOn
-        (service_views (λ peer. peer_at (N.Peer.left peer) (N.Peer.held peer) (N.Peer.read_faults peer) (N.Peer.write_faults peer))
-        (λ clock. clock_at (C.readings clock) (C.last clock) (C.told clock)) N.exchanges N.faults
-        (λ net. listening (N.port net) (N.callers net) (N.settled net)))
-        registry (record { port = port; connections = connections })
-        (around (network_at (N.port net.old) (N.exchanges net.old) (N.callers net.old) (N.settled net.old) (N.faults net.old))
-        (clock_at (C.readings clock.old) (C.last clock.old) (C.told clock.old)))
-        (around (network_at (N.port net.new) (N.exchanges net.new) (N.callers net.new) (N.settled net.new) (N.faults net.new))
-        (clock_at (C.readings clock.new) (C.last clock.new) (C.told clock.new)))
-        result }
+    ensures ends { EndsOn (views_by N.Network N.Peer.Source N.Peer.Sink C.Clock) registry post
+        (around_seen N.Network C.Clock net.old clock.old) (around_seen N.Network C.Clock net.new clock.new) result }
     ensures exchanges { N.exchanges net.new ≡ N.exchanges net.old }
 {
     match open(alloc, registry) {
-        Ok(Start { opened, pass }) => {
-            let end = serve_opened(
-                &opened,
-                pass,
+        Ok((opened, pass)) => {
+            let Some(part) = &opened.node.resolver else {
+                unreachable!()
+            };
+            let server = Server {
                 rt,
                 alloc,
-                port,
-                connections,
-                net,
-                clock,
-                notes,
-            );
+                opened: &opened,
+                part,
+            };
+            let end = serve_post(&server, pass, post, net, clock, notes);
             drop(opened);
             end
         }
@@ -107,38 +92,29 @@ where
 }
 
 // Takes the port and answers the connections.
-fn serve_opened<R: Threads + Wait + Sync, N: Network + Drop, C: Clock + Drop>(
-    opened: &Opened,
+fn serve_post<R: Threads + Wait + Sync, N: Network + Drop, C: Clock + Drop>(
+    server: &Server<R>,
     pass: FedPass,
-    rt: &R,
-    alloc: Global,
-    port: u16,
-    connections: u64,
+    post: Post,
     net: &mut N,
     clock: &mut C,
     notes: &mut Notes,
 ) -> ResolverEnd
 where
     N::Peer: Drop,
-    requires workers { 1 ≤ opened.now.workers }
-    requires start { IsNewStart (record { opened = opened.now; pass = pass }) }
-    ensures ends { (node : Authority) → IsOpenedFrom node opened.now → EndsOn
-        (service_views (λ peer. peer_at (N.Peer.left peer) (N.Peer.held peer) (N.Peer.read_faults peer) (N.Peer.write_faults peer))
-        (λ clock. clock_at (C.readings clock) (C.last clock) (C.told clock)) N.exchanges N.faults
-        (λ net. listening (N.port net) (N.callers net) (N.settled net)))
-        node (record { port = port; connections = connections })
-        (around (network_at (N.port net.old) (N.exchanges net.old) (N.callers net.old) (N.settled net.old) (N.faults net.old))
-        (clock_at (C.readings clock.old) (C.last clock.old) (C.told clock.old)))
-        (around (network_at (N.port net.new) (N.exchanges net.new) (N.callers net.new) (N.settled net.new) (N.faults net.new))
-        (clock_at (C.readings clock.new) (C.last clock.new) (C.told clock.new)))
-        result }
+    requires part { server.now.opened.now.node.resolver ≡ Some server.now.part.now }
+    requires workers { 1 ≤ server.now.opened.now.workers }
+    requires of { IsPassOfAll server.now.part.now.commons pass }
+    requires unused { IsUnused pass }
+    ensures ends { (node : Authority) → IsOpenedFrom node server.now.opened.now → EndsOn (views_by N.Network N.Peer.Source N.Peer.Sink C.Clock) node post
+        (around_seen N.Network C.Clock net.old clock.old) (around_seen N.Network C.Clock net.new clock.new) result }
     ensures exchanges { N.exchanges net.new ≡ N.exchanges net.old }
 {
-    match net.listen(port) {
-        Ok(()) => serve_listening(opened, pass, rt, alloc, connections, net, clock, notes),
+    match net.listen(post.port) {
+        Ok(()) => serve_listening(server, pass, post.connections, net, clock, notes),
         Err(_) => {
             drop(pass);
-            explain_port(alloc, port, notes);
+            explain_port(server.alloc, post.port, notes);
             ResolverEnd::NetworkFailed
         }
     }
@@ -146,10 +122,8 @@ where
 
 // Answers the connections on the port that is taken.
 fn serve_listening<R: Threads + Wait + Sync, N: Network + Drop, C: Clock + Drop>(
-    opened: &Opened,
+    server: &Server<R>,
     mut pass: FedPass,
-    rt: &R,
-    alloc: Global,
     connections: u64,
     net: &mut N,
     clock: &mut C,
@@ -158,28 +132,19 @@ fn serve_listening<R: Threads + Wait + Sync, N: Network + Drop, C: Clock + Drop>
 where
     N::Peer: Drop,
     requires listens { is_some (N.port net.old) ≡ true }
-    requires workers { 1 ≤ opened.now.workers }
-    requires start { IsNewStart (record { opened = opened.now; pass = pass }) }
-    ensures ends { (node : Authority) → IsOpenedFrom node opened.now → EndsServing
-        (service_views (λ peer. peer_at (N.Peer.left peer) (N.Peer.held peer) (N.Peer.read_faults peer) (N.Peer.write_faults peer))
-        (λ clock. clock_at (C.readings clock) (C.last clock) (C.told clock)) N.exchanges N.faults
-        (λ net. listening (N.port net) (N.callers net) (N.settled net)))
-        node connections
-        (around (network_at (N.port net.old) (N.exchanges net.old) (N.callers net.old) (N.settled net.old) (N.faults net.old))
-        (clock_at (C.readings clock.old) (C.last clock.old) (C.told clock.old)))
-        (around (network_at (N.port net.new) (N.exchanges net.new) (N.callers net.new) (N.settled net.new) (N.faults net.new))
-        (clock_at (C.readings clock.new) (C.last clock.new) (C.told clock.new)))
-        result }
+    requires part { server.now.opened.now.node.resolver ≡ Some server.now.part.now }
+    requires workers { 1 ≤ server.now.opened.now.workers }
+    requires of { IsPassOfAll server.now.part.now.commons pass }
+    requires unused { IsUnused pass }
+    ensures ends { (node : Authority) → IsOpenedFrom node server.now.opened.now → EndsServing (views_by N.Network N.Peer.Source N.Peer.Sink C.Clock) node connections
+        (around_seen N.Network C.Clock net.old clock.old) (around_seen N.Network C.Clock net.new clock.new) result }
     ensures exchanges { N.exchanges net.new ≡ N.exchanges net.old }
 {
-    let Some(part) = &opened.node.resolver else {
-        unreachable!()
-    };
-    let served = serve_batches(opened, part, rt, alloc, net, &mut pass, clock, connections);
-    part.commons.is_history(&pass);
+    let served = serve_batches(server, net, &mut pass, clock, connections);
+    server.part.commons.is_history(&pass);
     match served {
         Ok(()) => ResolverEnd::Served(pass),
-        Err(stop) => stopped(stop, pass, alloc, notes),
+        Err(stop) => stopped(stop, pass, server.alloc, notes),
     }
 }
 

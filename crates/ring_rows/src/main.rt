@@ -5,6 +5,7 @@
 #![tactic(auto)]
 
 mod steps;
+mod terms;
 mod words;
 
 use fed_base::{Memory, Text};

@@ -2,6 +2,7 @@
 
 ghost use Rattle.fed_json.specs.Forms.{IsWhole};
 
+use crate::terms::add_terms;
 use crate::words::{add, add_fault, cut, cut_word, moment, reason, seeds};
 use base64url::encode_32;
 use fed_base::{Memory, Seq, Text};
@@ -95,6 +96,7 @@ fn take_step(
         "live" => add_set(alloc, ring.live_set(alloc)?, out),
         "kept" => add_set(alloc, ring.kept_set(alloc)?, out),
         "historical" => add_tree(alloc, ring.historical(alloc)?, out),
+        "terms" => add_terms(alloc, ring, out),
         "file" => add(out, store.file(b"r").unwrap_or(b"none")),
         "open" => reopen(alloc, store, out),
         _ => add(out, b"no such step"),

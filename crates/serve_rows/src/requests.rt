@@ -6,7 +6,7 @@ use entity_id::EntityId;
 use fed_base::{Duplicate, Memory, Text};
 use fed_ports::MemorySource;
 use http_plain::{Incoming, ReadEnd, Request, read_request};
-use node_requests::{AnchorChange, Asked, Place, Resolution, asked_for};
+use node_requests::{AnchorChange, Asked, Place, ResolveRequest, asked_for};
 use std::alloc::Global;
 
 /// `asked NODE ID BYTES`: what the bytes ask a node of that identifier for, which is an `authority` or a `resolver`.
@@ -93,7 +93,7 @@ fn add_asked(alloc: Global, out: &mut Text, asked: &Asked) -> Result<(), Memory>
 }
 
 // Adds the entity, the trust anchor and the entity types.
-fn add_resolution(out: &mut Text, resolution: &Resolution) -> Result<(), Memory> {
+fn add_resolution(out: &mut Text, resolution: &ResolveRequest) -> Result<(), Memory> {
     add_word(out, resolution.sub.text())?;
     add_word(out, resolution.anchor.text())?;
     for entity_type in resolution.types.as_slice() {

@@ -5,10 +5,9 @@ ghost use Rattle.statement_shelf.specs.Passes.{IsPassOfAll};
 
 use crate::federation::{RESOLVER, RESOLVER_RING, registry_of};
 use authority_core::Registry;
-use fed_base::{Duplicate, Memory};
+use fed_base::Memory;
 use fed_serve::{Node, ResolverPart};
-use jwk_set::JwkSet;
-use resolve_once::{Parts, parts_of};
+use node_files::{Parts, parts_of};
 use statement_shelf::{Commons, FedPass};
 use std::alloc::Global;
 
@@ -43,26 +42,23 @@ pub(crate) fn open(alloc: Global) -> Result<Opened, Memory>
 fn part_of(alloc: Global, registry: &Registry) -> Result<(ResolverPart, FedPass), Memory>
     ensures { IfOk result (λ opened. IsPassOfAll opened.0.commons opened.1) }
 {
-    let Some(config) = registry.resolver_config() else {
+    let Some(_) = registry.resolver_config() else {
         return Err(Memory);
     };
-    let control = config.control.copy(alloc)?;
     let parts = parts_of(alloc, registry)?;
-    open_parts(alloc, parts, control)
+    open_parts(alloc, parts)
 }
 
 // Opens the cache and the book.
-fn open_parts(
-    alloc: Global,
-    parts: Parts,
-    control: JwkSet,
-) -> Result<(ResolverPart, FedPass), Memory>
+fn open_parts(alloc: Global, parts: Parts) -> Result<(ResolverPart, FedPass), Memory>
     ensures { IfOk result (λ opened. IsPassOfAll opened.0.commons opened.1) }
 {
     let Parts {
         signer,
         anchors,
         routes,
+        control,
+        workers: _,
     } = parts;
     drop(routes);
     match Commons::new(alloc, anchors) {

@@ -1,2 +1,6 @@
+mod BlockLaws
 mod ChainLaws
+mod IndentedLaws
+mod MarginLaws
 mod SetLaws
+mod StringLaws

@@ -4,8 +4,8 @@ use Rattle.std.specs.Prelude.{IfOk}
 use Rattle.fed_json.specs.declared.tree.Json.{Json}
 use Rattle.jwk_set.specs.Trees.{set_tree}
 use Rattle.jwk_set.specs.declared.jwk.Jwk.{Jwk}
-use Rattle.shown_json.specs.Indented.{indented}
-use Rattle.shown_json.specs.KeyViews.{view}
+use Rattle.show_text.specs.Indented.{indented}
+use Rattle.show_text.specs.KeyViews.{view}
 use Rattle.show_text.specs.Views.{set_found, unverified}
 use Rattle.show_text.specs.declared.view.View.{View}
 

@@ -8,7 +8,7 @@ use Rattle.entity_statement.specs.declared.fault.StatementFault.{StatementFault}
 use Rattle.entity_statement.specs.declared.fault.StatementFault.TheVariants as statement
 use Rattle.trust_mark.specs.declared.fault.MarkFault.{MarkFault}
 use Rattle.trust_mark.specs.declared.fault.MarkFault.TheVariants as mark
-use Rattle.shown_json.specs.Strings.{string}
+use Rattle.plain_notes.specs.Strings.{string}
 
 -- why a text isn't in compact form; parts are counted from 0 (RFC 7515 section 7.1)
 abbrev pub form_reason : FormFault → List ℕ

@@ -11,7 +11,7 @@ use Rattle.trust_mark.specs.Statuses.{status_word}
 use Rattle.trust_mark.specs.declared.fault.MarkFault.{MarkFault}
 use Rattle.trust_mark.specs.declared.mark.Mark.{Mark}
 use Rattle.trust_mark.specs.declared.status.StatusAnswer.{StatusAnswer}
-use Rattle.shown_json.specs.Strings.{string}
+use Rattle.plain_notes.specs.Strings.{string}
 use Rattle.show_text.specs.Faults.{form_reason, mark_reason, statement_reason}
 use Rattle.show_text.specs.declared.view.View.{View}
 

@@ -1,3 +1,5 @@
 pub mod Faults
 pub mod Findings
+pub mod Indented
+pub mod KeyViews
 pub mod Views

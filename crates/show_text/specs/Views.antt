@@ -11,8 +11,8 @@ use Rattle.jwk_set.specs.Trees.{set_tree}
 use Rattle.jwk_set.specs.declared.fault.SetFault.{SetFault}
 use Rattle.jwk_set.specs.declared.jwk.Jwk.{Jwk}
 use Rattle.jws_form.specs.Faults.{part}
-use Rattle.shown_json.specs.Indented.{indented}
-use Rattle.shown_json.specs.KeyViews.{view}
+use Rattle.show_text.specs.Indented.{indented}
+use Rattle.show_text.specs.KeyViews.{view}
 use Rattle.show_text.specs.Faults.{set_reason}
 use Rattle.show_text.specs.Findings.{text_found}
 use Rattle.show_text.specs.declared.view.View.{View}

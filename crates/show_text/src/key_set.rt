@@ -6,12 +6,12 @@ ghost use Rattle.jwk_set.specs.KeySets.{key_set_in};
 ghost use Rattle.show_text.specs.Views.{set_found, unverified};
 
 use crate::faults::set_reason;
+use crate::indented::show_json;
 use crate::lines::{append_counted, append_plain, append_unverified};
 use crate::view::View;
 use fed_base::{Memory, Text};
 use fed_json::Json;
 use jwk_set::{JwkSet, SetFault};
-use shown_json::show_json;
 use std::alloc::Global;
 
 /// What is shown of a tree as a key set.

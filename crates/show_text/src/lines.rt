@@ -1,13 +1,13 @@
 // Pieces of lines.
 
 ghost use Rattle.std.specs.Prelude.{◌≡◌, ◌++◌, ◌∷◌, [], decimal, IfOk, OnOk};
-ghost use Rattle.shown_json.specs.Strings.{string};
+ghost use Rattle.plain_notes.specs.Strings.{string};
 ghost use Rattle.show_text.specs.Findings.{good, refused};
 ghost use Rattle.show_text.specs.Views.{unverified};
 
 use crate::view::View;
 use fed_base::{Memory, Text};
-use shown_json::string;
+use plain_notes::string;
 use std::alloc::Global;
 
 /// What is found: these words on a line.

@@ -6,10 +6,10 @@ ghost use Rattle.jws_form.specs.Faults.{part};
 ghost use Rattle.jws_form.specs.Splitting.{parts_of};
 ghost use Rattle.show_text.specs.Views.{part_tree, section_of, sections};
 
+use crate::indented::show_json;
 use base64url::decode;
 use fed_base::{Memory, Text};
 use fed_json::{Json, TreeFault, read_tree};
-use shown_json::show_json;
 use std::alloc::Global;
 
 /// Appends the header and the claims of the text, as far as they are JSON in base64url.

@@ -18,25 +18,33 @@ use Rattle.statement_shelf.specs.declared.calls.BookCall.{BookCall}
 use Rattle.statement_shelf.specs.declared.calls.BookReply.{BookReply}
 use Rattle.statement_shelf.specs.declared.commons.SharedCommons.{SharedCommons}
 
+-- the nine objects that callers share
+abbrev pub AllCommons : Type 0 → Type 0 → Type 0 → Type 0 → Type 0 → Type 0 → Type 0
+AllCommons S V Q T W U = SharedCommons (Group (KeptTable S V (Snapshot Part) Q) (KeptTable T W (Snapshot Book) U))
+
+-- what a caller holds of them
+abbrev pub CommonsPass : Type 0 → Type 0 → Type 0
+CommonsPass S T = Group (PassSeat S Part ShelfCall ShelfReply) (PassSeat T Book BookCall BookReply)
+
 -- what is known of the nine objects
 abbrev pub CommonsKnown : Type 0
 CommonsKnown = Known ShelfCall ShelfReply BookCall BookReply
 
 module _ {S T : Type 0} where
   -- the calls on a part, and on the book, that a pass has seen, in their order
-  abbrev pub seen_of_part : ℕ → Group (PassSeat S Part ShelfCall ShelfReply) (PassSeat T Book BookCall BookReply) → List (ShelfCall × ShelfReply)
+  abbrev pub seen_of_part : ℕ → CommonsPass S T → List (ShelfCall × ShelfReply)
   seen_of_part p pass = ((known pass).part p).seen
 
-  abbrev pub seen_of_book : Group (PassSeat S Part ShelfCall ShelfReply) (PassSeat T Book BookCall BookReply) → List (BookCall × BookReply)
+  abbrev pub seen_of_book : CommonsPass S T → List (BookCall × BookReply)
   seen_of_book pass = (known pass).book.seen
 
 module _ {S V Q T W U : Type 0} where
   -- the book as it was opened
-  abbrev pub opened_book : SharedCommons (Group (KeptTable S V (Snapshot Part) Q) (KeptTable T W (Snapshot Book) U)) → Book
+  abbrev pub opened_book : AllCommons S V Q T W U → Book
   opened_book commons = opened commons.nine
 
   -- the pass is of these objects: it has seen a legal list of each, from empty parts and the opened book on
-  abbrev pub IsPassOfAll : SharedCommons (Group (KeptTable S V (Snapshot Part) Q) (KeptTable T W (Snapshot Book) U)) → Group (PassSeat S Part ShelfCall ShelfReply) (PassSeat T Book BookCall BookReply) → Type 0
+  abbrev pub IsPassOfAll : AllCommons S V Q T W U → CommonsPass S T → Type 0
   IsPassOfAll commons pass = AreOf ShelfStep [] BookStep commons.nine pass
 
 -- the one Purge on a part, where the numbers that were dropped from the first parts on are these
@@ -75,10 +83,6 @@ IsWornCall (Look url moment) old new = IsWornPart (part_of url) old new
 IsWornCall (Put url text until) old new = IsWornPart (part_of url) old new
 IsWornCall (Prove url seal) old new = IsWornPart (part_of url) old new
 IsWornCall (Purge moment) old new = IsPurgeOfSome moment old new
-
--- what a caller holds of the nine objects
-abbrev pub CommonsPass : Type 0 → Type 0 → Type 0
-CommonsPass S T = Group (PassSeat S Part ShelfCall ShelfReply) (PassSeat T Book BookCall BookReply)
 
 module _ {S T : Type 0} where
   -- of each of the first parts the Purge is the last call that was seen, and dropped so many

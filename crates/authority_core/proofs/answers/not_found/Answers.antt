@@ -2,8 +2,8 @@ use Rattle.std.proofs.Common.{◌≡◌, ◌∷◌, [], List, ℕ, ◌∙◌, ap
 use Rattle.fed_json.specs.Compact.{compact}
 use Rattle.fed_json.specs.Members.{text_member}
 use Rattle.fed_json.specs.declared.tree.Json.{Object}
-use Rattle.http_plain.specs.declared.response.Media.TheVariants.{Json}
-use Rattle.http_plain.specs.declared.response.Response.{Response}
+use Rattle.http_messages.specs.declared.response.Media.TheVariants.{Json}
+use Rattle.http_messages.specs.declared.response.Response.{Response}
 use Rattle.authority_core.proofs.Wholes.{refusal_whole}
 use Rattle.authority_core.proofs.answers.not_found.Goals as goal
 

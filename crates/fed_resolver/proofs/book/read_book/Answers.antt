@@ -3,7 +3,7 @@ use Rattle.turn_log.specs.Groups.{known}
 use Rattle.statement_shelf.specs.declared.calls.BookCall.TheVariants.{Read}
 use Rattle.resolve_round.specs.declared.trace.Event.{Event}
 use Rattle.resolve_round.specs.declared.trace.Event.TheVariants.{Book}
-use Rattle.resolve_pages.proofs.Lasts.{popped-last, put-last}
+use Rattle.resolve_round.proofs.Lasts.{popped-last, put-last}
 use Rattle.fed_resolver.proofs.ReadLaws.{read-can, read-fresh, read-gains, unread-fresh, worn-gains}
 use Rattle.fed_resolver.proofs.book.read_book.Goals as goal
 

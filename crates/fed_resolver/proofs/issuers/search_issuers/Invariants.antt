@@ -1,21 +1,19 @@
 use Rattle.std.proofs.Common.{◌≡◌, take}
-use Rattle.turn_log.specs.Groups.{known}
+use Rattle.resolve_round.specs.Linking.{link_view}
 use Rattle.resolve_round.specs.Told.{ProvesGood}
-use Rattle.resolve_pages.specs.Acts.{IsKept}
-use Rattle.resolve_pages.specs.Linking.{link_seen}
-use Rattle.resolve_pages.specs.Testing.{CountsChecks}
+use Rattle.resolve_search.specs.Calls.{Acted, Counted}
 use Rattle.fed_resolver.specs.Going.{HasIssuers, usual_aim}
-use Rattle.fed_resolver.specs.Stretches.{Goes, WalkedRounds, moment_at}
+use Rattle.fed_resolver.specs.Stretches.{Goes, WalkedRounds, moment_of}
 use Rattle.fed_resolver.proofs.issuers.search_issuers.Given as goal
 
 abbrev pub invariant-loop-id : goal.invariant-loop-id
 invariant-loop-id g l = record {
-  kept : IsKept l.commons l.fn.pass l.pass;
-  goes : Goes l.age 0 (moment_at l.fn.trace (known l.fn.pass) (link_seen (g.L.Link.calls l.fn.link) (g.L.Link.link_faults l.fn.link) (g.L.Link.web l.fn.link)))
-      (moment_at l.trace (known l.pass) (link_seen (g.L.Link.calls l.link) (g.L.Link.link_faults l.link) (g.L.Link.web l.link)));
-  walked : WalkedRounds g.L.Link.gave l.fn.link l.link l.fn.trace l.trace;
-  counted : CountsChecks l.fn.trace.checks l.trace.checks (g.G.Ledger.count l.fn.steps.ledger) (g.G.Ledger.count l.steps.ledger);
-  good : ProvesGood l.trace;
+  acted : Acted l.fn.call l.call;
+  goes : Goes l.age 0 (moment_of (link_view g.L.Link.calls g.L.Link.link_faults g.L.Link.web g.L.Link.gave) l.fn.call l.fn.link)
+      (moment_of (link_view g.L.Link.calls g.L.Link.link_faults g.L.Link.web g.L.Link.gave) l.call l.link);
+  walked : WalkedRounds g.L.Link.gave l.fn.link l.link l.fn.call.trace.now l.call.trace.now;
+  counted : Counted g.G.Ledger.count l.fn.call l.call;
+  good : ProvesGood l.call.trace.now;
   by_mark : l.issuers.by_mark ≡ l.fn.issuers.by_mark;
-  issuers : HasIssuers (usual_aim l.request.sub l.request.anchor l.age) (take l.id-index l.id-items) l.fn.trace l.trace l.issuers.found;
+  issuers : HasIssuers (usual_aim l.request.sub l.request.anchor l.age) (take l.id-index l.id-items) l.fn.call.trace.now l.call.trace.now l.issuers.found;
 }

@@ -1,5 +1,6 @@
 use Rattle.std.proofs.Common.{Ok, Err, refl}
 use Rattle.rehearsal.specs.declared.fault.RehearsalFault.TheVariants as fault
+use Rattle.fed_run.specs.Ports.{written_to}
 use Rattle.fed_run.proofs.RehearsalLaws.{holds-rehearsed}
 use Rattle.fed_run.proofs.rehearsing.rehearse.Goals as goal
 
@@ -8,8 +9,7 @@ returns-in-Ok-clause-runs g c = record { result = Ok c.in-Ok.summary; rehearses 
 
 pub returns-in-Ok-clause-worn : goal.returns-in-Ok-clause-worn
 returns-in-Ok-clause-worn g c =
-    holds-rehearsed _ (Ok c.in-Ok.summary) (record { held = g.K.Sink.held c.args.out.now; faults = g.K.Sink.write_faults c.args.out.now })
-    (record { held = g.K.Sink.held c.tell.new.out; faults = g.K.Sink.write_faults c.tell.new.out }) _ c.in-Ok.ensures.worn c.tell.ensures
+    holds-rehearsed _ (Ok c.in-Ok.summary) (written_to g.K.Sink c.args.out.now) (written_to g.K.Sink c.tell.new.out) _ c.in-Ok.ensures.worn c.tell.ensures
 
 pub returns-in-Err-Worn-clause-runs : goal.returns-in-Err-Worn-clause-runs
 returns-in-Err-Worn-clause-runs g c = record { result = Err fault.Worn; rehearses = tt; told = (refl, refl) }

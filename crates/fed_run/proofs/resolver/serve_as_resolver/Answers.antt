@@ -10,7 +10,7 @@ pub returns-clause-runs : goal.returns-clause-runs
 returns-clause-runs g c = record {
   end = c.serve_resolver-end.result;
   ended = c.serve_resolver-end.ensures.ends;
-  told = c.tell_end.ensures.told c.args.connections (c.as_slice.ensures ∙ c.in-Ok.ensures);
+  told = c.tell_end.ensures.told c.args.order.connections (c.as_slice.ensures ∙ c.in-Ok.ensures);
   joins = c.tell_end.ensures.joins;
 }
 

@@ -1,5 +1,6 @@
 use Rattle.std.proofs.Common.{rules, ◌≡◌, Ok, Err, refl, arith}
-use Rattle.node_service.specs.declared.node_files.NodeFault.TheVariants as fault
+use Rattle.node_files.specs.declared.fault.NodeFault.TheVariants as fault
+use Rattle.fed_run.specs.Ports.{written_to}
 use Rattle.fed_run.proofs.ResolveLaws.{holds-fault, holds-none, holds-told}
 use Rattle.fed_run.proofs.resolving.resolve.Goals as goal
 
@@ -8,8 +9,7 @@ returns-in-Ok-clause-runs g c = record { result = Ok c.in-Ok.outcome; resolves =
 
 pub returns-in-Ok-clause-worn : goal.returns-in-Ok-clause-worn
 returns-in-Ok-clause-worn g c =
-    holds-told _ c.in-Ok.outcome.result (record { held = g.K.Sink.held c.args.out.now; faults = g.K.Sink.write_faults c.args.out.now })
-    (record { held = g.K.Sink.held c.tell.new.out; faults = g.K.Sink.write_faults c.tell.new.out }) _ c.in-Ok.ensures.worn c.tell.ensures
+    holds-told _ c.in-Ok.outcome.result (written_to g.K.Sink c.args.ports.out.now) (written_to g.K.Sink c.tell.new.out) _ c.in-Ok.ensures.worn c.tell.ensures
 
 pub returns-in-Err-Input-clause-runs : goal.returns-in-Err-Input-clause-runs
 returns-in-Err-Input-clause-runs g c =
@@ -18,8 +18,7 @@ returns-in-Err-Input-clause-runs g c =
 
 pub returns-in-Err-Input-clause-worn : goal.returns-in-Err-Input-clause-worn
 returns-in-Err-Input-clause-worn g c =
-    holds-fault _ fault.Input (record { held = g.K.Sink.held c.args.out.now; faults = g.K.Sink.write_faults c.args.out.now })
-    (record { held = g.K.Sink.held c.write_line.new.out; faults = g.K.Sink.write_faults c.write_line.new.out }) _ c.in-Err-Input.ensures.worn c.write_line.ensures
+    holds-fault _ fault.Input (written_to g.K.Sink c.args.ports.out.now) (written_to g.K.Sink c.write_line.new.out) _ c.in-Err-Input.ensures.worn c.write_line.ensures
 
 pub returns-in-Err-Store-clause-runs : goal.returns-in-Err-Store-clause-runs
 returns-in-Err-Store-clause-runs g c =

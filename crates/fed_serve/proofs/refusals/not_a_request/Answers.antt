@@ -1,6 +1,6 @@
 use Rattle.std.proofs.Common.{List, ℕ, ap}
-use Rattle.http_plain.specs.declared.response.Media.TheVariants.{Json}
-use Rattle.http_plain.specs.declared.response.Response.{Response}
+use Rattle.http_messages.specs.declared.response.Media.TheVariants.{Json}
+use Rattle.http_messages.specs.declared.response.Response.{Response}
 use Rattle.fed_serve.proofs.refusals.not_a_request.Goals as goal
 
 refused : List ℕ → Response

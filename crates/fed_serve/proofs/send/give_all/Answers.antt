@@ -1,6 +1,6 @@
 use Rattle.std.proofs.Common.{◌≡◌, ap, rules, arith, length, take, drop, ◌-◌, take_all, List, ℕ}
 use Rattle.std.proofs.lemmas.List.{length-drop}
-use Rattle.http_plain.proofs.Appending.{appends_on}
+use Rattle.http_messages.proofs.Appending.{appends_on}
 use Rattle.fed_serve.proofs.send.give_all.Goals as goal
 
 whole : (x : List ℕ) (i : ℕ) → take (length x - i) (drop i x) ≡ drop i x

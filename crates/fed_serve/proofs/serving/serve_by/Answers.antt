@@ -2,7 +2,7 @@ use Rattle.std.proofs.Common.{◌≡◌, Ok, rules, sym, subst}
 use Rattle.fed_ports.specs.Times.{Told}
 use Rattle.turn_log.specs.Groups.{known}
 use Rattle.fed_resolver.specs.Calls.{GaveAll}
-use Rattle.resolver_answers.specs.Resolutions.{call_at}
+use Rattle.fed_serve.specs.Resolutions.{call_at}
 use Rattle.fed_serve.specs.Moments.{peer_at}
 use Rattle.fed_serve.specs.Steps.{IsAnswer}
 use Rattle.fed_serve.proofs.Asking.{has_reason}

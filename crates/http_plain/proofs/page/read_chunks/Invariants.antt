@@ -1,7 +1,7 @@
 use Rattle.std.proofs.Common.{◌≡◌, ◌≤◌, ℕ, ◌+◌, false, List, ◌++◌, length, cond}
 use Rattle.chunked_body.specs.Grammar.{form_limit}
 use Rattle.chunked_body.specs.Readers.{HasRead, is_over, room_of}
-use Rattle.http_plain.specs.Asked.{asked_of}
+use Rattle.http_messages.specs.Asked.{asked_of}
 use Rattle.http_plain.specs.Pages.{chunks_limit}
 use Rattle.http_plain.proofs.page.read_chunks.Given as goal
 

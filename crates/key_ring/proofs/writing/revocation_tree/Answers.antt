@@ -6,4 +6,4 @@ use Rattle.key_ring.proofs.writing.revocation_tree.Goals as goal
 pub returns : goal.returns
 returns c =
     revocation-made c.new-members.result c.add_text.new.members c.add_number.new.members _ _ c.args.at c.args.reason
-    c.new-members.ensures c.in_ok-add_text.ensures c.in_ok-add_number.ensures (ap (text_member (codes "reason")) c.reason_word.ensures) refl
+    c.new-members.ensures c.in_ok-add_text.ensures c.in_ok-add_number.ensures (ap (text_member (codes "reason")) c.word.ensures) refl

@@ -2,7 +2,7 @@ use Rattle.std.proofs.Common.{[], ◌∷◌, refl, rules, subst, sym, ◌∙◌}
 use Rattle.std.proofs.lemmas.Result.{err_from_is_err_and}
 use Rattle.fed_ports.specs.Lists.{Added, Gave}
 use Rattle.turn_log.specs.Groups.{known}
-use Rattle.resolver_answers.specs.Resolutions.{call_at}
+use Rattle.fed_serve.specs.Resolutions.{call_at}
 use Rattle.fed_serve.specs.Moments.{clock_at}
 use Rattle.node_service.proofs.ConnectionLaws.{answered_alone}
 use Rattle.node_service.proofs.connections.serve_next.Goals as goal
@@ -22,7 +22,7 @@ returns-clause-next g c = (
   record {
     port = c.settle.ensures.port ∙ c.accept.ensures.port;
     accepted = subst (λ callers. Gave (g.N.Network.callers c.args.net.now) (c.in_ok-peer.peer ∷ []) callers) (sym c.settle.ensures.callers) c.in_ok-peer.ensures.next;
-    answered = (answered_alone c.args.node.now _ _ _ c.serve_one.result c.requires.alone c.serve_one.ensures.serves, tt);
+    answered = (answered_alone c.args.server.now.node.now _ _ _ c.serve_one.result c.requires.alone c.serve_one.ensures.serves, tt);
     settled = subst (λ settled. Added settled (c.serve_one.new.peer ∷ []) (g.N.Network.settled c.settle.new.self)) c.accept.ensures.settled (search rules);
     clocks = (refl, refl);
   },
@@ -43,7 +43,7 @@ returns-in_err-settle-clause-next g c =
       };
       port = c.settle.ensures.port ∙ c.accept.ensures.port;
       accepted = subst (λ callers. Gave (g.N.Network.callers c.args.net.now) (c.in_ok-peer.peer ∷ []) callers) (sym c.settle.ensures.callers) c.in_ok-peer.ensures.next;
-      answered = answered_alone c.args.node.now _ _ _ c.serve_one.result c.requires.alone c.serve_one.ensures.serves;
+      answered = answered_alone c.args.server.now.node.now _ _ _ c.serve_one.result c.requires.alone c.serve_one.ensures.serves;
       settled = c.in_err-settle.ensures.err ∙ c.accept.ensures.settled;
       clocks = (refl, refl);
     })

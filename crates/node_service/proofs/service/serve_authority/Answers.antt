@@ -1,3 +1,4 @@
+use Rattle.node_files.specs.Orders.{order_of}
 use Rattle.node_service.proofs.EndLaws.{ends_with, ends_without}
 use Rattle.node_service.proofs.service.serve_authority.Goals as goal
 
@@ -7,5 +8,5 @@ returns-in-Err-clause-ends g c =
 
 pub returns-in-Ok-clause-ends : goal.returns-in-Ok-clause-ends
 returns-in-Ok-clause-ends g c =
-    ends_with _ (record { config = c.args.config.now; post = record { port = c.args.port; connections = c.args.connections } }) _ _ _ _ _ _ _ _ c.in-Ok.registry c.serve_alone-end.result c.open_authority.ensures.files c.in-Ok.ensures.counts
+    ends_with _ (order_of c.args.config.now c.args.port c.args.connections) _ _ _ _ _ _ _ _ c.in-Ok.registry c.serve_alone-end.result c.open_authority.ensures.files c.in-Ok.ensures.counts
     (record { is_node = c.in-Ok.ensures.node.0; is_authority = c.in-Ok.ensures.node.1 }) c.serve_alone-end.ensures.ends

@@ -8,7 +8,7 @@ use Rattle.resolver_service.proofs.batch.serve_batch.Goals as goal
 
 pub returns-in-Ok-clause-batch : goal.returns-in-Ok-clause-batch
 returns-in-Ok-clause-batch g c =
-    batch_of _ _ c.args.part.now c.args.opened.now.node _ _ (known c.args.pass.now) (known c.purge.new.pass) (known c.add_desks.new.pass) _ _ _ c.now-moment.result c.args.count
+    batch_of _ _ c.args.server.now.part.now c.args.server.now.opened.now.node _ _ (known c.args.pass.now) (known c.purge.new.pass) (known c.add_desks.new.pass) _ _ _ c.now-moment.result c.args.count
     c.add_desks.new.desks.items c.serve_desks.result
     (record {
       counted = c.now-moment.ensures.counted;
@@ -18,7 +18,7 @@ returns-in-Ok-clause-batch g c =
 
 pub returns-in-Ok-clause-stopped : goal.returns-in-Ok-clause-stopped
 returns-in-Ok-clause-stopped g c =
-    batch_stops _ _ c.args.opened.now.node _ _ (known c.args.pass.now) (known c.purge.new.pass) (known c.add_desks.new.pass) (known c.serve_desks.new.pass) _ _ c.now-moment.result c.args.count
+    batch_stops _ _ c.args.server.now.opened.now.node _ _ (known c.args.pass.now) (known c.purge.new.pass) (known c.add_desks.new.pass) (known c.serve_desks.new.pass) _ _ c.now-moment.result c.args.count
     c.add_desks.new.desks.items c.serve_desks.result
     (record {
       counted = c.now-moment.ensures.counted;

@@ -7,21 +7,21 @@ use Rattle.resolver_service.proofs.batch.serve_desks.Goals as goal
 
 pub end_desks-ended-requires-clause-done : goal.end_desks-ended-requires-clause-done
 end_desks-ended-requires-clause-done g c = λ lives within.
-    let serves = many_as _ c.args.node.now _ c.args.desks.items c.serve_many-served.new.desks _ _ c.serve_many-served.result c.as_mut_slice.ensures.value c.serve_many-served.ensures.serves in
-    let many = served_length _ c.args.node.now serves.peers c.args.desks.items c.serve_many-served.new.desks serves.served in
+    let serves = many_as _ c.args.server.now.opened.now.node _ c.args.desks.items c.serve_many-served.new.desks _ _ c.serve_many-served.result c.as_mut_slice.ensures.value c.serve_many-served.ensures.serves in
+    let many = served_length _ c.args.server.now.opened.now.node serves.peers c.args.desks.items c.serve_many-served.new.desks serves.served in
     let len : length c.args.desks.items ≤ c.args.desks.len = search rules in
-    all_taken c.args.part.now _ _ (whole_again c.args.desks.len c.args.desks.items c.serve_many-served.new.desks len many)
-    (all_done _ (λ k l m. refl) c.args.node.now c.args.part.now c.requires.part serves.peers c.args.desks.items c.serve_many-served.new.desks c.requires.ready serves.served)
+    all_taken c.args.server.now.part.now _ _ (whole_again c.args.desks.len c.args.desks.items c.serve_many-served.new.desks len many)
+    (all_done _ (λ k l m. refl) c.args.server.now.opened.now.node c.args.server.now.part.now c.requires.part serves.peers c.args.desks.items c.serve_many-served.new.desks c.requires.ready serves.served)
 
 pub returns-clause-serves : goal.returns-clause-serves
 returns-clause-serves g c =
-    let serves = many_as _ c.args.node.now _ c.args.desks.items c.serve_many-served.new.desks _ _ c.serve_many-served.result c.as_mut_slice.ensures.value c.serve_many-served.ensures.serves in
-    let many = served_length _ c.args.node.now serves.peers c.args.desks.items c.serve_many-served.new.desks serves.served in
+    let serves = many_as _ c.args.server.now.opened.now.node _ c.args.desks.items c.serve_many-served.new.desks _ _ c.serve_many-served.result c.as_mut_slice.ensures.value c.serve_many-served.ensures.serves in
+    let many = served_length _ c.args.server.now.opened.now.node serves.peers c.args.desks.items c.serve_many-served.new.desks serves.served in
     let len : length c.args.desks.items ≤ c.args.desks.len = search rules in
     let last =
     network_at (g.N.Network.port c.end_desks-ended.new.net) (g.N.Network.exchanges c.end_desks-ended.new.net) (g.N.Network.callers c.end_desks-ended.new.net)
     (g.N.Network.settled c.end_desks-ended.new.net) (g.N.Network.faults c.end_desks-ended.new.net) in
-    serves_ended _ c.args.node.now c.args.desks.items c.serve_many-served.new.desks _ _ last (known c.args.pass.now) (known c.end_desks-ended.new.pass) _ c.serve_many-served.result
+    serves_ended _ c.args.server.now.opened.now.node c.args.desks.items c.serve_many-served.new.desks _ _ last (known c.args.pass.now) (known c.end_desks-ended.new.pass) _ c.serve_many-served.result
     c.end_desks-ended.result c.network_first.result c.network_first.ensures (whole_again c.args.desks.len c.args.desks.items c.serve_many-served.new.desks len many) serves
     c.end_desks-ended.ensures.ends c.end_desks-ended.ensures.callers c.end_desks-ended.ensures.port c.end_desks-ended.ensures.exchanges c.end_desks-ended.ensures.faults
 
@@ -32,12 +32,12 @@ returns-clause-stops g c =
 
 pub returns-clause-stopped : goal.returns-clause-stopped
 returns-clause-stopped g c =
-    let serves = many_as _ c.args.node.now _ c.args.desks.items c.serve_many-served.new.desks _ _ c.serve_many-served.result c.as_mut_slice.ensures.value c.serve_many-served.ensures.serves in
-    let many = served_length _ c.args.node.now serves.peers c.args.desks.items c.serve_many-served.new.desks serves.served in
+    let serves = many_as _ c.args.server.now.opened.now.node _ c.args.desks.items c.serve_many-served.new.desks _ _ c.serve_many-served.result c.as_mut_slice.ensures.value c.serve_many-served.ensures.serves in
+    let many = served_length _ c.args.server.now.opened.now.node serves.peers c.args.desks.items c.serve_many-served.new.desks serves.served in
     let len : length c.args.desks.items ≤ c.args.desks.len = search rules in
     let last =
     network_at (g.N.Network.port c.end_desks-ended.new.net) (g.N.Network.exchanges c.end_desks-ended.new.net) (g.N.Network.callers c.end_desks-ended.new.net)
     (g.N.Network.settled c.end_desks-ended.new.net) (g.N.Network.faults c.end_desks-ended.new.net) in
-    stops_desks _ c.args.node.now c.args.desks.items c.serve_many-served.new.desks _ _ last (known c.args.pass.now) (known c.end_desks-ended.new.pass) _ c.serve_many-served.result
+    stops_desks _ c.args.server.now.opened.now.node c.args.desks.items c.serve_many-served.new.desks _ _ last (known c.args.pass.now) (known c.end_desks-ended.new.pass) _ c.serve_many-served.result
     c.end_desks-ended.result c.network_first.result c.network_first.ensures (whole_again c.args.desks.len c.args.desks.items c.serve_many-served.new.desks len many) serves
     c.end_desks-ended.ensures.ends c.end_desks-ended.ensures.callers c.end_desks-ended.ensures.port c.end_desks-ended.ensures.exchanges

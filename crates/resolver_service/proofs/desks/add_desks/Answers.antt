@@ -11,5 +11,5 @@ loop-preserved g c =
       c.new_desk.ensures.of,
       same_after _ _ _ inv.1 c.new_desk.ensures.same,
       ap length c.in_ok-push.ensures.items ∙ n,
-      made_more _ _ c.args.part.now _ _ c.loop.desks.items _ c.in_ok-desk.desk c.in_ok-push.ensures.items inv.3 inv.1 c.in_ok-desk.ensures.ready c.in_ok-desk.ensures.new,
+      made_more _ _ c.args.server.now.part.now _ _ c.loop.desks.items _ c.in_ok-desk.desk c.in_ok-push.ensures.items inv.3 inv.1 c.in_ok-desk.ensures.ready c.in_ok-desk.ensures.new,
     )

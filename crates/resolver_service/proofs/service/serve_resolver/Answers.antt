@@ -1,4 +1,5 @@
 use Rattle.std.proofs.Common.{refl}
+use Rattle.node_files.specs.Orders.{order_of}
 use Rattle.resolver_service.proofs.EndLaws.{ends_with, ends_without}
 use Rattle.resolver_service.proofs.NodeLaws.{has_workers}
 use Rattle.resolver_service.proofs.service.serve_resolver.Goals as goal
@@ -18,7 +19,7 @@ pub returns-in-Ok : goal.returns-in-Ok
 returns-in-Ok g c = record {
   ends = record {
     ended =
-        ends_with _ (record { config = c.args.config.now; post = record { port = c.args.port; connections = c.args.connections } }) _ (g.D.Store.files c.open_resolver.new.store) _ _ _ _ c.in-Ok.registry c.serve_registry.result c.in-Ok.ensures.counts
+        ends_with _ (order_of c.args.config.now c.args.port c.args.connections) _ (g.D.Store.files c.open_resolver.new.store) _ _ _ _ c.in-Ok.registry c.serve_registry.result c.in-Ok.ensures.counts
         c.in-Ok.ensures.node.0 c.serve_registry.ensures.ends;
     files = c.open_resolver.ensures.files;
     exchanges = c.serve_registry.ensures.exchanges;

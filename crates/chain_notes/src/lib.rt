@@ -1,0 +1,13 @@
+//! Layer 7, the program: what a person reads of a chain that is refused.
+//!
+//! [`explain_verdict`] finds the cause of a verdict again in the chain's texts, and says it in [`Notes`](plain_notes::Notes): a text that
+//! is no entity statement, names and signatures that don't link, a moment, a constraint or a policy that isn't met. It can't fail: where
+//! memory is wanting, less is said.
+#![tactic(auto)]
+
+mod chains;
+mod limits;
+mod links;
+mod places;
+
+pub use chains::{Asked, explain_verdict};

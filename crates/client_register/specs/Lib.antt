@@ -1,0 +1,6 @@
+pub mod Answers
+pub mod Finders
+pub mod MemoryFinders
+pub mod Registrations
+pub mod Requests
+pub mod Stages

@@ -1,0 +1,12 @@
+pub mod Asked
+pub mod Connections
+pub mod Cuts
+pub mod Fields
+pub mod FlowLaws
+pub mod Flows
+pub mod Heads
+pub mod Plans
+pub mod Readings
+pub mod Requests
+pub mod Responses
+pub mod Writings

@@ -1,6 +1,0 @@
-use Rattle.std.proofs.Common.{◌≡◌, drop}
-use Rattle.http_plain.specs.Heads.{head_end, behind}
-use Rattle.http_plain.proofs.heads.head_end.Given as goal
-
-abbrev pub invariant-loop-at : goal.invariant-loop-at
-invariant-loop-at l = head_end l.text ≡ behind l.at (head_end (drop l.at l.text))

@@ -1,0 +1,6 @@
+pub mod Answers
+pub mod Heeding
+pub mod MemoryAskers
+pub mod Posts
+pub mod Stages
+pub mod Tells

@@ -1,0 +1,2 @@
+mod AnchorLaws
+mod NodeLaws

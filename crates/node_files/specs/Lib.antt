@@ -1,0 +1,4 @@
+pub mod Moments
+pub mod NodeFiles
+pub mod Orders
+pub mod ResolvingParts

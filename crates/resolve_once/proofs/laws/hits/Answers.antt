@@ -1,5 +1,0 @@
-use Rattle.resolve_once.proofs.WebLaws.{hits}
-use Rattle.resolve_once.proofs.laws.hits.Goals as goal
-
-pub returns : goal.returns
-returns c = hits c.traces.ensures.whole_in_part

@@ -1,6 +1,0 @@
-pub mod Alone
-pub mod Calls
-pub mod Exchanged
-pub mod Nodes
-pub mod Steps
-pub mod Webs

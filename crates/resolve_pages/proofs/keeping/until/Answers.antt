@@ -1,5 +1,0 @@
-use Rattle.std.proofs.Common.{rules}
-use Rattle.resolve_pages.proofs.keeping.until.Goals as goal
-
-pub returns : goal.returns
-returns c = search rules

@@ -1,3 +1,0 @@
-pub mod Resolutions
-pub mod Responses
-pub mod Rotations

@@ -1,0 +1,52 @@
+-- What holds between the steps of a call.
+use Rattle.std.specs.Prelude.{◌≡◌, ℕ, List, IfOk, Err}
+use Rattle.std.specs.declared.snapshot.Snapshot.{Snapshot}
+use Rattle.fed_base.specs.Counts.{Rose}
+use Rattle.fed_serve.specs.Moments.{IsOneReading}
+use Rattle.sealed.specs.Sealing.{IsSealedFor}
+use Rattle.turn_log.specs.Groups.{IsUnused, OwnsEach}
+use Rattle.turn_log.specs.declared.kept.KeptTable.{KeptTable}
+use Rattle.turn_log.specs.declared.group.Group.{Group}
+use Rattle.statement_shelf.specs.Book.{Book, opened_with}
+use Rattle.statement_shelf.specs.Entries.{Part}
+use Rattle.statement_shelf.specs.Passes.{CommonsPass, IsPassOfAll, opened_book}
+use Rattle.statement_shelf.specs.declared.calls.AnchorKeys.{AnchorKeys}
+use Rattle.statement_shelf.specs.declared.commons.SharedCommons.{SharedCommons}
+use Rattle.resolve_reply.specs.declared.signer.Signer.{Signer}
+use Rattle.resolve_round.specs.declared.request.ResolveRequest.{ResolveRequest}
+use Rattle.resolve_round.specs.Traces.{asks_in}
+use Rattle.fed_resolver.specs.declared.outcome.Outcome.{Outcome}
+use Rattle.fed_resolver.specs.declared.outcome.Refusal.TheVariants.{Unavailable}
+use Rattle.fed_resolver.specs.Told.{situation_of}
+use Rattle.fed_resolver.specs.Uses.{CountsFaults}
+use Rattle.node_files.specs.declared.parts.Parts.{Parts}
+use Rattle.resolver_service.specs.Alone.{ResolvesAlone}
+use Rattle.resolver_service.specs.Calls.{Around, HasKeys}
+use Rattle.resolver_service.specs.Exchanged.{ExchangedBy}
+use Rattle.node_files.specs.ResolvingParts.{booked_keys}
+
+-- what one call tells of its trace at a moment, by the keys that its book was opened with
+pub record TellsBy (signer : Signer) (anchors : List AnchorKeys) (request : ResolveRequest) (moment : ℕ) (outcome : Outcome) : Type 0 where
+  pub alone : ResolvesAlone (situation_of request signer.age moment) signer anchors outcome
+  pub keys : HasKeys (booked_keys request.anchor anchors) outcome.trace.keys.keys outcome.result
+  pub sealed : IfOk outcome.result (λ reply. IsSealedFor signer.keys reply.text)
+
+-- the link or the network failed only where a round had a fault
+pub record FailsBy (outcome : Outcome) (before now : ℕ) : Type 0 where
+  pub faults : CountsFaults outcome.trace.searches before now
+  pub unavailable : outcome.result ≡ Err Unavailable → Rose before now
+
+-- one call by these parts
+pub record IsCallWith (parts : Parts) (request : ResolveRequest) (before now : Around) (outcome : Outcome) : Type 0 where
+  pub clock : IsOneReading before.clock now.clock
+  pub told : TellsBy parts.signer parts.anchors request now.clock.last outcome
+  pub exchanges : ExchangedBy parts.routes (asks_in outcome.trace.searches) before.exchanges now.exchanges outcome.result
+  pub fails : FailsBy outcome before.faults now.faults
+
+module _ {S V Q T W U : Type 0} where
+  -- the pass is of these objects, has seen nothing and is alone, and the book was opened with these anchors
+  pub record IsNew (commons : SharedCommons (Group (KeptTable S V (Snapshot Part) Q) (KeptTable T W (Snapshot Book) U))) (anchors : List AnchorKeys) (pass : CommonsPass S T) : Type 0 where
+    pub opened : opened_book commons ≡ opened_with anchors
+    pub of : IsPassOfAll commons pass
+    pub unused : IsUnused pass
+    pub whole : OwnsEach pass

@@ -1,0 +1,4 @@
+pub mod KeygenLaws
+pub mod RingLaws
+pub mod RotateLaws
+pub mod SmallLaws

@@ -1,0 +1,56 @@
+// The answer of `keygen`.
+
+ghost use Rattle.std.specs.Prelude.{◌≡◌, IfOk};
+ghost use Rattle.ring_commands.specs.Keygens.{keygen_reply, public_line};
+
+use crate::reply::{Reply, plain};
+use fed_json::write_tree;
+use fed_notes::{explain_order, explain_seeds};
+use fed_ports::{Memory, Text};
+use fed_words::Moment;
+use hex::FromHex;
+use jwk_set::{Jwk, thumbprint, write_key};
+use key_ring::{RingFault, first_file};
+use plain_notes::Notes;
+use slh_dsa::KeyPair;
+use std::alloc::Global;
+
+/// The ring file of a key of the seeds that the input has, for these moments, and its public key as a JWK.
+#[tactic(auto, unfolding(crate::specs::Keygens::keygen_reply))]
+pub fn keygen(
+    alloc: Global,
+    at: Moment,
+    exp: Moment,
+    input: &[u8],
+    notes: &mut Notes,
+) -> Result<Reply, Memory>
+    ensures { IfOk result (λ reply. reply ≡ keygen_reply at exp input.now) }
+{
+    let Ok(seeds) = <[u8; 48]>::from_hex(input) else {
+        explain_seeds(alloc, input, notes);
+        return plain(alloc, 2, b"input\n");
+    };
+    match first_file(alloc, &seeds, at.seconds(), exp.seconds()) {
+        Ok(file) => Ok(Reply {
+            status: 0,
+            text: public_line(alloc, &seeds)?,
+            kept: Some(file),
+        }),
+        Err(RingFault::Memory) => Err(Memory),
+        Err(_) => {
+            explain_order(alloc, at.seconds(), exp.seconds(), notes);
+            plain(alloc, 1, b"refused Order\n")
+        }
+    }
+}
+
+// The public key of these seeds as a JWK in compact JSON, on its own line.
+fn public_line(alloc: Global, seeds: &[u8; 48]) -> Result<Text, Memory>
+    ensures { IfOk result (λ line. line ≡ public_line seeds.now) }
+{
+    let public = KeyPair::from_seeds(seeds).public();
+    let kid = thumbprint(alloc, &public)?;
+    let mut line = write_tree(alloc, &write_key(alloc, &Jwk::Own { kid, public })?)?;
+    line.push(b'\n')?;
+    Ok(line)
+}

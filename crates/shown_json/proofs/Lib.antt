@@ -1,4 +1,0 @@
-mod BlockLaws
-mod IndentedLaws
-mod MarginLaws
-mod StringLaws

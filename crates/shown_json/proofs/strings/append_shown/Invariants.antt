@@ -1,6 +1,0 @@
-use Rattle.std.proofs.Common.{◌≡◌, ◌++◌, take, flat_map}
-use Rattle.shown_json.specs.Strings.{shown_byte}
-use Rattle.shown_json.proofs.strings.append_shown.Given as goal
-
-abbrev pub invariant-loop-byte : goal.invariant-loop-byte
-invariant-loop-byte l = l.string ≡ l.initial.string ++ flat_map (shown_byte l.calm) (take l.byte-index l.text)

@@ -1,6 +1,0 @@
-use Rattle.std.proofs.Common.{◌≡◌, drop}
-use Rattle.shown_json.specs.Strings.{calm_after}
-use Rattle.shown_json.proofs.strings.is_calm.Given as goal
-
-abbrev pub invariant-loop-byte : goal.invariant-loop-byte
-invariant-loop-byte l = calm_after 0 l.text ≡ calm_after l.before (drop l.byte-index l.text)

@@ -1,3 +1,0 @@
-pub mod Indented
-pub mod KeyViews
-pub mod Strings

@@ -1,0 +1,13 @@
+//! Layer 7, the program: what a person reads of the words of a command line.
+//!
+//! [`explain_command`] tells why words give no command, or which moments of a command look wrong, from `fed_help::USAGES`, the one table of
+//! the commands and their options. [`explain_waiting`] tells what a command reads where standard input is a terminal.
+#![tactic(auto)]
+
+mod moment_notes;
+mod values;
+mod waiting;
+mod words;
+
+pub use waiting::explain_waiting;
+pub use words::explain_command;
