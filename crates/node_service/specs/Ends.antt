@@ -1,5 +1,5 @@
 -- How serving as an authority ends.
-use Rattle.std.specs.Prelude.{◌≡◌, ◌⊎◌, ◌<◌, ℕ, List, Option, None, Result, Ok, Err}
+use Rattle.std.specs.Prelude.{◌≡◌, ◌⊎◌, ◌<◌, ℕ, Option, None, Result, Ok, Err}
 use Rattle.fed_base.specs.Counts.{Rose}
 use Rattle.fed_ports.specs.Stores.{Files}
 use Rattle.fed_ports.specs.declared.clock.Clock.{Ghosts as ClockGhosts}
