@@ -56,16 +56,17 @@ pub fn resolve<R: Wait, L: Link, G: Ledger>(
     ensures sealed { IfOk result.result (λ reply. IsSealedFor signer.now.keys reply.text) }
 {
     let mut trace = blank(alloc, t);
-    let mut call = Call {
-        commons,
-        rt,
-        alloc,
-        pass,
-        trace: &mut trace,
-        steps,
+    let result = {
+        let mut call = Call {
+            commons,
+            rt,
+            alloc,
+            pass,
+            trace: &mut trace,
+            steps,
+        };
+        answer(&mut call, signer, request, link, t)
     };
-    let result = answer(&mut call, signer, request, link, t);
-    drop(call);
     Outcome { result, trace }
 }
 
@@ -101,6 +102,7 @@ fn answer<R: Wait, L: Link, G: Ledger>(
     ensures link { UsesLink (L.web link.old) (L.calls link.old) (L.calls link.new) (L.link_faults link.old) (L.link_faults link.new) (outcome_of result call.new.trace.now) }
     ensures walked { GaveAll L.gave link.old link.new call.new.trace.now result }
     ensures counted { CountsTests (situation_of request.now signer.now.age t) signer.now (outcome_of result call.new.trace.now) result (G.count call.old.steps.now.ledger) (G.count call.new.steps.now.ledger) }
+    ensures complete { IsComplete (situation_of request.now signer.now.age t) signer.now (L.web link.old) (L.link_faults link.old) (L.link_faults link.new) (outcome_of result call.new.trace.now) }
     ensures sealed { IfOk result (λ reply. IsSealedFor signer.now.keys reply.text) }
 {
     read_book(

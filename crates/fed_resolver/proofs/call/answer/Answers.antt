@@ -6,10 +6,12 @@ use Rattle.resolve_round.specs.declared.trace.Trace.{Trace}
 use Rattle.resolve_round.specs.Acts.{GainsEvents}
 use Rattle.resolve_round.specs.Linking.{link_seen}
 use Rattle.fed_resolver.specs.Going.{IsBlank}
+use Rattle.fed_resolver.specs.Refusals.{outcome_of}
 use Rattle.fed_resolver.specs.Stretches.{moment_at}
 use Rattle.fed_resolver.specs.Told.{situation_of}
 use Rattle.fed_resolver.proofs.AnsweredLaws.{blank-counts, blank-resolves, can-take, gave-bare, last-searches, link-bare, taken-begun, taken-counts, taken-resolves}
 use Rattle.fed_resolver.proofs.SearchLaws.{goes-any, searched-resolves}
+use Rattle.fed_resolver.proofs.SpeakLaws.{complete-from}
 use Rattle.fed_resolver.proofs.StretchLaws.{parts-behind}
 use Rattle.fed_resolver.proofs.TickLaws.{gave-all, link-by}
 use Rattle.fed_resolver.proofs.call.answer.Goals as goal
@@ -109,6 +111,26 @@ returns-clause-walked g c =
     let here = situation_of c.args.request.now c.args.signer.now.age c.args.t in
     let begun = taken-begun here c.args.call.now.trace.now c.read_book.new.trace c.requires.blank c.in_ok-read_book.ensures.read c.take_keys.new.trace c.in_ok-take_keys.ensures in
     gave-all g.L.Link.gave c.args.link.now c.search.new.link c.take_keys.new.trace c.search.new.call.trace.now begun.searches c.search.result c.search.ensures.walked
+
+-- ---- what the result says of the web
+
+pub returns-in_err-read_book-clause-complete : goal.returns-in_err-read_book-clause-complete
+returns-in_err-read_book-clause-complete g c =
+    let link = returns-in_err-read_book-clause-link g c in
+    complete-from (situation_of c.args.request.now c.args.signer.now.age c.args.t) c.args.signer.now (g.L.Link.web c.args.link.now) (g.L.Link.link_faults c.args.link.now) (g.L.Link.link_faults c.args.link.now)
+    (outcome_of c.from_residual.result c.read_book.new.trace) (returns-in_err-read_book-clause-resolves g c).tells link.fetched link.faults
+
+pub returns-in_err-take_keys-clause-complete : goal.returns-in_err-take_keys-clause-complete
+returns-in_err-take_keys-clause-complete g c =
+    let link = returns-in_err-take_keys-clause-link g c in
+    complete-from (situation_of c.args.request.now c.args.signer.now.age c.args.t) c.args.signer.now (g.L.Link.web c.args.link.now) (g.L.Link.link_faults c.args.link.now) (g.L.Link.link_faults c.args.link.now)
+    (outcome_of c.from_residual-in_err-take_keys.result c.take_keys.new.trace) (returns-in_err-take_keys-clause-resolves g c).tells link.fetched link.faults
+
+pub returns-clause-complete : goal.returns-clause-complete
+returns-clause-complete g c =
+    let link = returns-clause-link g c in
+    complete-from (situation_of c.args.request.now c.args.signer.now.age c.args.t) c.args.signer.now (g.L.Link.web c.args.link.now) (g.L.Link.link_faults c.args.link.now) (g.L.Link.link_faults c.search.new.link)
+    (outcome_of c.search.result c.search.new.call.trace.now) (returns-clause-resolves g c).tells link.fetched link.faults
 
 -- ---- what stays
 

@@ -43,8 +43,8 @@ loop-id-init g c = record {
   issuers = subst (HasIssuers (usual_aim c.args.request.now.sub c.args.request.now.anchor c.args.age) [] c.args.call.now.trace.now c.args.call.now.trace.now) (sym c.requires.none) (issuers-none (usual_aim c.args.request.now.sub c.args.request.now.anchor c.args.age) c.args.call.now.trace.now);
 }
 
-pub search_issuer-requires-clause-ready : goal.search_issuer-requires-clause-ready
-search_issuer-requires-clause-ready g c = record { of = acted-of c.args.call.now c.loop-id.call c.loop-id.invariant.acted; told = c.loop-id.invariant.goes.told; good = c.loop-id.invariant.good }
+pub search_issuer-requires : goal.search_issuer-requires
+search_issuer-requires g c = record { ready = record { of = acted-of c.args.call.now c.loop-id.call c.loop-id.invariant.acted; told = c.loop-id.invariant.goes.told; good = c.loop-id.invariant.good } }
 
 pub returns-in_err-search_issuer-clause-acts : goal.returns-in_err-search_issuer-clause-acts
 returns-in_err-search_issuer-clause-acts g c =

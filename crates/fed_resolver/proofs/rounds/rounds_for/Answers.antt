@@ -34,7 +34,7 @@ returns-in_err-first-clause-goes g c =
 pub returns-in_err-first-clause-walked : goal.returns-in_err-first-clause-walked
 returns-in_err-first-clause-walked g c =
     let p = err_from_is_err_and c.from_residual.result c.from_residual.ensures.1 in
-    rw (p.1, p.2) (round-walks (link_view g.L.Link.calls g.L.Link.link_faults g.L.Link.web g.L.Link.gave) {A = ℕ} c.args.link.now c.search_round.new.link c.args.call.now.trace.now c.search_round.new.call.trace.now (Err c.in_err-first.field-0.0) c.in_err-first.ensures.link)
+    rw p.1 (round-walks (link_view g.L.Link.calls g.L.Link.link_faults g.L.Link.web g.L.Link.gave) {A = ℕ} c.args.link.now c.search_round.new.link c.args.call.now.trace.now c.search_round.new.call.trace.now (Err c.in_err-first.field-0.0) c.in_err-first.ensures.link)
 
 -- ---- it settles
 
