@@ -19,8 +19,8 @@ use std::alloc::Global;
 
 /// Which of the marks are kept, by what their issuers tell of them at the moment, in seconds since 1970 (OpenID Federation
 /// 1.0 section 8.4). For each mark, in order, whose issuer's configuration names a status endpoint, its text is posted there
-/// once. `configs` has for each mark the text of its issuer's configuration. An answer counts only where it is the
-/// issuer's, about this very mark, at most a minute old from the future, and sealed by the keys of that configuration.
+/// once. `configs` has for each mark the text of its issuer's configuration. An answer counts only where it is the mark's
+/// issuer's, about this very mark, given at the latest a minute after the moment, and sealed by the keys of that configuration.
 pub fn heed<A: Asker, L: Ledger>(
     alloc: Global,
     asker: &mut A,
