@@ -13,9 +13,10 @@ use Rattle.statement_shelf.specs.declared.calls.ShelfReply.{ShelfReply}
 use Rattle.statement_shelf.specs.declared.calls.BookCall.{BookCall}
 use Rattle.statement_shelf.specs.declared.calls.BookReply.{BookReply}
 use Rattle.resolve_reply.specs.declared.reply.Reply.{Reply}
+use Rattle.fed_resolver.specs.declared.outcome.Outcome.{Outcome}
 use Rattle.fed_resolver.specs.declared.outcome.Refusal.{Refusal}
 use Rattle.fed_resolver.specs.declared.outcome.Refusal.TheVariants.{NoAnchor, NotFound, PolicyOnly, NoChain, Unavailable, Budget, Worn, Memory}
-use Rattle.resolver_service.specs.Calls.{HoldsWorn, Question}
+use Rattle.resolver_service.specs.Calls.{HoldsWorn, Question, WornBy}
 use Rattle.resolver_service.specs.Batches.{ServiceViews}
 use Rattle.fed_words.specs.declared.service.Service.{Service}
 use Rattle.fed_words.specs.declared.service.Service.TheVariants.{Authority, Rehearse, Resolve, Resolver}
@@ -78,6 +79,11 @@ module _ {S T : Type 0} (worn : Option (Group (PassSeat S Part ShelfCall ShelfRe
   holds-fault fault.Input before now status none told = holds-none status none (lines-other _ _ _ _ _ _ status told (lit< tt))
   holds-fault fault.Store before now status none told = holds-none status none (silent-other _ before now status told (lit< tt))
   holds-fault fault.Memory before now status none told = holds-none status none (silent-other _ before now status told (lit< tt))
+
+  -- or there may be none
+  pub holds-called : (called : Result Outcome NodeFault) (before now : Written) (status : ℕ) → WornBy called worn → IsTold called before now status → HoldsBy worn status
+  holds-called (Ok outcome) before now status held told = holds-told outcome.result before now status held told
+  holds-called (Err e) before now status none told = holds-fault e before now status none told
 
 -- ---- the service
 

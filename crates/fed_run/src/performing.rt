@@ -63,7 +63,9 @@ where
                 clock,
             } = ports;
             explain_command(alloc, words.as_slice(), &command, notes);
-            perform_command(alloc, &command, input, out, store, clock, notes)
+            let status = perform_command(alloc, &command, input, out, store, clock, notes);
+            drop(command);
+            status
         }
         Ok(Call::Inspection(inspection)) => {
             let Ports {
@@ -73,7 +75,9 @@ where
                 net: _,
                 clock,
             } = ports;
-            inspect(alloc, &inspection, input, out, store, clock, notes)
+            let status = inspect(alloc, &inspection, input, out, store, clock, notes);
+            drop(inspection);
+            status
         }
         Ok(Call::Service(service)) => serve_as(rt, alloc, service, ports, passes, notes),
         Err(_) => {

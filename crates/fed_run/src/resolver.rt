@@ -67,7 +67,8 @@ where
         clock,
         notes,
     );
-    tell_end(alloc, end, line.as_slice(), out, passes, notes)
+    let Passes { worn, joined } = passes;
+    tell_end(alloc, end, line.as_slice(), out, worn, joined, notes)
 }
 
 // Writes how it ended, hands a pass out, and gives the status.
@@ -76,18 +77,18 @@ fn tell_end<K: Sink>(
     end: ResolverEnd,
     line: &[u8],
     out: &mut K,
-    passes: Passes<'_>,
+    worn: &mut Option<FedPass>,
+    joined: &mut Option<FedPass>,
     notes: &mut Notes,
 ) -> u8
-    requires worn { passes.worn.now ≡ None }
-    requires joined { passes.joined.now ≡ None }
+    requires worn { worn.old ≡ None }
+    requires joined { joined.old ≡ None }
     requires counted { HasCountedAt end }
     ensures told { (connections : ℕ) → line.now ≡ served_line connections
         → IsEndTold connections end (written_to K.Sink out.old) (written_to K.Sink out.new) result }
-    ensures joins { JoinsBy end passes.exit.1.0.now result }
-    ensures worn { HoldsBy passes.exit.0.now result }
+    ensures joins { JoinsBy end joined.new result }
+    ensures worn { HoldsBy worn.new result }
 {
-    let Passes { worn, joined } = passes;
     match end {
         ResolverEnd::Served(pass) => tell_served(alloc, pass, line, out, joined, notes),
         ResolverEnd::Input => write_line(alloc, 2, b"input\n", out, notes),

@@ -3,7 +3,7 @@
 ghost use Rattle.std.specs.Prelude.{◌≡◌, None};
 ghost use Rattle.fed_run.specs.Orders.{question_of};
 ghost use Rattle.fed_run.specs.Ports.{node_views, ports_found, ports_left, written_to};
-ghost use Rattle.fed_run.specs.Resolving.{HoldsBy, IsReplyTold, IsToldBy, RunsResolve};
+ghost use Rattle.fed_run.specs.Resolving.{HoldsBy, IsReplyTold, IsTold, IsToldBy, RunsResolve};
 
 use crate::ports::Ports;
 use fed_inspect::write_line;
@@ -57,18 +57,31 @@ pub(crate) fn resolve<R: Wait, S, K: Sink, D: Store, N: Network + Drop, C: Clock
         net,
         clock,
     } = ports;
-    let request = question.request;
-    match resolve_once(
+    let called = resolve_once(
         rt,
         alloc,
         question.config,
-        request,
+        question.request,
         store,
         net,
         clock,
         worn,
         notes,
-    ) {
+    );
+    tell_call(alloc, question.request, called, out, notes)
+}
+
+// Writes what a call answered, or that there is no such node, and gives the status.
+fn tell_call<K: Sink>(
+    alloc: Global,
+    request: &ResolveRequest,
+    called: Result<Outcome, NodeFault>,
+    out: &mut K,
+    notes: &mut Notes,
+) -> u8
+    ensures { IsTold called (written_to K.Sink out.old) (written_to K.Sink out.new) result }
+{
+    match called {
         Ok(outcome) => {
             explain_outcome(alloc, request, &outcome, notes);
             tell(alloc, outcome, out, notes)

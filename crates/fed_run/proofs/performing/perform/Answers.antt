@@ -8,18 +8,18 @@ use Rattle.fed_run.proofs.performing.perform.Goals as goal
 pub returns-in-Ok-Command-clause-command : goal.returns-in-Ok-Command-clause-command
 returns-in-Ok-Command-clause-command g c = λ none.
     let asked : call_of c.args.words.now ≡ call.Command c.in-Ok-Command.command = search rules in
-    (refl, c.requires.joined, does-done (call_of c.args.words.now) _ _ _ c.in-Ok-Command.command asked c.perform_command.ensures)
+    (refl, c.requires.joined, does-done (call_of c.args.words.now) _ _ _ c.in-Ok-Command.command asked c.perform_command-status.ensures)
 
 pub returns-in-Ok-Command-clause-worn : goal.returns-in-Ok-Command-clause-worn
-returns-in-Ok-Command-clause-worn g c = holds-none _ _ c.requires.worn (small-other _ 6 c.perform_command.ensures.range (lit< tt))
+returns-in-Ok-Command-clause-worn g c = holds-none _ _ c.requires.worn (small-other _ 6 c.perform_command-status.ensures.range (lit< tt))
 
 pub returns-in-Ok-Inspection-clause-command : goal.returns-in-Ok-Inspection-clause-command
 returns-in-Ok-Inspection-clause-command g c = λ none.
     let asked : call_of c.args.words.now ≡ call.Inspection c.in-Ok-Inspection.inspection = search rules in
-    (refl, c.requires.joined, does-shown (call_of c.args.words.now) _ _ _ c.in-Ok-Inspection.inspection asked c.inspect.ensures)
+    (refl, c.requires.joined, does-shown (call_of c.args.words.now) _ _ _ c.in-Ok-Inspection.inspection asked c.inspect-status.ensures)
 
 pub returns-in-Ok-Inspection-clause-worn : goal.returns-in-Ok-Inspection-clause-worn
-returns-in-Ok-Inspection-clause-worn g c = holds-none _ _ c.requires.worn (small-other _ 6 c.inspect.ensures.range (lit< tt))
+returns-in-Ok-Inspection-clause-worn g c = holds-none _ _ c.requires.worn (small-other _ 6 c.inspect-status.ensures.range (lit< tt))
 
 pub returns-in-Ok-Service-clause-service : goal.returns-in-Ok-Service-clause-service
 returns-in-Ok-Service-clause-service g c =
