@@ -138,8 +138,11 @@ def run_by_bash(script, folder):
 
 def run_document(path, script, run, written):
     with tempfile.TemporaryDirectory() as folder:
-        for name in ("fed", "examples"):
-            os.symlink(f"{TOP}/{name}", f"{folder}/{name}")
+        os.symlink(f"{TOP}/examples", f"{folder}/examples")
+        # (no link: by its own name ./fed finds the sources beside it)
+        with open(f"{folder}/fed", "w", encoding="utf-8") as it:
+            it.write(f'#!/bin/sh\nexec "{TOP}/fed" "$@"\n')
+        os.chmod(f"{folder}/fed", 0o755)
         status, out, err = run_by_bash(script, folder)
     outs, errs = parts_of(out), parts_of(err)
     last = max(outs, default=0)
