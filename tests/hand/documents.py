@@ -138,8 +138,8 @@ def run_by_bash(script, folder):
 
 def run_document(path, script, run, written):
     with tempfile.TemporaryDirectory() as folder:
-        os.symlink(f"{TOP}/examples", f"{folder}/examples")
-        # (no link: by its own name ./fed finds the sources beside it)
+        # (no links: ./fed finds its sources by its own name)
+        shutil.copytree(f"{TOP}/examples", f"{folder}/examples")
         with open(f"{folder}/fed", "w", encoding="utf-8") as it:
             it.write(f'#!/bin/sh\nexec "{TOP}/fed" "$@"\n')
         os.chmod(f"{folder}/fed", 0o755)
