@@ -7,7 +7,7 @@ use Rattle.fed_base.specs.Moments.{moment_limit}
 use Rattle.fed_json.specs.declared.tree.Json.{Json}
 use Rattle.fed_json.specs.declared.tree.Member.{Member}
 use Rattle.fed_json.specs.Forms.{IsWhole}
-use Rattle.fed_json.specs.Members.{text_member}
+use Rattle.fed_json.specs.Members.{number_member, text_member}
 use Rattle.fed_json.specs.Metadata.{IsMetadata}
 use Rattle.fed_json.specs.Reading.{member_of}
 use Rattle.fed_json.specs.Tables.{Name}
@@ -23,7 +23,6 @@ use Rattle.entity_statement.specs.Forms.{hints_of, issuers_of, marks_of, owners_
 use Rattle.entity_statement.specs.Grammar.{AreOperators, SaysClaims}
 use Rattle.entity_statement.specs.Table.{is_operator}
 use Rattle.entity_statement.proofs.Laws.{only}
-use Rattle.key_ring.specs.Files.{number_member}
 use Rattle.key_ring.specs.Sets.{live_set}
 use Rattle.node_config.specs.Forms.{are_operators, has_form}
 use Rattle.node_config.specs.Nodes.{Settings, Subordinate}

@@ -11,15 +11,16 @@ use Rattle.trust_mark.specs.declared.status.StatusAnswer.{StatusAnswer}
 use Rattle.std.specs.Option.{option_and_then, option_map_or}
 use Rattle.std.specs.Result.{result_ok}
 use Rattle.fed_base.specs.Values.{◌>>=◌}
+use Rattle.fed_base.specs.Counts.{CountsAtMost, counted}
 use Rattle.jws_form.specs.declared.compact.Compact.{Compact}
 use Rattle.jws_form.specs.Compact.{IsCompact}
 use Rattle.jws_form.specs.Splitting.{splitting}
 use Rattle.jwk_set.specs.declared.jwk.Jwk.{Jwk}
 use Rattle.sealed.specs.Deciding.{is_sealed_by}
+use Rattle.sealed.specs.Tests.{tests_under}
 use Rattle.entity_statement.specs.Claims.{Identifier}
 use Rattle.key_ring.specs.Sets.{kept_set}
 use Rattle.trust_mark.specs.Claims.{mark_claims}
-use Rattle.trust_mark.specs.Counts.{CountsAtMost, counted, tests_under}
 use Rattle.trust_mark.specs.Marks.{mark_of}
 use Rattle.trust_mark.specs.declared.mark.Mark.{Mark}
 use Rattle.authority_core.specs.Nodes.{Node}

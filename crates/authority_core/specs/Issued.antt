@@ -6,12 +6,11 @@ use Rattle.fed_base.specs.Moments.{moment_limit}
 use Rattle.fed_json.specs.declared.tree.Json.{Json, Text, List as ListOf, Object}
 use Rattle.fed_json.specs.declared.tree.Member.{Member}
 use Rattle.fed_json.specs.Compact.{compact}
-use Rattle.fed_json.specs.Members.{text_member}
+use Rattle.fed_json.specs.Members.{number_member, text_member}
 use Rattle.fed_json.specs.Reading.{member_of}
 use Rattle.jwk_set.specs.Trees.{set_tree}
 use Rattle.jwk_set.specs.declared.jwk.Jwk.{Jwk}
 use Rattle.sealed.specs.Sealing.{sealed_text}
-use Rattle.key_ring.specs.Files.{number_member}
 use Rattle.key_ring.specs.Sets.{historical_keys, live_set, signer_seeds}
 use Rattle.policy_merge.specs.Scope.{is_empty}
 use Rattle.entity_statement.specs.Claims.{Identifier}

@@ -3,14 +3,13 @@ use Rattle.std.specs.Prelude.{◌≡◌, ℕ, List, [], ◌∷◌, codes}
 use Rattle.std.specs.Str.{IsUtf8}
 use Rattle.entity_id.specs.Identifiers.{IsIdentifier}
 use Rattle.fed_json.specs.Forms.{IsWhole}
-use Rattle.fed_json.specs.Members.{text_member}
+use Rattle.fed_json.specs.Members.{number_member, text_member}
 use Rattle.fed_json.specs.Reading.{member_of}
 use Rattle.fed_json.specs.declared.tree.Json.{Json}
 use Rattle.fed_json.specs.declared.tree.Member.{Member}
 use Rattle.jwk_set.specs.KeySets.{IsKeySet}
 use Rattle.jwk_set.specs.Trees.{set_tree}
 use Rattle.jwk_set.specs.declared.jwk.Jwk.{Jwk}
-use Rattle.key_ring.specs.Files.{number_member}
 use Rattle.entity_statement.specs.Claims.{Identifier}
 use Rattle.node_config.specs.Nodes.{Settings}
 use Rattle.node_config.specs.declared.fault.ConfigFault.{ConfigFault}

@@ -5,8 +5,8 @@ use Rattle.fed_base.specs.Values.{◌>>=◌}
 use Rattle.fed_json.specs.declared.tree.Json.{Json}
 use Rattle.key_ring.specs.Sets.{kept_set}
 use Rattle.sealed.specs.Deciding.{is_sealed_by}
+use Rattle.sealed.specs.Tests.{tests_under}
 use Rattle.entity_statement.specs.Claims.{Identifier}
-use Rattle.trust_mark.specs.Counts.{tests_under}
 use Rattle.trust_mark.specs.Marks.{mark_of}
 use Rattle.trust_mark.specs.Statuses.{answer_of, status_tree}
 use Rattle.trust_mark.specs.declared.mark.Mark.{Mark}

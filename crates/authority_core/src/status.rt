@@ -8,11 +8,12 @@ ghost use Rattle.jws_form.specs.Splitting.{splitting};
 ghost use Rattle.key_ring.specs.Sets.{kept_set};
 ghost use Rattle.sealed.specs.Deciding.{is_sealed_by};
 ghost use Rattle.sealed.specs.Seals.{IsSealedBy};
+ghost use Rattle.sealed.specs.Tests.{tests_under};
 ghost use Rattle.trust_mark.specs.Claims.{mark_claims};
-ghost use Rattle.trust_mark.specs.Counts.{counted, tests_under};
 ghost use Rattle.trust_mark.specs.Stages.{Tells};
 ghost use Rattle.authority_core.specs.Nodes.{node_of};
 ghost use Rattle.authority_core.specs.Statuses.{has_ended, if_issued_by, own_mark, standing, status_of, status_tests};
+ghost use Rattle.fed_base.specs.Counts.{counted};
 
 use crate::query::is_among;
 use entity_id::EntityId;

@@ -9,13 +9,14 @@ use Rattle.jws_form.specs.Compact.{IsCompact}
 use Rattle.jws_form.proofs.Laws.{only}
 use Rattle.jwk_set.specs.declared.jwk.Jwk.{Jwk}
 use Rattle.sealed.specs.Seals.{IsSealed, IsSealedBy, IsUnsealed, Pair, named_key}
+use Rattle.sealed.specs.Tests.{key_in}
 use Rattle.entity_statement.specs.Claims.{Claims}
 use Rattle.entity_statement.specs.declared.signed.SignedStatement.{SignedStatement}
 use Rattle.chain_check.specs.declared.tried.Tried.{Tried}
 use Rattle.chain_check.specs.declared.reason.Reason.TheVariants.{Signature}
 use Rattle.fed_base.specs.Places.{FailsFirst, HoldsBelow}
 use Rattle.chain_check.specs.Chains.{Texts}
-use Rattle.chain_check.specs.Signatures.{AreSigned, SignedAt, key_in, keys_at}
+use Rattle.chain_check.specs.Signatures.{AreSigned, SignedAt, keys_at}
 use Rattle.chain_check.proofs.NameLaws.{length-claims}
 use Rattle.chain_check.proofs.SignatureLaws.{key_in-compact}
 use Rattle.chain_check.specs.Judging.{AtSeal, IsKnownSeal, IsOfItsText, IsUnknown, IsUntriedFirst, pair_of, seal_keys, seal_place, text_in, texts_of}

@@ -5,7 +5,7 @@ use Rattle.std.specs.Option.{option_and_then, option_map_or}
 use Rattle.std.specs.Result.{result_ok}
 use Rattle.std.proofs.lemmas.Bool.{both_ways, true≢false}
 use Rattle.std.proofs.lemmas.List.{length-map}
-use Rattle.fed_base.specs.Counts.{next_count}
+use Rattle.fed_base.specs.Counts.{CountsAtMost, counted, next_count}
 use Rattle.fed_base.specs.declared.faults.Memory.{Memory as NoMemory}
 use Rattle.jws_form.specs.declared.compact.Compact.{Compact}
 use Rattle.jws_form.specs.Compact.{IsCompact}
@@ -16,12 +16,13 @@ use Rattle.sealed.specs.Answers.{Decides, IsChecked, was_checked}
 use Rattle.sealed.specs.Seals.{IsSealedBy, Pair, named_key}
 use Rattle.sealed.specs.declared.fault.SealFault.{SealFault}
 use Rattle.sealed.specs.declared.fault.SealFault.TheVariants.{NoKid, NoKey, BadSignature, Memory}
+use Rattle.sealed.specs.Tests.{key_in}
 use Rattle.entity_statement.specs.Claims.{Claims}
 use Rattle.entity_statement.specs.Use.{current_at}
 use Rattle.entity_statement.specs.declared.signed.SignedStatement.{SignedStatement}
 use Rattle.chain_check.specs.Chains.{Texts}
-use Rattle.chain_check.specs.Counts.{CountsAtMost, CountsBoth, CountsChecks, CountsLeaf, CountsSigned, CountsTest, CountsUnsigned, NamesBoth, checks_under, counted}
-use Rattle.chain_check.specs.Signatures.{CurrentAt, NamesOneKey, key_in, keys_at, superior_keys}
+use Rattle.chain_check.specs.Counts.{CountsBoth, CountsChecks, CountsLeaf, CountsSigned, CountsTest, CountsUnsigned, NamesBoth, checks_under}
+use Rattle.chain_check.specs.Signatures.{CurrentAt, NamesOneKey, keys_at, superior_keys}
 use Rattle.chain_check.specs.Reading.{claims_in, entry_claims, entry_text, texts_in}
 use Rattle.chain_check.specs.Stages.{Tells}
 use Rattle.chain_check.proofs.NameLaws.{claims-there}

@@ -9,6 +9,7 @@ use Rattle.chain_check.specs.declared.verdict.Resolved.{Resolved}
 use Rattle.chain_check.specs.declared.verdict.Verdict.TheVariants.{Valid}
 use Rattle.chain_check.specs.declared.verdict.Verdict.TheVariants as verdict
 use Rattle.fed_base.specs.Places.{FailsFirst}
+use Rattle.fed_base.specs.Counts.{CountsAtMost}
 use Rattle.chain_check.specs.Chains.{Texts, statements_of}
 use Rattle.chain_check.specs.Names.{HasNames, LosesNames}
 use Rattle.chain_check.specs.Signatures.{AreCurrent, AreSigned, CurrentAt, NamesOneKey, SignedAt}
@@ -17,7 +18,7 @@ use Rattle.chain_check.specs.Verdicts.{IsFirstFailure, IsResolved, IsVerdictOn}
 use Rattle.chain_check.specs.Resolving.{FailsToResolve}
 use Rattle.chain_check.specs.Reading.{AreRead, claims_in, texts_in}
 use Rattle.chain_check.specs.Stages.{Passes, verdict_in}
-use Rattle.chain_check.specs.Counts.{CountsAtMost, CountsChecks, CountsSigned, CountsVerdict}
+use Rattle.chain_check.specs.Counts.{CountsChecks, CountsSigned, CountsVerdict}
 use Rattle.chain_check.specs.declared.stop.Stop.{Stop}
 use Rattle.chain_check.specs.declared.stop.Stop.TheVariants as stop
 

@@ -1,10 +1,11 @@
 -- How many signatures a check of a chain checks: each pair of a text and a key that it needs once, up to the first that fails.
-use Rattle.std.specs.Prelude.{◌≡◌, ◌≤◌, ◌+◌, ℕ, zero, suc, List, [], length, Bool, true, false, Result, Ok, Err, IsSome, slice_index_or}
+use Rattle.std.specs.Prelude.{◌≡◌, ◌+◌, ℕ, zero, suc, List, [], length, Bool, true, false, Result, Ok, Err, IsSome, slice_index_or}
 use Rattle.std.specs.Option.{option_map_or}
-use Rattle.fed_base.specs.Counts.{next_count}
+use Rattle.fed_base.specs.Counts.{CountsAtMost, counted}
 use Rattle.fed_base.specs.declared.faults.Memory.{Memory as NoMemory}
 use Rattle.jwk_set.specs.declared.jwk.Jwk.{Jwk}
 use Rattle.sealed.specs.Seals.{IsSealedBy}
+use Rattle.sealed.specs.Tests.{key_in}
 use Rattle.entity_statement.specs.Claims.{Claims}
 use Rattle.chain_check.specs.declared.reason.Reason.TheVariants.{Form, Names, Times, Signature}
 use Rattle.chain_check.specs.declared.stop.Stop.{Stop}
@@ -12,19 +13,8 @@ use Rattle.chain_check.specs.declared.stop.Stop.TheVariants as stop
 use Rattle.chain_check.specs.declared.verdict.Verdict.{Verdict}
 use Rattle.chain_check.specs.declared.verdict.Verdict.TheVariants.{Refused}
 use Rattle.chain_check.specs.Chains.{Texts}
-use Rattle.chain_check.specs.Signatures.{NamesOneKey, key_in, keys_at, superior_keys}
+use Rattle.chain_check.specs.Signatures.{NamesOneKey, keys_at, superior_keys}
 use Rattle.chain_check.specs.Validity.{Case, chain_of}
-
--- a count after so many steps more
-abbrev pub counted : ℕ → ℕ → ℕ
-counted zero count = count
-counted (suc steps) count = next_count (counted steps count)
-
--- at most so many steps were counted
-pub record CountsAtMost (most before now : ℕ) : Type 0 where
-  pub steps : ℕ
-  pub within : steps ≤ most
-  pub counts : now ≡ counted steps before
 
 -- the checks of n texts that are signed: one each, and one more of the leaf's where its header doesn't name one key in its own set and its
 -- superior's

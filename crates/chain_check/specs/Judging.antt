@@ -2,6 +2,7 @@
 use Rattle.std.specs.Prelude.{◌≡◌, ◌≤◌, ℕ, zero, suc, List, [], map, length, All, Contains, Some, slice_get}
 use Rattle.jwk_set.specs.declared.jwk.Jwk.{Jwk}
 use Rattle.sealed.specs.Seals.{Pair}
+use Rattle.sealed.specs.Tests.{key_in}
 use Rattle.entity_statement.specs.Claims.{Claims}
 use Rattle.chain_check.specs.declared.tried.Tried.{Tried}
 use Rattle.chain_check.specs.declared.judged.Judged.{Judged}
@@ -9,7 +10,7 @@ use Rattle.chain_check.specs.declared.judged.Judged.TheVariants.{Told, Untried}
 use Rattle.chain_check.specs.declared.verdict.Verdict.{Verdict}
 use Rattle.fed_base.specs.Places.{HoldsBelow}
 use Rattle.chain_check.specs.Chains.{Texts}
-use Rattle.chain_check.specs.Signatures.{key_in, keys_at, superior_keys}
+use Rattle.chain_check.specs.Signatures.{keys_at, superior_keys}
 use Rattle.chain_check.specs.Validity.{Case, ToSignatures, chain_of}
 use Rattle.chain_check.specs.Verdicts.{IsVerdictOn}
 

@@ -1,11 +1,10 @@
 -- Under which keys each text of a chain is signed, and that its statements are current (OpenID Federation 1.0 section 10.2).
 use Rattle.std.specs.Prelude.{◌≡◌, ◌≤◌, ◌+◌, ℕ, List, [], length, IsTrue, Option, Some, slice_get, slice_index_or}
-use Rattle.std.specs.Option.{option_and_then, option_map_or}
-use Rattle.std.specs.Result.{result_ok}
-use Rattle.jws_form.specs.Splitting.{splitting}
+use Rattle.std.specs.Option.{option_map_or}
 use Rattle.jwk_set.specs.declared.jwk.Jwk.{Jwk}
 use Rattle.jwk_set.specs.KeySets.{key_named}
-use Rattle.sealed.specs.Seals.{IsSealedBy, named_key}
+use Rattle.sealed.specs.Seals.{IsSealedBy}
+use Rattle.sealed.specs.Tests.{key_in}
 use Rattle.entity_statement.specs.Claims.{Claims}
 use Rattle.entity_statement.specs.Use.{current_at}
 use Rattle.chain_check.specs.Chains.{Texts}
@@ -35,10 +34,6 @@ pub record SignedAt (texts : Texts) (chain : List Claims) (keys : List Jwk) (j :
 -- each text of the chain is signed so
 abbrev pub AreSigned : Texts → List Claims → List Jwk → Type 0
 AreSigned texts chain keys = HoldsBelow (SignedAt texts chain keys) (length chain)
-
--- the key of a set that the header of a text names (RFC 7515 section 4.1.4)
-unfoldable pub key_in : List Jwk → List ℕ → Option (List ℕ)
-key_in keys text = option_and_then (λ compact. named_key compact keys) (result_ok (splitting text))
 
 -- the leaf's text names one key in its own set and in its superior's
 abbrev pub NamesOneKey : Texts → List Claims → List Jwk → Type 0

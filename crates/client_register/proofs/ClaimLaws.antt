@@ -8,14 +8,13 @@ use Rattle.std.proofs.lemmas.Str.{is_utf8-from_IsUtf8}
 use Rattle.fed_json.specs.declared.tree.Json.{Json, Int, Object, Text, List as ListOf, the_lemmas}
 use Rattle.fed_json.specs.declared.tree.Member.{Member}
 use Rattle.fed_json.specs.Forms.{IsWhole, has_odd, in_bounds, members_whole, rising, well_formed, whole}
-use Rattle.fed_json.specs.Members.{text_member}
+use Rattle.fed_json.specs.Members.{number_member, text_member}
 use Rattle.fed_json.specs.Reading.{member_of}
 use Rattle.fed_json.specs.Trees.{find, object_members}
 use Rattle.fed_json.proofs.Accessors.{as_object-Object}
 use Rattle.fed_json.proofs.Booleans.{both_true, left_true, right_true}
 use Rattle.fed_json.proofs.Layers.{whole-List, whole-Object, whole-Text}
 use Rattle.jwk_set.proofs.WrittenKeys.{ascii, whole_text}
-use Rattle.key_ring.specs.Files.{number_member}
 use Rattle.policy_apply.proofs.Walking.{object_members-whole}
 use Rattle.sealed.specs.Sealing.{IsObject}
 use Rattle.entity_statement.specs.Claims.{Identifier}

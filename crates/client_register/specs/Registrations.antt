@@ -2,11 +2,10 @@
 -- project's profile.
 use Rattle.std.specs.Prelude.{◌≡◌, ◌+◌, ℕ, List, [], ◌∷◌, drop, map, min, codes, Option, Some}
 use Rattle.fed_json.specs.declared.tree.Json.{Json, Object, Text, List as ListOf}
-use Rattle.fed_json.specs.Members.{text_member}
+use Rattle.fed_json.specs.Members.{number_member, text_member}
 use Rattle.fed_json.specs.Reading.{member_of}
 use Rattle.fed_json.specs.Trees.{find, object_members}
 use Rattle.jwk_set.specs.declared.jwk.Jwk.{Jwk}
-use Rattle.key_ring.specs.Files.{number_member}
 use Rattle.entity_statement.specs.Claims.{Claims, Identifier}
 use Rattle.chain_check.specs.Chains.{Texts, statements_of}
 use Rattle.chain_check.specs.Names.{subject_at}

@@ -5,9 +5,8 @@ ghost use Rattle.std.specs.List.{list_all};
 ghost use Rattle.std.specs.Str.{IsUtf8, is_utf8};
 ghost use Rattle.fed_json.specs.declared.tree.Json.{Object, Text as TextOf, List as ListOf};
 ghost use Rattle.fed_json.specs.Forms.{IsWhole};
-ghost use Rattle.fed_json.specs.Members.{text_member};
+ghost use Rattle.fed_json.specs.Members.{number_member, text_member};
 ghost use Rattle.fed_json.specs.Reading.{member_of};
-ghost use Rattle.key_ring.specs.Files.{number_member};
 ghost use Rattle.sealed.specs.Sealing.{IsObject};
 ghost use Rattle.client_register.specs.Registrations.{party_type, registration_claims};
 

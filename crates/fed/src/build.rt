@@ -1,7 +1,6 @@
 // What the program was built from and for.
 
-use fed_commands::write_all;
-use fed_ports::{Failed, Sink, Text};
+use fed_ports::{Failed, Sink, Text, write_all};
 use std::fs;
 use std::io::{Read, Seek, SeekFrom};
 use std::rt::Files;

@@ -7,4 +7,3 @@ pub mod SealingLaws
 pub mod StreamLaws
 pub mod TopLaws
 pub mod VerdictLaws
-pub mod Writes

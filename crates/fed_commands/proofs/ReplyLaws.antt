@@ -2,12 +2,13 @@
 use Rattle.std.proofs.Common.{◌≡◌, ◌≤◌, ℕ, List, [], ◌∷◌, ◌++◌, codes, lit≤, Option, Some, None, false, refl, sym, ap, ◌∙◌, subst, inl, inr, arith}
 use Rattle.std.specs.Prelude.{IsTrue, IfSome, unwrap_or}
 use Rattle.fed_ports.specs.Stores.{Files, IsFile}
+use Rattle.fed_ports.specs.Times.{ClockAt}
 use Rattle.ring_commands.specs.Issues.{issue_reply}
 use Rattle.ring_commands.specs.Rotations.{change_reply}
 use Rattle.key_ring.specs.Changes.{retire_key, revoke_key}
 use Rattle.key_ring.specs.Rings.{Ring}
 use Rattle.key_ring.specs.declared.key.RevokeReason.{RevokeReason}
-use Rattle.fed_commands.specs.Answers.{named, wants_input, text_of, IsMomentFor, Readings, IsReply, MayBe, IsNamed, IsReached, IsTextRead, FixesFile, FixesInput}
+use Rattle.fed_commands.specs.Answers.{named, wants_input, text_of, IsMomentFor, IsReply, MayBe, IsNamed, IsReached, IsTextRead, FixesFile, FixesInput}
 use Rattle.fed_commands.specs.Findings.{status_of, line_of}
 use Rattle.ring_commands.specs.Replies.{plain, bad_input, refused}
 use Rattle.fed_commands.specs.Checks.{IsChecked, chain_in, keys_in}
@@ -239,14 +240,14 @@ reply_small Faulty moment file prepared text r p out = small_at prepared (plain 
 
 -- ---- its moment
 
-moved : (c : Command) (before now : Readings) (moment : ℕ) (file : Option (List ℕ)) (prepared : Prepared) → IsMomentFor c before now moment → IsPrepared c moment file prepared
+moved : (c : Command) (before now : ClockAt) (moment : ℕ) (file : Option (List ℕ)) (prepared : Prepared) → IsMomentFor c before now moment → IsPrepared c moment file prepared
     → IsPrepared c now.last file prepared
 moved (Check anchor keys None) before now moment file prepared is made = subst (λ t. IsPrepared (Check anchor keys None) t file prepared) (is.read refl).1 made
 moved (Check anchor keys (Some at)) before now moment file prepared is made = made
 moved c before now moment file prepared is made = made
 
 -- the moment of a reply is the clock's last reading, wherever the command wants one
-pub reached_at : (c : Command) (before now : Readings) (moment : ℕ) (files : Option Files) (left left' : Option (List ℕ)) (reply : Reply) → IsMomentFor c before now moment
+pub reached_at : (c : Command) (before now : ClockAt) (moment : ℕ) (files : Option Files) (left left' : Option (List ℕ)) (reply : Reply) → IsMomentFor c before now moment
     → IsReached c moment files left left' reply → IsReached c now.last files left left' reply
 reached_at c before now moment files left left' reply is reached =
     let p = reached.is_reply in

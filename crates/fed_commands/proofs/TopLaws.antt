@@ -4,7 +4,8 @@ use Rattle.std.specs.Prelude.{Option, None, false}
 use Rattle.fed_ports.specs.Bytes.{Appends}
 use Rattle.fed_base.specs.Counts.{Rose}
 use Rattle.fed_ports.specs.Stores.{Files}
-use Rattle.fed_commands.specs.Answers.{Answers, IsEnded, IsMomentFor, IsReached, Outside, Output, Readings, Stands, StopsAs, Tells, UsesClock, named, reads_clock, stop_status, wants_input}
+use Rattle.fed_ports.specs.Times.{ClockAt}
+use Rattle.fed_commands.specs.Answers.{Answers, IsEnded, IsMomentFor, IsReached, Outside, Output, Stands, StopsAs, Tells, UsesClock, named, reads_clock, stop_status, wants_input}
 use Rattle.fed_commands.specs.Runs.{IsRun, World, told_of}
 use Rattle.fed_commands.specs.declared.answer.Stop.{Stop}
 use Rattle.fed_commands.specs.declared.answer.Stop.TheVariants.{Source, Store, Memory}
@@ -164,11 +165,11 @@ stopped_range Memory = lit≤ tt
 -- ---- its clock
 
 -- a run that comes to a moment uses the clock for it
-pub clock_used : (c : Command) (before now : Readings) (moment status : ℕ) → IsMomentFor c before now moment → UsesClock c before now status
+pub clock_used : (c : Command) (before now : ClockAt) (moment status : ℕ) → IsMomentFor c before now moment → UsesClock c before now status
 clock_used c before now moment status is = record { read = λ reads. inl (is.read reads).0; unread = is.unread }
 
 -- and one for which memory is wanting before doesn't
-pub clock_unused : (c : Command) (before : Readings) → UsesClock c before before 5
+pub clock_unused : (c : Command) (before : ClockAt) → UsesClock c before before 5
 clock_unused c before = record { read = λ reads. inr (refl, refl); unread = λ other. refl }
 
 -- ---- all of it, where there was no reply

@@ -1,10 +1,10 @@
 -- What the program answers: a status, the text that it writes, and the file that it keeps.
 use Rattle.std.specs.Prelude.{◌≡◌, ◌⊎◌, ◌≤◌, ◌<◌, ℕ, List, length, take, nat_lt, Bool, true, false, IsTrue, Option, Some, None, Result, Ok, Err, IfSome, MatchOption, if◌then◌else◌}
 use Rattle.fed_ports.specs.Bytes.{Appends}
-use Rattle.fed_base.specs.Counts.{Rose, next_count}
+use Rattle.fed_base.specs.Counts.{Rose}
 use Rattle.fed_ports.specs.Inputs.{AtEnd}
 use Rattle.fed_ports.specs.Stores.{Files, file_limit, IsFile, Keeps}
-use Rattle.fed_ports.specs.Times.{Told}
+use Rattle.fed_ports.specs.Times.{ClockAt, IsOneReading, clock_at}
 use Rattle.fed_ports.specs.declared.clock.Clock.{Ghosts as ClockShows}
 use Rattle.fed_ports.specs.declared.sink.Sink.{Ghosts as SinkShows}
 use Rattle.fed_ports.specs.declared.store.Store.{Ghosts as StoreShows}
@@ -161,22 +161,12 @@ IsEnded command reply before after status =
     ⊎ ((status ≡ 6) × Rose before.store_faults after.store_faults × (after.write_faults ≡ before.write_faults) × (after.held ≡ before.held)
     × ((e : Failed) × IsKeptAs command before.files after.files reply.kept (Err e))))
 
--- a clock's count of readings, its last reading and what it tells
-pub record Readings : Type 0 where
-  pub count : ℕ
-  pub last : ℕ
-  pub told : Option (List ℕ)
-
-abbrev pub readings_of : {C : Type 0} → ClockShows C → C → Readings
-readings_of shows clock = record { count = shows.readings clock; last = shows.last clock; told = shows.told clock }
-
--- one reading was made
-pub record IsOneReading (before now : Readings) : Type 0 where
-  pub counted : now.count ≡ next_count before.count
-  pub added : Told before.count before.told now.told now.last
+-- what a clock shows of its readings
+abbrev pub readings_of : {C : Type 0} → ClockShows C → C → ClockAt
+readings_of shows clock = clock_at (shows.readings clock) (shows.last clock) (shows.told clock)
 
 -- a command that reads the clock reads it once, or not at all where memory is wanting, and no other reads it
-pub record UsesClock (command : Command) (before now : Readings) (status : ℕ) : Type 0 where
+pub record UsesClock (command : Command) (before now : ClockAt) (status : ℕ) : Type 0 where
   pub read : reads_clock command ≡ true → IsOneReading before now ⊎ ((now ≡ before) × (status ≡ 5))
   pub unread : reads_clock command ≡ false → now ≡ before
 
@@ -189,6 +179,6 @@ pub record IsTextRead (left left' : Option (List ℕ)) (before now : ℕ) (text 
   pub ended : length input ≤ file_limit → AtEnd left'
 
 -- the moment of a command that reads the clock is the clock's, which is read once; no other command reads it
-pub record IsMomentFor (command : Command) (before now : Readings) (moment : ℕ) : Type 0 where
+pub record IsMomentFor (command : Command) (before now : ClockAt) (moment : ℕ) : Type 0 where
   pub read : reads_clock command ≡ true → IsOneReading before now × (moment ≡ now.last)
   pub unread : reads_clock command ≡ false → now ≡ before

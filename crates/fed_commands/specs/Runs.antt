@@ -5,8 +5,9 @@ use Rattle.fed_ports.specs.declared.clock.Clock.{Ghosts as ClockShows}
 use Rattle.fed_ports.specs.declared.sink.Sink.{Ghosts as SinkShows}
 use Rattle.fed_ports.specs.declared.source.Source.{Ghosts as SourceShows}
 use Rattle.fed_ports.specs.declared.store.Store.{Ghosts as StoreShows}
+use Rattle.fed_ports.specs.Times.{ClockAt}
 use Rattle.fed_words.specs.declared.command.Command.{Command}
-use Rattle.fed_commands.specs.Answers.{Answers, Outside, Readings, Tells, UsesClock, named, reads_clock, readings_of, wants_input}
+use Rattle.fed_commands.specs.Answers.{Answers, Outside, Tells, UsesClock, named, reads_clock, readings_of, wants_input}
 use Rattle.fed_commands.specs.Sealings.{IssuesSealed}
 
 -- the source, the store and the clock at one moment, what they and the sink tell, and how often a call to each has failed
@@ -20,7 +21,7 @@ pub record World (S D C : Type 0) : Type 0 where
   pub write_faults : ℕ
   pub files : Option Files
   pub store_faults : ℕ
-  pub readings : Readings
+  pub readings : ClockAt
 
 -- what the source, the sink, the store and the clock show of themselves
 pub record Views (S K D C : Type 0) : Type 1 where

@@ -5,8 +5,7 @@ ghost use Rattle.fed_commands.specs.Answers.{IsEnded, IsMomentFor, named, output
 ghost use Rattle.fed_commands.specs.Runs.{IsRun, views, world};
 
 use crate::answer::{Stop, keep, reply_to};
-use crate::output::write_all;
-use fed_ports::{Clock, Sink, Source, Store};
+use fed_ports::{Clock, Sink, Source, Store, write_all};
 use fed_words::Command;
 use plain_notes::{Notes, explain_memory, explain_sink};
 use ring_commands::Reply;

@@ -3,7 +3,8 @@ use Rattle.std.proofs.Common.{◌≡◌, ◌⊎◌, ◌≤◌, ℕ, List, refl, 
 use Rattle.std.specs.Prelude.{Option, None, Some, Result, Ok, Err, MatchResult, false, true}
 use Rattle.fed_ports.specs.Bytes.{Appends}
 use Rattle.fed_ports.specs.Stores.{Files}
-use Rattle.fed_commands.specs.Answers.{IsOneReading, Or, StopsAs, Tells, stop_status}
+use Rattle.fed_ports.specs.Times.{IsOneReading}
+use Rattle.fed_commands.specs.Answers.{Or, StopsAs, Tells, stop_status}
 use Rattle.fed_commands.specs.Runs.{World}
 use Rattle.fed_commands.specs.declared.answer.Stop.{Stop}
 use Rattle.fed_commands.specs.declared.answer.Stop.TheVariants.{Source, Store, Memory}

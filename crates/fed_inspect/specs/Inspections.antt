@@ -3,8 +3,9 @@ use Rattle.std.specs.Prelude.{◌≡◌, ◌⊎◌, ◌≤◌, ℕ, List, take, 
 use Rattle.fed_help.specs.Verbs.{page_of}
 use Rattle.fed_ports.specs.Bytes.{Appends}
 use Rattle.fed_ports.specs.Stores.{Files, IsFile}
+use Rattle.fed_ports.specs.Times.{IsOneReading}
 use Rattle.key_ring.specs.Rings.{Ring}
-use Rattle.fed_commands.specs.Answers.{IsOneReading, Or, Tells}
+use Rattle.fed_commands.specs.Answers.{Or, Tells}
 use Rattle.ring_commands.specs.RingFiles.{IsRingFound}
 use Rattle.ring_commands.specs.Replies.{bad_input, plain}
 use Rattle.fed_commands.specs.Runs.{World}

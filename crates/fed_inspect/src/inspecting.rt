@@ -2,9 +2,10 @@
 
 ghost use Rattle.std.specs.Prelude.{◌≡◌, ◌≤◌, ◌<◌, ℕ, IfOk, MatchResult, false, true};
 ghost use Rattle.fed_base.specs.Moments.{moment_limit};
-ghost use Rattle.fed_commands.specs.Answers.{IsOneReading, StopsAs, readings_of};
+ghost use Rattle.fed_commands.specs.Answers.{StopsAs, readings_of};
 ghost use Rattle.fed_commands.specs.Runs.{views, world};
 ghost use Rattle.fed_inspect.specs.Inspections.{IsInspected, IsPublicReply, Inspects, reads_clock, reads_file, reads_input};
+ghost use Rattle.fed_ports.specs.Times.{IsOneReading};
 
 use crate::config::check_config;
 use crate::output::write_line;

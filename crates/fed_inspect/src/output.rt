@@ -2,8 +2,7 @@
 
 ghost use Rattle.fed_inspect.specs.Outputs.{WritesLine};
 
-use fed_commands::write_all;
-use fed_ports::Sink;
+use fed_ports::{Sink, write_all};
 use plain_notes::{Notes, explain_sink};
 use std::alloc::Global;
 

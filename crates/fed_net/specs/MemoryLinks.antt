@@ -1,6 +1,6 @@
 -- The pages of a link in memory.
 use Rattle.std.specs.Prelude.{ℕ, List, [], ◌∷◌, Some, None, if◌then◌else◌, bytes_eq}
-use Rattle.fed_ports.specs.Plans.{Plan, plan_of}
+use Rattle.fed_base.specs.Plans.{Plan, plan_of}
 use Rattle.fed_ports.specs.Webs.{Web}
 use Rattle.fed_net.specs.declared.memory_link.MemoryLink.{MemoryLink}
 use Rattle.fed_net.specs.declared.named_page.NamedPage.{NamedPage}

@@ -1,7 +1,7 @@
 -- What one end of a connection in memory holds.
 use Rattle.std.specs.Prelude.{ℕ, List, Option, Some}
 use Rattle.fed_ports.specs.MemoryStreams.{source_left, source_plan, source_faults, sink_held, sink_room, sink_plan, sink_faults}
-use Rattle.fed_ports.specs.Plans.{Plan}
+use Rattle.fed_base.specs.Plans.{Plan}
 use Rattle.fed_net.specs.declared.memory_peer.MemoryPeer.{MemoryPeer}
 
 -- the bytes that are left to read

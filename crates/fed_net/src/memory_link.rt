@@ -3,7 +3,7 @@
 ghost use Rattle.std.specs.Prelude.{◌≡◌, ◌↔◌, Some, Ok, Err, IfOk};
 ghost use Rattle.fed_base.specs.Counts.{next_count};
 ghost use Rattle.fed_net.specs.MemoryLinks.{page_of, link_web, link_plan, link_faults, link_calls};
-ghost use Rattle.fed_ports.specs.Plans.{after_call, IsDue};
+ghost use Rattle.fed_base.specs.Plans.{after_call, IsDue};
 ghost use Rattle.fed_ports.specs.Webs.{HasLinkCause, Serves};
 
 use crate::named_page::{NamedPage, first_page};

@@ -4,7 +4,7 @@ ghost use Rattle.std.specs.Prelude.{◌≡◌, ◌<◌, ◌≤◌, ◌-◌, ◌�
 ghost use Rattle.std.proofs.Common.{refl};
 ghost use Rattle.fed_ports.specs.Bytes.{Appends, Takes};
 ghost use Rattle.fed_ports.specs.Causes.{HasCause};
-ghost use Rattle.fed_ports.specs.Plans.{after_call, IsDue};
+ghost use Rattle.fed_base.specs.Plans.{after_call, IsDue};
 ghost use Rattle.fed_net.specs.MemoryPeers.{peer_left, peer_held, peer_room, peer_reads, peer_writes, peer_read_faults, peer_write_faults, peer_written, peer_to_read};
 
 use fed_base::{Failed, Memory};

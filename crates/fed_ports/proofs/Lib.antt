@@ -1,3 +1,4 @@
+pub mod Appending
 pub mod ExchangeLaws
 pub mod FileLaws
 pub mod KeptLaws

@@ -8,7 +8,6 @@ pub mod MemoryClocks
 pub mod MemoryStores
 pub mod MemoryStreams
 pub mod NamedFiles
-pub mod Plans
 pub mod Stores
 pub mod Times
 pub mod Webs

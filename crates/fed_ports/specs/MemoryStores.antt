@@ -1,7 +1,7 @@
 -- What a store in memory holds.
 use Rattle.std.specs.Prelude.{ℕ, Bool}
 use Rattle.fed_ports.specs.KeptFiles.{files_of}
-use Rattle.fed_ports.specs.Plans.{Plan, plan_of}
+use Rattle.fed_base.specs.Plans.{Plan, plan_of}
 use Rattle.fed_ports.specs.Stores.{Files}
 use Rattle.fed_ports.specs.declared.memory_store.MemoryStore.{MemoryStore}
 

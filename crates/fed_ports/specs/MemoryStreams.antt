@@ -1,6 +1,6 @@
 -- What a source and a sink in memory hold.
 use Rattle.std.specs.Prelude.{ℕ, List, drop}
-use Rattle.fed_ports.specs.Plans.{Plan, plan_of}
+use Rattle.fed_base.specs.Plans.{Plan, plan_of}
 use Rattle.fed_ports.specs.declared.memory_sink.MemorySink.{MemorySink}
 use Rattle.fed_ports.specs.declared.memory_source.MemorySource.{MemorySource}
 

@@ -10,7 +10,6 @@
 #![tactic(auto)]
 
 mod address;
-mod call_plan;
 mod clock;
 mod file_lock;
 mod input;
@@ -22,6 +21,7 @@ mod memory_source;
 mod memory_store;
 mod named_file;
 mod network;
+mod output;
 mod page;
 mod peer;
 mod real;
@@ -32,9 +32,8 @@ mod source;
 mod store;
 
 pub use address::{Address, listen_address};
-pub use call_plan::CallPlan;
 pub use clock::Clock;
-pub use fed_base::{Duplicate, Failed, Ledger, MOMENT_LIMIT, Memory, Plain, Seq, Steps, Text};
+pub use fed_base::{Alg, CallPlan, Duplicate, Failed, Ledger, MOMENT_LIMIT, Memory, Plain, Seq, Steps, Text};
 pub use input::{ReadEnd, read_all};
 pub use link::{Link, LinkFault};
 pub use memory_clock::MemoryClock;
@@ -43,6 +42,7 @@ pub use memory_source::MemorySource;
 pub use memory_store::MemoryStore;
 pub use named_file::NamedFile;
 pub use network::Network;
+pub use output::write_all;
 pub use page::Page;
 pub use peer::Peer;
 pub use real::{RealSink, RealSource};

@@ -3,11 +3,10 @@
 ghost use Rattle.std.specs.Prelude.{◌≡◌, ◌<◌, ◌≤◌, ◌-◌, ◌↔◌, ◌⊎◌, ◌++◌, Some, [], length, min, take, vec_capacity, IfOk, IsErr, OnErr};
 ghost use Rattle.fed_ports.specs.Causes.{HasCause};
 ghost use Rattle.fed_ports.specs.Bytes.{Appends};
-ghost use Rattle.fed_ports.specs.Plans.{after_call, IsDue};
+ghost use Rattle.fed_base.specs.Plans.{after_call, IsDue};
 
-use crate::call_plan::CallPlan;
 use crate::sink::Sink;
-use fed_base::{Failed, Memory};
+use fed_base::{CallPlan, Failed, Memory};
 use std::alloc::Global;
 
 /// A sink that keeps what it is given. Each call takes as much of the piece as there is room for.

@@ -3,11 +3,10 @@
 ghost use Rattle.std.specs.Prelude.{◌≡◌, ◌<◌, ◌≤◌, ◌↔◌, Some, [], drop, length, min, IfOk, IsErr, OnErr};
 ghost use Rattle.fed_ports.specs.Causes.{HasCause};
 ghost use Rattle.fed_ports.specs.Bytes.{Takes};
-ghost use Rattle.fed_ports.specs.Plans.{after_call, IsDue};
+ghost use Rattle.fed_base.specs.Plans.{after_call, IsDue};
 
-use crate::call_plan::CallPlan;
 use crate::source::Source;
-use fed_base::{Failed, Memory};
+use fed_base::{CallPlan, Failed, Memory};
 use std::alloc::Global;
 
 /// A source of given bytes. Each call gives as many of them as the buffer takes.

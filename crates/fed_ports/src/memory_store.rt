@@ -3,15 +3,14 @@
 ghost use Rattle.std.specs.Prelude.{◌≡◌, ◌↔◌, ◌⊎◌, ◌+◌, ◌<◌, ◌≤◌, true, false, length, vec_len, vec_capacity, Some, Err, IfOk, OnOk, OnErr, IsErr};
 ghost use Rattle.std.specs.Option.{option_copied};
 ghost use Rattle.fed_ports.specs.Causes.{HasCause};
-ghost use Rattle.fed_ports.specs.Plans.{plan_of, after_call, calls_left, IsDue};
+ghost use Rattle.fed_base.specs.Plans.{plan_of, after_call, calls_left, IsDue};
 ghost use Rattle.fed_ports.specs.KeptFiles.{files_of, kept_size};
 ghost use Rattle.fed_ports.specs.Stores.{Loads, Keeps, HasStoreCause};
 
-use crate::call_plan::CallPlan;
 use crate::kept_file::{KeptFile, last_kept, put};
 use crate::named_file::{NamedFile, last_of};
 use crate::store::{FILE_LIMIT, Store, StoreFault};
-use fed_base::{Failed, Memory, Seq, Text};
+use fed_base::{CallPlan, Failed, Memory, Seq, Text};
 use std::alloc::Global;
 
 /// A store of given files. Where two have one name, the later one counts.

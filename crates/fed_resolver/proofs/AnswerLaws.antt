@@ -7,10 +7,8 @@ use Rattle.entity_statement.specs.Claims.{Claims, Identifier}
 use Rattle.entity_statement.specs.Signed.{statement_of}
 use Rattle.chain_check.specs.Chains.{Texts, statements_of}
 use Rattle.chain_check.specs.Judging.{seal_keys, seal_place}
-use Rattle.chain_check.specs.Signatures.{key_in}
 use Rattle.chain_climb.specs.Elements.{Among}
 use Rattle.chain_climb.proofs.Elements.{among-left}
-use Rattle.trust_mark.specs.Counts.{counted}
 use Rattle.resolve_reply.specs.declared.issuers.Issuer.{Issuer}
 use Rattle.resolve_reply.specs.declared.marks.GoodMarks.{GoodMarks}
 use Rattle.resolve_reply.specs.declared.reply.Reply.{Reply}
@@ -39,6 +37,8 @@ use Rattle.fed_resolver.specs.Uses.{CountsAll}
 use Rattle.fed_resolver.proofs.EndTexts.{Says, first-says, last-says}
 use Rattle.fed_resolver.proofs.MarkCounts.{good-along, tests-along}
 use Rattle.fed_resolver.proofs.WholeLaws.{whole-query, whole_told}
+use Rattle.fed_base.specs.Counts.{counted}
+use Rattle.sealed.specs.Tests.{key_in}
 
 -- what was shown stays shown
 shown-later : (old new : Trace) (checks : List Check) (more : List Event) → new.keys ≡ old.keys → new.checks ≡ old.checks ++ checks → new.events ≡ old.events ++ more → (chain : Texts) → ShowsSeals old chain → ShowsSeals new chain

@@ -1,6 +1,5 @@
 -- A call that ended before it searched, and what it begins its search with.
 use Rattle.std.proofs.Common.{◌≡◌, ℕ, List, [], ◌∷◌, length, Result, Ok, Err, refl, sym, ap, ◌∙◌, subst}
-use Rattle.trust_mark.specs.Counts.{counted}
 use Rattle.chain_climb.specs.Elements.{Among}
 use Rattle.statement_shelf.specs.Passes.{CommonsKnown}
 use Rattle.statement_shelf.specs.declared.calls.AnchorKeys.{AnchorKeys}
@@ -23,6 +22,7 @@ use Rattle.fed_resolver.specs.Uses.{CountsAll, CountsTests, UsesLink}
 use Rattle.fed_resolver.proofs.BeginLaws.{IsBare, bare-blank, bare-read, bare-true, counts-broken, part-blank, part-read, tells-broken, unlisted-all, worn-broken}
 use Rattle.fed_resolver.proofs.StretchLaws.{rounds-none, stumbled-still, walked-still}
 use Rattle.fed_resolver.proofs.TickLaws.{gave-all, some-counted, uses-all}
+use Rattle.fed_base.specs.Counts.{counted}
 
 -- ---- the link wasn't used
 

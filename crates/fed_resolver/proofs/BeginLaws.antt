@@ -1,6 +1,5 @@
 -- A call that has read the book, and nothing more.
 use Rattle.std.proofs.Common.{◌≡◌, ℕ, List, [], ◌∷◌, ◌++◌, length, map, Err, refl, sym, ap, ◌∙◌, subst, inl, inr, ⊎_elim, arith}
-use Rattle.trust_mark.specs.Counts.{counted}
 use Rattle.turn_log.proofs.Gains.{gains-append}
 use Rattle.chain_climb.specs.Elements.{Among, NoneTwice}
 use Rattle.chain_climb.proofs.Elements.{among-split}
@@ -30,6 +29,7 @@ use Rattle.fed_resolver.specs.Refusals.{WholeBy, broken_off, outcome_of}
 use Rattle.fed_resolver.specs.Searches.{marks_tested}
 use Rattle.fed_resolver.specs.Told.{BeginsSo, GaveSome, Situation, ToldInPart, ToldWhole}
 use Rattle.fed_resolver.specs.Uses.{CountsAll, CountsSome, CountsTests}
+use Rattle.fed_base.specs.Counts.{counted}
 
 -- ---- nothing was searched
 

@@ -8,8 +8,9 @@ use Rattle.jwk_set.specs.declared.jwk.Jwk.{Jwk}
 use Rattle.entity_statement.specs.Claims.{Claims, Identifier, OwnerClaims}
 use Rattle.entity_statement.specs.declared.marks.MarkEntry.{MarkEntry}
 use Rattle.sealed.specs.Deciding.{is_sealed_by}
+use Rattle.sealed.specs.Tests.{key_in, tests_under}
 use Rattle.trust_mark.specs.Conditions.{claims_reason, is_for}
-use Rattle.trust_mark.specs.Counts.{delegation_tests, key_in, mark_tests, tests_from_signature, tests_under}
+use Rattle.trust_mark.specs.Counts.{delegation_tests, mark_tests, tests_from_signature}
 use Rattle.trust_mark.specs.Marks.{Case, delegation_of, mark_of, owner_of}
 use Rattle.trust_mark.specs.declared.mark.Mark.{Mark}
 use Rattle.resolve_reply.specs.declared.marks.GoodMarks.{GoodMarks}

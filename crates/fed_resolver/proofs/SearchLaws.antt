@@ -1,6 +1,5 @@
 -- What a call answers behind the reading of the book.
 use Rattle.std.proofs.Common.{◌≡◌, ℕ, List, ◌∷◌, ◌++◌, length, Some, None, Result, Ok, Err, refl, sym, ap, ap₂, ◌∙◌, subst, inl, inr}
-use Rattle.trust_mark.specs.Counts.{counted}
 use Rattle.statement_shelf.specs.Passes.{CommonsKnown}
 use Rattle.statement_shelf.specs.declared.calls.AnchorKeys.{AnchorKeys}
 use Rattle.statement_shelf.specs.declared.calls.BookCall.TheVariants.{Read}
@@ -30,6 +29,7 @@ use Rattle.fed_resolver.specs.Told.{Situation, ToldInPart, situation_of}
 use Rattle.fed_resolver.specs.Uses.{CountsAll}
 use Rattle.fed_resolver.proofs.BeginLaws.{IsBare, bare-good, bare-read, bare-true, fresh-later, gains-later, part-read}
 use Rattle.fed_resolver.proofs.WholeLaws.{last-told, leaf-query, leaf_rounds, refused-all}
+use Rattle.fed_base.specs.Counts.{counted}
 
 -- ---- the beginning
 

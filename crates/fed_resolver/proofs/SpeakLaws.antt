@@ -4,8 +4,7 @@ use Rattle.std.specs.List.{list_any}
 use Rattle.std.proofs.lemmas.List.{length-map}
 use Rattle.std.proofs.lemmas.List.Elements.{filter_map-append}
 use Rattle.std.proofs.lemmas.List.Sums.{count_by-le-length, sum_by-cons}
-use Rattle.fed_base.specs.Counts.{last_count}
-use Rattle.trust_mark.specs.Counts.{counted}
+use Rattle.fed_base.specs.Counts.{counted, last_count}
 use Rattle.jwk_set.specs.declared.set.JwkSet.{JwkSet}
 use Rattle.jwk_set.specs.declared.jwk.Jwk.{Jwk}
 use Rattle.chain_climb.specs.Elements.{Among}

@@ -3,7 +3,6 @@ use Rattle.std.proofs.Common.{◌≡◌, ◌≤◌, ◌<◌, ◌+◌, ◌⊎◌,
 use Rattle.std.proofs.lemmas.List.Concat.{flat_map-append}
 use Rattle.std.proofs.lemmas.List.Sums.{sum_by-append, sum_by-cons}
 use Rattle.turn_log.specs.Groups.{known}
-use Rattle.chain_check.specs.Counts.{counted}
 use Rattle.chain_climb.proofs.Elements.{among-split}
 use Rattle.statement_shelf.specs.Passes.{CommonsKnown}
 use Rattle.resolve_round.specs.declared.trace.Ask.{Ask}
@@ -26,6 +25,7 @@ use Rattle.resolve_round.proofs.WalkLaws.{stumbled-then, walked-then}
 use Rattle.resolve_search.proofs.CallLaws.{acted-none, parts-then as same-then}
 use Rattle.fed_resolver.specs.Stretches.{Goes, GoesFor, GoesTo, KeepsParts, Moment, SameKeys, StumbledRounds, UsesRounds, WalkedRounds, WalksFor, moment_at, moment_of}
 use Rattle.fed_resolver.specs.Uses.{calls_made, calls_of, faults_met, faults_of}
+use Rattle.fed_base.specs.Counts.{counted}
 
 -- ---- the link
 

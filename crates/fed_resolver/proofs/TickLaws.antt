@@ -1,10 +1,8 @@
 -- What the ledger and the link count in a whole call.
 use Rattle.std.proofs.Common.{◌≡◌, ◌≤◌, ◌<◌, ◌+◌, ℕ, zero, suc, List, [], ◌∷◌, ◌++◌, length, Bool, Option, Some, None, Result, Ok, Err, refl, sym, ap, ap₂, ◌∙◌, subst, inl, inr, length-append, count_by, cond, arith}
 use Rattle.std.proofs.lemmas.List.Sums.{sum_by-append, sum_by-cons}
-use Rattle.fed_base.specs.Counts.{next_count}
+use Rattle.fed_base.specs.Counts.{CountsAtMost, counted, counted as counted_checks, next_count}
 use Rattle.fed_ports.specs.Webs.{Web}
-use Rattle.chain_check.specs.Counts.{counted as counted_checks}
-use Rattle.trust_mark.specs.Counts.{CountsAtMost, counted}
 use Rattle.trust_mark.proofs.CountLaws.{counted-plus}
 use Rattle.chain_climb.specs.Elements.{Among}
 use Rattle.resolve_reply.specs.declared.reply.Reply.{Reply}

@@ -5,7 +5,6 @@ use Rattle.std.specs.Option.{option_map_or}
 use Rattle.std.proofs.lemmas.List.{append_cancel_left, map-append}
 use Rattle.jwk_set.specs.declared.set.JwkSet.{JwkSet}
 use Rattle.entity_statement.specs.Claims.{Claims, Identifier}
-use Rattle.trust_mark.specs.Counts.{counted}
 use Rattle.chain_climb.specs.declared.want.End.{End}
 use Rattle.chain_climb.specs.declared.want.End.TheVariants as end
 use Rattle.chain_climb.specs.declared.path.Path.{Path}
@@ -40,6 +39,7 @@ use Rattle.fed_resolver.specs.Stretches.{SameKeys}
 use Rattle.fed_resolver.specs.Told.{DidRounds, Situation, ToldSearches, ToldWhole, query_of, situation_of, usual}
 use Rattle.fed_resolver.specs.Uses.{CountsAll, CountsTests}
 use Rattle.fed_resolver.proofs.CourseLaws.{adds-none, did-then}
+use Rattle.fed_base.specs.Counts.{counted}
 
 -- ---- the last round
 

@@ -6,10 +6,10 @@ use Rattle.jwk_set.specs.declared.set.JwkSet.{JwkSet}
 use Rattle.entity_id.specs.Urls.{well_known_of}
 use Rattle.sealed.specs.Seals.{IsSealed}
 use Rattle.sealed.specs.Sealing.{sealed_text}
+use Rattle.sealed.specs.Tests.{key_in}
 use Rattle.entity_statement.specs.Claims.{Claims, Identifier}
 use Rattle.entity_statement.specs.Signed.{statement_of}
 use Rattle.chain_check.specs.Chains.{statements_of}
-use Rattle.chain_check.specs.Signatures.{key_in}
 use Rattle.chain_check.specs.Validity.{IsValid, ResolvesTo, case_of}
 use Rattle.chain_check.specs.Verdicts.{least_exp}
 use Rattle.chain_climb.specs.Climbs.{alone, configuration_of}

@@ -1,7 +1,6 @@
 -- What a call does from one moment to another: what it leaves of its trace, its pass and its link.
 use Rattle.std.specs.Prelude.{◌≡◌, ◌≤◌, ◌<◌, ◌+◌, ◌⊎◌, ℕ, List, [], ◌++◌, Result, Ok, Err}
 use Rattle.turn_log.specs.Groups.{known}
-use Rattle.chain_check.specs.Counts.{counted}
 use Rattle.chain_climb.specs.Elements.{Among}
 use Rattle.statement_shelf.specs.Passes.{CommonsKnown}
 use Rattle.resolve_round.specs.declared.trace.Search.{Search}
@@ -16,6 +15,7 @@ use Rattle.resolve_round.specs.Walking.{GaveEach, Giving, Stumbled}
 use Rattle.resolve_search.specs.declared.call.Call.{Call}
 use Rattle.resolve_search.specs.Calls.{HasPass, SameParts}
 use Rattle.fed_resolver.specs.Uses.{calls_made, faults_met}
+use Rattle.fed_base.specs.Counts.{counted}
 
 -- a call at one moment: its trace, what its pass knows, and its link
 pub record Moment : Type 0 where

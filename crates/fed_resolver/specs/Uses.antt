@@ -1,9 +1,8 @@
 -- How one resolve call uses its link, which signatures it tests, and what its result says of the link's web.
 use Rattle.std.specs.Prelude.{◌≡◌, ◌<◌, ◌≤◌, ◌+◌, ◌⊎◌, ℕ, List, length, count_by, sum_by, Option, IfSome, Result, Err}
-use Rattle.fed_base.specs.Counts.{last_count}
+use Rattle.fed_base.specs.Counts.{counted, last_count}
 use Rattle.fed_ports.specs.Webs.{Web}
 use Rattle.jwk_set.specs.declared.set.JwkSet.{JwkSet}
-use Rattle.trust_mark.specs.Counts.{counted}
 use Rattle.chain_climb.specs.Elements.{Among}
 use Rattle.statement_shelf.specs.declared.calls.BookReply.TheVariants.{Keys}
 use Rattle.resolve_reply.specs.declared.reply.Reply.{Reply}

@@ -6,6 +6,7 @@ use Rattle.fed_ports.specs.declared.page.Page.{Page}
 use Rattle.jwk_set.specs.declared.set.JwkSet.{JwkSet}
 use Rattle.jwk_set.specs.declared.jwk.Jwk.{Jwk}
 use Rattle.sealed.specs.Seals.{IsSealed, IsUnsealed, Pair, pair_of}
+use Rattle.sealed.specs.Tests.{key_in}
 use Rattle.entity_statement.specs.Claims.{Identifier}
 use Rattle.turn_log.specs.Runs.{IsLegal}
 use Rattle.statement_shelf.specs.declared.calls.AnchorKeys.{AnchorKeys}
@@ -25,7 +26,7 @@ use Rattle.statement_shelf.specs.Laws.{standing_keys}
 use Rattle.chain_climb.specs.Elements.{Among}
 use Rattle.chain_check.specs.Chains.{HasForm, Texts, statements_of}
 use Rattle.chain_check.specs.Names.{HasNames}
-use Rattle.chain_check.specs.Signatures.{AreCurrent, key_in}
+use Rattle.chain_check.specs.Signatures.{AreCurrent}
 use Rattle.chain_check.specs.Judging.{seal_keys, seal_place}
 use Rattle.chain_check.specs.Validity.{Applies, IsValid, IsWithin, Merges, case_of}
 use Rattle.resolve_round.specs.declared.trace.Check.{Check}

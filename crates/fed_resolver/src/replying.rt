@@ -7,7 +7,6 @@ ghost use Rattle.resolve_reply.specs.Marks.{issuers_by_mark, judging_by, looked_
 ghost use Rattle.resolve_round.specs.Linking.{link_view};
 ghost use Rattle.resolve_round.specs.Told.{ProvesGood};
 ghost use Rattle.resolve_search.specs.Calls.{Acts, Counted};
-ghost use Rattle.trust_mark.specs.Counts.{CountsAtMost, counted};
 ghost use Rattle.fed_json.specs.Forms.{IsWhole as IsWholeTree};
 ghost use Rattle.fed_resolver.specs.Going.{AreEnds, HasLeaf, usual_aim};
 ghost use Rattle.fed_resolver.specs.Outcomes.{IsWhole};
@@ -16,6 +15,7 @@ ghost use Rattle.fed_resolver.specs.Replying.{CanSay, IsMarked, IsSearched, said
 ghost use Rattle.fed_resolver.specs.Stretches.{CanGoOn, GoesFor, WalksFor, moment_of};
 ghost use Rattle.fed_resolver.specs.Told.{situation_of};
 ghost use Rattle.fed_resolver.specs.Uses.{CountsAll, CountsSome};
+ghost use Rattle.fed_base.specs.Counts.{CountsAtMost, counted};
 
 use crate::issuers::search_issuers;
 use crate::texts::{Ends, read_ends, texts_of};

@@ -6,10 +6,11 @@ use Rattle.fed_ports.specs.declared.network.Network.{Ghosts as NetworkShows}
 use Rattle.fed_ports.specs.declared.sink.Sink.{Ghosts as SinkShows}
 use Rattle.fed_ports.specs.declared.source.Source.{Ghosts as SourceShows}
 use Rattle.fed_ports.specs.declared.store.Store.{Ghosts as StoreShows}
+use Rattle.fed_ports.specs.Times.{clock_at}
 use Rattle.fed_run.specs.Authorities.{Outside, outside}
 use Rattle.fed_run.specs.Resolving.{Written}
 use Rattle.fed_run.specs.declared.ports.Ports.{Ports}
-use Rattle.fed_serve.specs.Moments.{PeerAt, clock_at, peer_at}
+use Rattle.fed_serve.specs.Moments.{PeerAt, peer_at}
 use Rattle.http_plain.specs.Links.{listening}
 use Rattle.node_service.specs.Connections.{service_at}
 use Rattle.node_service.specs.Ends.{at_moment}

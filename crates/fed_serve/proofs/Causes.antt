@@ -2,12 +2,12 @@
 use Rattle.std.proofs.Common.{◌≡◌, ◌⊎◌, ℕ, true, false, List, Some, None, Result, Ok, Err, refl, sym, ap, ◌∙◌, subst, inl, inr, arith}
 use Rattle.std.specs.Prelude.{IfOk, IfSome, MatchResult, codes, is_some, if◌then◌else◌}
 use Rattle.fed_base.specs.declared.faults.Memory.{Memory}
+use Rattle.fed_base.specs.Counts.{CountsAtMost, counted}
 use Rattle.http_messages.specs.declared.read.ReadEnd.{ReadEnd}
 use Rattle.http_messages.specs.declared.request.Incoming.{Incoming}
 use Rattle.http_messages.specs.declared.request.Incoming.TheVariants.{Asked as Request, NotARequest}
 use Rattle.http_messages.specs.declared.response.Response.{Response}
 use Rattle.http_plain.specs.Responses.{HasReason}
-use Rattle.trust_mark.specs.Counts.{CountsAtMost, counted}
 use Rattle.authority_core.specs.Answers.{configuration_response, fetch_response, historical_response, list_response, statement_response, status_response}
 use Rattle.authority_core.specs.Nodes.{Node as Authority, registered}
 use Rattle.node_requests.specs.declared.asked.Asked.{Asked}

@@ -3,6 +3,7 @@ use Rattle.std.proofs.Common.{◌≡◌, ◌≤◌, ◌<◌, ℕ, Option, Some, 
 use Rattle.fed_base.specs.declared.faults.Memory.{Memory}
 use Rattle.fed_base.specs.Counts.{Rose}
 use Rattle.fed_ports.specs.Causes.{HasCause}
+use Rattle.fed_ports.specs.Times.{IsOneReading}
 use Rattle.http_messages.specs.declared.read.ReadEnd.{ReadEnd}
 use Rattle.http_messages.specs.declared.read.ReadEnd.TheVariants as read
 use Rattle.http_messages.specs.declared.request.Incoming.{Incoming}
@@ -19,7 +20,7 @@ use Rattle.fed_serve.specs.declared.served.Served.{Served}
 use Rattle.fed_serve.specs.declared.serving.ServeFault.{ServeFault}
 use Rattle.fed_serve.specs.declared.serving.ServeFault.TheVariants.{ReadFault, WriteFault, Ended, Worn}
 use Rattle.fed_serve.specs.Handlings.{Handling, dealt, issued, not_asked, resolved, unread}
-use Rattle.fed_serve.specs.Moments.{Around, IsOneReading, PeerAt}
+use Rattle.fed_serve.specs.Moments.{Around, PeerAt}
 use Rattle.fed_serve.specs.Responses.{response_of, tests_asked}
 use Rattle.fed_serve.specs.Serving.{ComesWhere, HandsOut, HasCome, IsCut, IsHandled, IsMessage, IsServed, Serves, Tells}
 use Rattle.fed_serve.specs.Steps.{IsAnswer, IsMade, IsReading, IsSaid, IsSent, IsTelling, Sends, came_of}

@@ -4,6 +4,7 @@ use Rattle.fed_base.specs.declared.faults.Failed.{Failed}
 use Rattle.fed_ports.specs.Causes.{HasCause}
 use Rattle.fed_ports.specs.Exchanges.{Exchange}
 use Rattle.fed_ports.specs.Lists.{Gave}
+use Rattle.fed_ports.specs.Times.{ClockAt}
 use Rattle.turn_log.specs.Groups.{known}
 use Rattle.statement_shelf.specs.Passes.{CommonsKnown, IsPassOfAll}
 use Rattle.resolve_round.specs.Acts.{IsKept}
@@ -14,7 +15,7 @@ use Rattle.fed_serve.specs.declared.desk.Desk.{Desk}
 use Rattle.fed_serve.specs.declared.node.Node.{Node}
 use Rattle.fed_serve.specs.declared.served.Served.{Served}
 use Rattle.fed_serve.specs.declared.serving.ServeFault.{ServeFault}
-use Rattle.fed_serve.specs.Moments.{Around, ClockAt, PeerAt, around}
+use Rattle.fed_serve.specs.Moments.{Around, PeerAt, around}
 use Rattle.fed_serve.specs.Serving.{Serves}
 
 -- how peers and clocks are seen, and shared objects, links and ledgers together; and what a link says of one call

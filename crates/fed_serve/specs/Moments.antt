@@ -1,7 +1,6 @@
 -- What stands around one connection at one moment.
-use Rattle.std.specs.Prelude.{◌≡◌, ℕ, List, Option}
-use Rattle.fed_base.specs.Counts.{next_count}
-use Rattle.fed_ports.specs.Times.{Told}
+use Rattle.std.specs.Prelude.{ℕ, List, Option}
+use Rattle.fed_ports.specs.Times.{ClockAt}
 use Rattle.fed_serve.specs.Resolutions.{CallAt}
 
 -- one end of a connection: what is left to read and what it was given, where it tells them, and how often each failed
@@ -10,12 +9,6 @@ pub record PeerAt : Type 0 where
   pub held : Option (List ℕ)
   pub read_faults : ℕ
   pub write_faults : ℕ
-
--- a clock: how many readings there were, the last of them, and all of them where it tells them
-pub record ClockAt : Type 0 where
-  pub count : ℕ
-  pub last : ℕ
-  pub told : Option (List ℕ)
 
 -- all that a connection is served with; `call` has what is known of the shared objects, the link's web, calls and faults, and how many
 -- signatures the ledger counted
@@ -27,13 +20,5 @@ pub record Around : Type 0 where
 abbrev pub peer_at : Option (List ℕ) → Option (List ℕ) → ℕ → ℕ → PeerAt
 peer_at left held read_faults write_faults = record { left = left; held = held; read_faults = read_faults; write_faults = write_faults }
 
-abbrev pub clock_at : ℕ → ℕ → Option (List ℕ) → ClockAt
-clock_at count last told = record { count = count; last = last; told = told }
-
 abbrev pub around : PeerAt → ClockAt → CallAt → Around
 around peer clock call = record { peer = peer; clock = clock; call = call }
-
--- one reading was made
-pub record IsOneReading (before now : ClockAt) : Type 0 where
-  pub counted : now.count ≡ next_count before.count
-  pub added : Told before.count before.told now.told now.last

@@ -1,12 +1,13 @@
 -- How other keys for a trust anchor are answered: a control key has its say, and the book replies.
 use Rattle.std.specs.Prelude.{◌≡◌, ℕ, List, [], ◌∷◌, length, Some, Result, Ok, Err}
 use Rattle.fed_base.specs.declared.faults.Memory.{Memory}
+use Rattle.fed_base.specs.Counts.{counted}
 use Rattle.http_messages.specs.declared.response.Response.{Response}
 use Rattle.jwk_set.specs.declared.jwk.Jwk.{Jwk}
 use Rattle.sealed.specs.Seals.{IsSealedBy}
 use Rattle.sealed.specs.declared.fault.SealFault.{SealFault}
 use Rattle.sealed.specs.declared.fault.SealFault.TheVariants as fault
-use Rattle.chain_check.specs.Counts.{checks_under, counted}
+use Rattle.chain_check.specs.Counts.{checks_under}
 use Rattle.turn_log.specs.Groups.{AddsOnBook}
 use Rattle.turn_log.specs.Runs.{call_limit}
 use Rattle.turn_log.specs.declared.worn.Worn.{Worn}

@@ -22,11 +22,12 @@ use Rattle.fed_serve.specs.declared.served.Served.{Served}
 use Rattle.fed_serve.specs.declared.serving.ServeFault.{ServeFault}
 use Rattle.fed_serve.specs.declared.serving.ServeFault.TheVariants.{ReadFault, WriteFault, Ended, Worn}
 use Rattle.fed_serve.specs.Handlings.{Handles, Handling, IsIssued, Wants, WantsNothing, dealt, kind_of, resolved}
-use Rattle.fed_serve.specs.Moments.{Around, IsOneReading, PeerAt}
+use Rattle.fed_serve.specs.Moments.{Around, PeerAt}
 use Rattle.fed_serve.specs.Places.{place_of}
 use Rattle.fed_serve.specs.Responses.{not_a_request, out_of_memory, response_of, status_of}
 use Rattle.fed_serve.specs.Rows.{KeyRows, Refuses, ResolveRows}
 use Rattle.fed_serve.specs.Uses.{IsUnworn, IsWornBy, Tests, TestsSome, Uses}
+use Rattle.fed_ports.specs.Times.{IsOneReading}
 
 -- ---- what came
 

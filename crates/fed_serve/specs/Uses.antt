@@ -1,6 +1,5 @@
 -- What of the shared objects, the link and the ledger each handling uses.
 use Rattle.std.specs.Prelude.{◌≡◌, ℕ, Some, Err}
-use Rattle.trust_mark.specs.Counts.{CountsAtMost, counted}
 use Rattle.authority_core.specs.Nodes.{Node as Authority}
 use Rattle.turn_log.specs.Runs.{call_limit}
 use Rattle.fed_resolver.specs.declared.outcome.Refusal.TheVariants.{Worn}
@@ -10,6 +9,7 @@ use Rattle.fed_serve.specs.Rotations.{IsDealtWith, rotation_at, worn}
 use Rattle.fed_serve.specs.declared.node.Node.{Node}
 use Rattle.fed_serve.specs.Handlings.{Handling, dealt, issued, resolved}
 use Rattle.fed_serve.specs.Responses.{tests_asked}
+use Rattle.fed_base.specs.Counts.{CountsAtMost, counted}
 
 -- the node has this part for resolving
 abbrev pub Has : Node → ResolverPart → Type 0

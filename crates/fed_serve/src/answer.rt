@@ -1,7 +1,6 @@
 // What is answered to what came.
 
 ghost use Rattle.std.specs.Prelude.{◌≡◌, IfErr, IfOk, IfSome, MatchOption, MatchResult, None, is_some};
-ghost use Rattle.trust_mark.specs.Counts.{CountsAtMost, counted};
 ghost use Rattle.turn_log.specs.Groups.{known};
 ghost use Rattle.statement_shelf.specs.Passes.{IsPassOfAll};
 ghost use Rattle.resolve_round.specs.Acts.{IsKept};
@@ -12,6 +11,7 @@ ghost use Rattle.fed_serve.specs.Handlings.{IsIssued, MayBeUnread, Wants, WantsN
 ghost use Rattle.fed_serve.specs.Places.{place_of};
 ghost use Rattle.fed_serve.specs.Responses.{issued_response, tests_asked};
 ghost use Rattle.fed_serve.specs.Steps.{IsAble, IsAnswer, IsAnswerTo, came_of};
+ghost use Rattle.fed_base.specs.Counts.{CountsAtMost, counted};
 
 use crate::context::Context;
 use crate::node::Node;

@@ -3,8 +3,9 @@
 ghost use Rattle.std.specs.Prelude.{◌≡◌, Some, None};
 ghost use Rattle.fed_serve.specs.Resolutions.{call_at};
 ghost use Rattle.fed_serve.specs.declared.node.Node.{Node as AnyNode};
-ghost use Rattle.fed_serve.specs.Moments.{clock_at, peer_at};
+ghost use Rattle.fed_serve.specs.Moments.{peer_at};
 ghost use Rattle.fed_serve.specs.Desks.{IsFree, IsServedAt, IsTaken, views_of};
+ghost use Rattle.fed_ports.specs.Times.{clock_at};
 
 use crate::node::Node;
 use crate::served::Served;

@@ -3,8 +3,9 @@
 ghost use Rattle.std.specs.Prelude.{◌≡◌, All, is_some, true};
 ghost use Rattle.std.specs.Thread.{IsSend, IsSync};
 ghost use Rattle.fed_serve.specs.Resolutions.{call_at};
-ghost use Rattle.fed_serve.specs.Moments.{clock_at, peer_at};
+ghost use Rattle.fed_serve.specs.Moments.{peer_at};
 ghost use Rattle.fed_serve.specs.Desks.{IsFree, IsServedAt, ServesMany, desks_at, network_at, views_of};
+ghost use Rattle.fed_ports.specs.Times.{clock_at};
 
 use crate::desk::{Desk, Place};
 use crate::node::Node;

@@ -12,23 +12,9 @@ use crate::answer::Answer;
 use crate::refusals::out_of_memory;
 use crate::served::Served;
 use crate::serving::ServeFault;
-use fed_ports::{Failed, Memory, Sink};
+use fed_ports::{Failed, Memory, Sink, write_all};
 use http_plain::{Response, WriteEnd, write_response};
 use std::alloc::Global;
-
-// Gives all the bytes, or a part of them and then a fault.
-fn give_all<P: Sink>(peer: &mut P, bytes: &[u8]) -> Result<(), Failed>
-    ensures ok { OnOk result (Appends (P.held peer.old) (P.held peer.new) bytes.now) }
-    ensures part { OnErr result ((n : ℕ) × (n ≤ length bytes.now) × Appends (P.held peer.old) (P.held peer.new) (take n bytes.now)) }
-    ensures cause { HasCause (P.write_faults peer.old) (P.write_faults peer.new) result }
-    ensures side { P.sink_side peer.new ≡ P.sink_side peer.old }
-{
-    let mut at = 0;
-    while at < bytes.len() {
-        at += peer.give(&bytes[at..])?;
-    }
-    Ok(())
-}
 
 // Sends that memory was wanting. It takes none.
 fn send_out_of_memory<P: Sink>(peer: &mut P) -> Result<u16, ServeFault>
@@ -36,7 +22,7 @@ fn send_out_of_memory<P: Sink>(peer: &mut P) -> Result<u16, ServeFault>
     ensures cause { HasCause (P.write_faults peer.old) (P.write_faults peer.new) result }
     ensures side { P.sink_side peer.new ≡ P.sink_side peer.old }
 {
-    match give_all(peer, out_of_memory()) {
+    match write_all(peer, out_of_memory()) {
         Ok(()) => Ok(507),
         Err(Failed) => Err(ServeFault::WriteFault),
     }

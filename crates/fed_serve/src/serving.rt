@@ -6,9 +6,10 @@ ghost use Rattle.statement_shelf.specs.Passes.{IsPassOfAll};
 ghost use Rattle.resolve_round.specs.Acts.{IsKept};
 ghost use Rattle.fed_resolver.specs.Calls.{GaveAll};
 ghost use Rattle.fed_serve.specs.Resolutions.{call_at};
-ghost use Rattle.fed_serve.specs.Moments.{around, clock_at, peer_at};
+ghost use Rattle.fed_serve.specs.Moments.{around, peer_at};
 ghost use Rattle.fed_serve.specs.Serving.{Serves};
 ghost use Rattle.fed_serve.specs.Steps.{IsReading};
+ghost use Rattle.fed_ports.specs.Times.{clock_at};
 
 use crate::answer::answer_to;
 use crate::context::Context;

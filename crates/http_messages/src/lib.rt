@@ -27,4 +27,4 @@ pub use read::{ReadEnd, read_request};
 pub use request::{Incoming, Method, Pair, Request};
 pub use response::{Media, Response};
 pub use sources::Taking;
-pub use write::{WriteEnd, give_all, out_of_memory, write_kept, write_response};
+pub use write::{WriteEnd, out_of_memory, write_kept, write_response};

@@ -8,7 +8,7 @@ ghost use Rattle.http_messages.specs.Responses.{HasReason, ResponseText, SaidTex
 ghost use Rattle.http_messages.specs.Writings.{WriteCause, Writes, WritesKept, WritesWith};
 
 use crate::response::{Media, Response};
-use fed_ports::{Failed, Memory, Sink};
+use fed_ports::{Failed, Memory, Sink, write_all};
 use std::alloc::Global;
 use thiserror::Error;
 
@@ -21,20 +21,6 @@ pub enum WriteEnd {
     /// Memory was wanting. Nothing was written.
     #[error("out of memory")]
     Memory,
-}
-
-/// Gives all the bytes, or a part of them and then a fault.
-pub fn give_all<P: Sink>(to: &mut P, bytes: &[u8]) -> Result<(), Failed>
-    ensures ok { OnOk result (Appends (P.held to.old) (P.held to.new) bytes.now) }
-    ensures part { OnErr result ((n : ℕ) × (n ≤ length bytes.now) × Appends (P.held to.old) (P.held to.new) (take n bytes.now)) }
-    ensures cause { HasCause (P.write_faults to.old) (P.write_faults to.new) result }
-    ensures side { P.sink_side to.new ≡ P.sink_side to.old }
-{
-    let mut at = 0;
-    while at < bytes.len() {
-        at += to.give(&bytes[at..])?;
-    }
-    Ok(())
 }
 
 fn reason(status: u16) -> Option<&'static str>
@@ -112,7 +98,7 @@ fn write_with<P: Sink>(
     let Ok(text) = response_text(alloc, connection, answer) else {
         return Err(WriteEnd::Memory);
     };
-    match give_all(to, &text) {
+    match write_all(to, &text) {
         Ok(()) => Ok(()),
         Err(Failed) => Err(WriteEnd::WriteFault),
     }

@@ -7,7 +7,7 @@ use Rattle.hex.specs.Hex.{decode_sized, encode_lower}
 use Rattle.hex.proofs.HexLemmas.{decode_sized-encode_lower}
 use Rattle.fed_json.specs.declared.tree.Json.{Json, Int, Text, List as ListOf, Object, the_lemmas}
 use Rattle.fed_json.specs.declared.tree.Member.{Member}
-use Rattle.fed_json.specs.Members.{text_member}
+use Rattle.fed_json.specs.Members.{number_member, text_member}
 use Rattle.fed_json.specs.Reading.{member_of}
 use Rattle.fed_json.specs.Trees.{as_int, as_list, as_object, as_text, find}
 use Rattle.fed_json.proofs.Accessors.{as_int-Int, as_list-List, as_object-Object, as_text-Text}
@@ -16,7 +16,7 @@ use Rattle.key_ring.specs.declared.key.KeyState.TheVariants.{Live, Retired, Revo
 use Rattle.key_ring.specs.declared.key.RevokeReason.{RevokeReason}
 use Rattle.key_ring.specs.declared.key.RevokeReason.TheVariants.{Unspecified, Compromised, Superseded}
 use Rattle.key_ring.specs.declared.key.RingKey.{RingKey}
-use Rattle.key_ring.specs.Files.{IsRingFile, key_tree, number_member, reason_word, ring_tree, state_tree}
+use Rattle.key_ring.specs.Files.{IsRingFile, key_tree, reason_word, ring_tree, state_tree}
 use Rattle.key_ring.specs.Rings.{IsRingKey, Ring}
 
 -- ---- equal trees

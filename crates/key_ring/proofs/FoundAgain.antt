@@ -9,7 +9,7 @@ use Rattle.hex.proofs.HexLemmas.{decode_sized-encode_lower}
 use Rattle.fed_base.specs.Moments.{moment_limit}
 use Rattle.fed_json.specs.declared.tree.Json.{Json, Int, Text, Object, the_lemmas}
 use Rattle.fed_json.specs.declared.tree.Member.{Member}
-use Rattle.fed_json.specs.Members.{text_member}
+use Rattle.fed_json.specs.Members.{number_member, text_member}
 use Rattle.fed_json.specs.Trees.{as_text, count_below, each, if_below}
 use Rattle.fed_json.proofs.Accessors.{as_text-Text, as_int-Int, as_list-List, as_object-Object}
 use Rattle.key_ring.specs.declared.key.KeyState.{KeyState}
@@ -17,7 +17,7 @@ use Rattle.key_ring.specs.declared.key.KeyState.TheVariants.{Live, Retired, Revo
 use Rattle.key_ring.specs.declared.key.RevokeReason.{RevokeReason}
 use Rattle.key_ring.specs.declared.key.RevokeReason.TheVariants.{Unspecified, Compromised, Superseded}
 use Rattle.key_ring.specs.declared.key.RingKey.{RingKey}
-use Rattle.key_ring.specs.Files.{key_tree, number_member, reason_word, ring_tree, state_tree}
+use Rattle.key_ring.specs.Files.{key_tree, reason_word, ring_tree, state_tree}
 use Rattle.key_ring.specs.Readings.{key_in, key_of, keys_in, listed_in, reason_in, revocation_in, state_in}
 use Rattle.key_ring.specs.Rings.{HasForm, IsRingKey, IsTimelyState, Ring, has_live, most_keys}
 

@@ -4,12 +4,12 @@ use Rattle.hex.specs.Hex.{encode_lower}
 use Rattle.base64url.specs.Base64url.{base64url}
 use Rattle.fed_json.specs.declared.tree.Json.{Json, Object}
 use Rattle.fed_json.specs.declared.tree.Member.{Member}
-use Rattle.fed_json.specs.Members.{text_member}
+use Rattle.fed_json.specs.Members.{number_member, text_member}
 use Rattle.fed_json.specs.Reading.{member_of}
 use Rattle.jws_form.specs.Header.{algorithm}
 use Rattle.jwk_set.specs.Keys.{key_type}
 use Rattle.key_ring.specs.declared.key.RingKey.{RingKey}
-use Rattle.key_ring.specs.Files.{key_tree, number_member, state_tree}
+use Rattle.key_ring.specs.Files.{key_tree, state_tree}
 use Rattle.key_ring.specs.Sets.{plain_members}
 
 -- those of a key's object

@@ -9,7 +9,7 @@ use Rattle.hex.proofs.HexLemmas.{IsAscii-encode_with}
 use Rattle.fed_json.specs.declared.tree.Json.{Int, List as ListOf, Object, the_lemmas}
 use Rattle.fed_json.specs.declared.tree.Member.{Member}
 use Rattle.fed_json.specs.Forms.{greatest, has_odd, in_bounds, nesting, well_formed, whole}
-use Rattle.fed_json.specs.Members.{text_member}
+use Rattle.fed_json.specs.Members.{number_member, text_member}
 use Rattle.fed_json.specs.Reading.{member_of}
 use Rattle.fed_json.proofs.Booleans.{both_true, left_true, right_true}
 use Rattle.fed_json.proofs.Layers.{whole-Object, whole-List, nesting-Object, nesting-List, nesting-Int, nesting-Text}
@@ -19,7 +19,7 @@ use Rattle.key_ring.specs.declared.key.KeyState.TheVariants.{Live, Retired, Revo
 use Rattle.key_ring.specs.declared.key.RevokeReason.{RevokeReason}
 use Rattle.key_ring.specs.declared.key.RevokeReason.TheVariants.{Unspecified, Compromised, Superseded}
 use Rattle.key_ring.specs.declared.key.RingKey.{RingKey}
-use Rattle.key_ring.specs.Files.{key_tree, number_member, reason_word, revocation_tree, ring_tree, state_tree}
+use Rattle.key_ring.specs.Files.{key_tree, reason_word, revocation_tree, ring_tree, state_tree}
 use Rattle.key_ring.specs.Rings.{IsRingKey, IsTimelyState, Ring}
 
 -- ---- numbers and texts

@@ -17,10 +17,6 @@ use Rattle.key_ring.specs.declared.key.RingKey.{RingKey}
 use Rattle.key_ring.specs.Changes.{fresh_key}
 use Rattle.key_ring.specs.Rings.{HasForm, Ring, has_key, kid_of}
 
--- a member of that name that is a number (RFC 8259 section 6)
-abbrev pub number_member : List ℕ → ℕ → Member
-number_member name n = member_of name (Int (pos n))
-
 -- the reason of a revocation, in its word (OpenID Federation 1.0 section 8.7.3)
 abbrev pub reason_word : RevokeReason → List ℕ
 reason_word Unspecified = codes "unspecified"

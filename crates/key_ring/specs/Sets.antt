@@ -3,7 +3,7 @@ use Rattle.std.specs.Prelude.{◌≡◌, ℕ, List, [], ◌∷◌, ◌++◌, map
 use Rattle.base64url.specs.Base64url.{base64url}
 use Rattle.fed_json.specs.declared.tree.Json.{Json, Object}
 use Rattle.fed_json.specs.declared.tree.Member.{Member}
-use Rattle.fed_json.specs.Members.{text_member}
+use Rattle.fed_json.specs.Members.{number_member, text_member}
 use Rattle.fed_json.specs.Reading.{member_of}
 use Rattle.jws_form.specs.Header.{algorithm}
 use Rattle.jwk_set.specs.Keys.{key_type}
@@ -16,7 +16,7 @@ use Rattle.slh_dsa.specs.Keys.{public_key}
 use Rattle.key_ring.specs.declared.key.KeyState.{KeyState}
 use Rattle.key_ring.specs.declared.key.KeyState.TheVariants.{Live, Retired, Revoked}
 use Rattle.key_ring.specs.declared.key.RingKey.{RingKey}
-use Rattle.key_ring.specs.Files.{number_member, revocation_tree}
+use Rattle.key_ring.specs.Files.{revocation_tree}
 use Rattle.key_ring.specs.Rings.{Ring, is_live, kid_of, live_state, public_of, revoked_state}
 
 -- a key as a member of a set (RFC 7517 section 4)

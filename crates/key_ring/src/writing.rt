@@ -4,9 +4,9 @@ ghost use Rattle.std.specs.Prelude.{◌≡◌, ◌≤◌, ◌++◌, ◌∷◌, [
 ghost use Rattle.hex.specs.Hex.{encode_lower};
 ghost use Rattle.fed_json.specs.declared.tree.Json.{Object};
 ghost use Rattle.fed_json.specs.Forms.{IsWhole, nesting};
-ghost use Rattle.fed_json.specs.Members.{text_member};
+ghost use Rattle.fed_json.specs.Members.{number_member, text_member};
 ghost use Rattle.fed_json.specs.Reading.{member_of};
-ghost use Rattle.key_ring.specs.Files.{IsRingFile, key_tree, number_member, revocation_tree, ring_text, ring_tree, state_tree};
+ghost use Rattle.key_ring.specs.Files.{IsRingFile, key_tree, revocation_tree, ring_text, ring_tree, state_tree};
 ghost use Rattle.key_ring.specs.Rings.{HasForm};
 
 use crate::key::{KeyState, RevokeReason, RingKey};

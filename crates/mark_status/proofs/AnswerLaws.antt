@@ -10,8 +10,8 @@ use Rattle.jws_form.specs.Compact.{IsCompact}
 use Rattle.jws_form.specs.Splitting.{splitting}
 use Rattle.jws_form.specs.declared.compact.Compact.{Compact}
 use Rattle.sealed.specs.Deciding.{is_sealed_by}
+use Rattle.sealed.specs.Tests.{tests_under}
 use Rattle.trust_mark.specs.Claims.{Gives, status_claims}
-use Rattle.trust_mark.specs.Counts.{tests_under}
 use Rattle.trust_mark.specs.declared.fault.MarkFault.{MarkFault}
 use Rattle.trust_mark.specs.declared.fault.MarkFault.TheVariants.{Typ, Tree, Missing, Shape, Memory}
 use Rattle.trust_mark.specs.declared.status.MarkStatus.{MarkStatus}

@@ -9,7 +9,6 @@ use Rattle.std.proofs.lemmas.List.Elements.{All-nil, All-push, All-weaker, All-c
 use Rattle.std.proofs.lemmas.List.Sums.{sum_by_push}
 use Rattle.std.proofs.lemmas.Slice.Zip.{all_zipped_more}
 use Rattle.entity_statement.specs.declared.marks.MarkEntry.{MarkEntry}
-use Rattle.trust_mark.specs.Counts.{counted}
 use Rattle.trust_mark.proofs.CountLaws.{counted-plus}
 use Rattle.mark_status.specs.declared.heeded.Heeded.{Heeded}
 use Rattle.mark_status.specs.declared.post.Post.{Post}
@@ -20,6 +19,7 @@ use Rattle.mark_status.specs.Stages.{Adds, HeedsOne, Nothing, least_with}
 use Rattle.mark_status.specs.Tells.{IsTold, Marked, Told, keeps}
 use Rattle.mark_status.proofs.AnswerLaws.{by_test}
 use Rattle.mark_status.proofs.PostLaws.{more-made, none-made}
+use Rattle.fed_base.specs.Counts.{counted}
 
 -- ---- the least end
 

@@ -6,10 +6,10 @@ use Rattle.std.proofs.lemmas.List.Elements.{All-cons, All-nil, All-weaker, Conta
 use Rattle.std.proofs.lemmas.List.Sums.{sum_by-append, sum_by-cons}
 use Rattle.std.proofs.lemmas.Slice.Zip.{firsts-zip}
 use Rattle.fed_base.specs.declared.faults.Memory.{Memory as NoMemory}
+use Rattle.fed_base.specs.Counts.{counted}
 use Rattle.entity_statement.specs.declared.marks.MarkEntry.{MarkEntry}
 use Rattle.fed_ports.specs.declared.page.Page.{Page}
 use Rattle.fed_ports.specs.declared.page.Page.TheVariants.{Document, Refusal, Garbled, TooLong, NoRoute}
-use Rattle.trust_mark.specs.Counts.{counted}
 use Rattle.trust_mark.specs.declared.status.MarkStatus.{MarkStatus}
 use Rattle.trust_mark.specs.declared.status.MarkStatus.TheVariants as status
 use Rattle.mark_status.specs.declared.heeded.Heeded.{Heeded}

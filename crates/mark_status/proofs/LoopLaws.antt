@@ -5,7 +5,6 @@ use Rattle.std.proofs.Math.Seq.{take-suc}
 use Rattle.std.proofs.lemmas.List.{length-take, take_all}
 use Rattle.std.proofs.lemmas.Slice.Zip.{get_or-zip, length-zip}
 use Rattle.entity_statement.specs.declared.marks.MarkEntry.{MarkEntry}
-use Rattle.trust_mark.specs.Counts.{CountsAtMost, counted}
 use Rattle.trust_mark.proofs.CountLaws.{counted-plus}
 use Rattle.mark_status.specs.declared.heeded.Heeded.{Heeded}
 use Rattle.mark_status.specs.Answers.{Asking, asking_of}
@@ -16,6 +15,7 @@ use Rattle.mark_status.specs.Tells.{Marked}
 use Rattle.mark_status.proofs.HeedLaws.{heeding, one-by}
 use Rattle.mark_status.proofs.KeptLaws.{few-posted, few-tested}
 use Rattle.mark_status.proofs.PostLaws.{later-broken, made-broken}
+use Rattle.fed_base.specs.Counts.{CountsAtMost, counted}
 
 module _ (marks : List MarkEntry) (configs : List (List ℕ)) (long : length marks ≡ length configs) where
   abbrev pairs : List Marked

@@ -2,11 +2,10 @@
 use Rattle.std.proofs.Common.{◌≡◌, ◌≤◌, ◌+◌, ℕ, zero, suc, List, [], ◌∷◌, ◌++◌, length, Option, Some, None, inl, inr, refl, sym, ap, ◌∙◌, subst, arith, append-nil, append_assoc, length-append}
 use Rattle.std.specs.Prelude.{Ok, Err}
 use Rattle.std.proofs.lemmas.List.Sums.{sum_by-append}
-use Rattle.fed_base.specs.Counts.{next_count}
+use Rattle.fed_base.specs.Counts.{counted, next_count}
 use Rattle.fed_ports.specs.Lists.{Added}
 use Rattle.fed_ports.specs.declared.link.LinkFault.TheVariants.{Failed, Memory}
 use Rattle.fed_ports.specs.declared.page.Page.{Page}
-use Rattle.trust_mark.specs.Counts.{counted}
 use Rattle.trust_mark.proofs.CountLaws.{counted-plus}
 use Rattle.mark_status.specs.Posts.{AnswersEach, Answering, Asks, BreaksOff, CountsFaults, Makes, Views, failures, post_of}
 use Rattle.mark_status.specs.declared.post.Post.{Post}

@@ -4,11 +4,11 @@ use Rattle.std.specs.Prelude.{Result, Ok, Err, IfOk, MatchResult, OnErr, is_none
 use Rattle.std.specs.Option.{option_map_or}
 use Rattle.entity_statement.specs.declared.marks.MarkEntry.{MarkEntry}
 use Rattle.fed_base.specs.declared.faults.Memory.{Memory as NoMemory}
+use Rattle.fed_base.specs.Counts.{CountsAtMost, counted}
 use Rattle.fed_ports.specs.declared.link.LinkFault.TheVariants.{Failed}
 use Rattle.fed_ports.specs.declared.page.Page.{Page}
 use Rattle.fed_ports.specs.declared.page.Page.TheVariants.{Document, Refusal, Garbled, TooLong, NoRoute}
 use Rattle.jwk_set.specs.declared.jwk.Jwk.{Jwk}
-use Rattle.trust_mark.specs.Counts.{CountsAtMost, counted, key_in, tests_under}
 use Rattle.trust_mark.specs.declared.status.MarkStatus.{MarkStatus}
 use Rattle.trust_mark.specs.declared.status.MarkStatus.TheVariants as status
 use Rattle.trust_mark.specs.declared.status.StatusAnswer.{StatusAnswer}
@@ -20,6 +20,7 @@ use Rattle.mark_status.specs.Posts.{Asks, BreaksOff, Makes, Views, failures, pos
 use Rattle.mark_status.specs.Stages.{Hears}
 use Rattle.mark_status.specs.Tells.{TellsAt, Told, is_asked, is_fault, tell_of, tell_of_status, tests_of}
 use Rattle.mark_status.proofs.PostLaws.{fault-made, made-broken, none-made, page-made}
+use Rattle.sealed.specs.Tests.{key_in, tests_under}
 
 -- ---- at most one post and one test
 

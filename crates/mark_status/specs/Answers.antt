@@ -9,12 +9,12 @@ use Rattle.fed_json.specs.Trees.{as_object, text_at}
 use Rattle.jws_form.specs.Splitting.{splitting}
 use Rattle.jwk_set.specs.declared.jwk.Jwk.{Jwk}
 use Rattle.sealed.specs.Deciding.{is_sealed_by}
+use Rattle.sealed.specs.Tests.{tests_under}
 use Rattle.entity_statement.specs.Claims.{Identifier}
 use Rattle.entity_statement.specs.Signed.{statement_of}
 use Rattle.entity_statement.specs.Use.{federation_entity}
 use Rattle.entity_statement.specs.declared.marks.MarkEntry.{MarkEntry}
 use Rattle.trust_mark.specs.Claims.{status_claims}
-use Rattle.trust_mark.specs.Counts.{tests_under}
 use Rattle.trust_mark.specs.Marks.{mark_of}
 use Rattle.trust_mark.specs.declared.status.MarkStatus.{MarkStatus}
 use Rattle.trust_mark.specs.declared.status.StatusAnswer.{StatusAnswer}

@@ -4,7 +4,6 @@ use Rattle.std.specs.List.{AllZip, flat_map}
 use Rattle.std.specs.Option.{option_and_then}
 use Rattle.fed_ports.specs.declared.page.Page.TheVariants.{Document}
 use Rattle.entity_statement.specs.declared.marks.MarkEntry.{MarkEntry}
-use Rattle.trust_mark.specs.Counts.{counted}
 use Rattle.trust_mark.specs.Marks.{mark_of}
 use Rattle.trust_mark.specs.declared.status.MarkStatus.TheVariants as status
 use Rattle.mark_status.specs.declared.heeded.Heeded.{Heeded}
@@ -14,6 +13,7 @@ use Rattle.mark_status.specs.declared.tell.Tell.TheVariants.{Active, Unasked}
 use Rattle.mark_status.specs.Answers.{Asking, IsAnswer, asking_of, form_of}
 use Rattle.mark_status.specs.Posts.{Makes, Views, post_of}
 use Rattle.mark_status.specs.Tells.{IsTold, Marked, Told, is_asked, is_fault, keeps}
+use Rattle.fed_base.specs.Counts.{counted}
 
 -- the returned marks with their issuers' configurations, and the moment
 pub record Heeding : Type 0 where

@@ -1,6 +1,6 @@
 -- What an asker in memory holds.
 use Rattle.std.specs.Prelude.{◌≡◌, List, length, get_or, Option, Some, None, Result, Ok, Err}
-use Rattle.fed_ports.specs.Plans.{IsDue, Plan, plan_of}
+use Rattle.fed_base.specs.Plans.{IsDue, Plan, plan_of}
 use Rattle.fed_ports.specs.declared.link.LinkFault.{LinkFault}
 use Rattle.fed_ports.specs.declared.link.LinkFault.TheVariants.{Failed, Memory}
 use Rattle.fed_ports.specs.declared.page.Page.{Page}

@@ -1,13 +1,12 @@
 -- What an asker posts, and what it tells of that (OpenID Federation 1.0 section 8.4.1).
 use Rattle.std.specs.Prelude.{◌≡◌, ◌≤◌, ◌⊎◌, ℕ, List, [], ◌∷◌, length, count_by, Option, Some, None, is_none, Result, Ok, Err}
 use Rattle.std.specs.Option.{ok_or}
-use Rattle.fed_base.specs.Counts.{next_count}
+use Rattle.fed_base.specs.Counts.{counted, next_count}
 use Rattle.fed_ports.specs.Lists.{Added}
 use Rattle.fed_ports.specs.Webs.{HasLinkCause}
 use Rattle.fed_ports.specs.declared.link.LinkFault.{LinkFault}
 use Rattle.fed_ports.specs.declared.link.LinkFault.TheVariants.{Failed, Memory}
 use Rattle.fed_ports.specs.declared.page.Page.{Page}
-use Rattle.trust_mark.specs.Counts.{counted}
 use Rattle.mark_status.specs.declared.post.Post.{Post}
 
 -- ---- one call

@@ -1,12 +1,12 @@
 -- What the stages of a call answer; no public clause cites it.
 use Rattle.std.specs.Prelude.{◌≡◌, ℕ, min, List, [], ◌∷◌, ◌++◌, Option, Some, None, Result, Ok, Err, if◌then◌else◌}
 use Rattle.fed_base.specs.declared.faults.Memory.{Memory as NoMemory}
+use Rattle.fed_base.specs.Counts.{counted}
 use Rattle.jws_form.specs.Compact.{IsCompact}
 use Rattle.jws_form.specs.declared.compact.Compact.{Compact}
 use Rattle.entity_statement.specs.Claims.{Claims}
 use Rattle.entity_statement.specs.Signed.{statement_of}
 use Rattle.entity_statement.specs.declared.marks.MarkEntry.{MarkEntry}
-use Rattle.trust_mark.specs.Counts.{counted}
 use Rattle.trust_mark.specs.Marks.{mark_of}
 use Rattle.trust_mark.specs.declared.fault.MarkFault.{MarkFault}
 use Rattle.trust_mark.specs.declared.fault.MarkFault.TheVariants.{Memory}

@@ -5,10 +5,11 @@ ghost use Rattle.std.specs.Result.{result_ok};
 ghost use Rattle.jws_form.specs.Compact.{IsCompact};
 ghost use Rattle.jws_form.specs.Splitting.{splitting};
 ghost use Rattle.sealed.specs.Deciding.{is_sealed_by};
-ghost use Rattle.trust_mark.specs.Counts.{counted, tests_under};
+ghost use Rattle.sealed.specs.Tests.{tests_under};
 ghost use Rattle.trust_mark.specs.Stages.{Tells};
 ghost use Rattle.mark_status.specs.Answers.{status_answer_of};
 ghost use Rattle.mark_status.specs.Stages.{IsReading, Keeps};
+ghost use Rattle.fed_base.specs.Counts.{counted};
 
 use fed_base::{Ledger, Memory, Steps};
 use jwk_set::JwkSet;

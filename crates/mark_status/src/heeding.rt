@@ -3,12 +3,12 @@
 ghost use Rattle.std.specs.Prelude.{◌≡◌, ◌≤◌, List, ℕ, length, All, Contains, IfOk, IsSome, MatchResult, OnErr, OnOk, Some};
 ghost use Rattle.entity_statement.specs.Signed.{statement_of};
 ghost use Rattle.entity_statement.specs.declared.marks.MarkEntry.{MarkEntry as AnyEntry};
-ghost use Rattle.trust_mark.specs.Counts.{CountsAtMost, counted};
 ghost use Rattle.trust_mark.specs.Marks.{mark_of};
 ghost use Rattle.mark_status.specs.Heeding.{Heeds, HeedsBy, IsKept, IsKeptOrTold, around, asked_in, end_of, faults_in, heeding_of};
 ghost use Rattle.mark_status.specs.Posts.{BreaksOff, CountsFaults, views_of};
 ghost use Rattle.mark_status.specs.Stages.{HeedsOne, asking_by};
 ghost use Rattle.mark_status.specs.declared.post.Post.{Post};
+ghost use Rattle.fed_base.specs.Counts.{CountsAtMost, counted};
 
 use crate::asker::Asker;
 use crate::heeded::Heeded;

@@ -1,7 +1,7 @@
 // An asker of given pages, which tells its posts.
 
 ghost use Rattle.std.specs.Prelude.{◌≡◌, [], ◌∷◌, ◌++◌, Some, IfOk, OnErr, OnOk};
-ghost use Rattle.fed_ports.specs.Plans.{after_call};
+ghost use Rattle.fed_base.specs.Plans.{after_call};
 ghost use Rattle.mark_status.specs.MemoryAskers.{IsAnswered, IsPlanned, asker_asked, asker_pages, asker_plan, asker_posts};
 ghost use Rattle.mark_status.specs.Posts.{Asks, asked_of, post_of};
 

@@ -2,13 +2,13 @@
 
 ghost use Rattle.std.specs.Prelude.{◌≡◌, IfOk, IsSome, MatchResult, OnErr, Some};
 ghost use Rattle.entity_statement.specs.Signed.{statement_of};
-ghost use Rattle.trust_mark.specs.Counts.{counted};
 ghost use Rattle.trust_mark.specs.Marks.{mark_of};
 ghost use Rattle.mark_status.specs.Answers.{asking_of, is_about, tests_of_text, told_by};
 ghost use Rattle.mark_status.specs.Heeding.{around, end_of};
 ghost use Rattle.mark_status.specs.Posts.{BreaksOff, views_of};
 ghost use Rattle.mark_status.specs.Stages.{Hears, IsReading, asking_by};
 ghost use Rattle.mark_status.specs.Tells.{tell_of, tell_of_status, tests_of};
+ghost use Rattle.fed_base.specs.Counts.{counted};
 
 use crate::answer::{SignedAnswer, is_sealed};
 use crate::asker::Asker;

@@ -3,12 +3,13 @@ use Rattle.std.proofs.Common.{◌≡◌, ◌+◌, ◌<◌, ℕ, List, [], ◌∷
 use Rattle.std.proofs.lemmas.List.{map-append}
 use Rattle.std.specs.List.{AllByRecursion}
 use Rattle.fed_ports.specs.Lists.{Added, Gave}
+use Rattle.fed_ports.specs.Times.{ClockAt}
 use Rattle.authority_core.specs.Nodes.{Node}
 use Rattle.fed_serve.specs.Resolutions.{Walking}
 use Rattle.fed_serve.specs.declared.node.Node.{Node as AnyNode}
 use Rattle.fed_serve.specs.declared.served.Served.{Served}
 use Rattle.fed_serve.specs.declared.serving.ServeFault.{ServeFault}
-use Rattle.fed_serve.specs.Moments.{Around, ClockAt, PeerAt}
+use Rattle.fed_serve.specs.Moments.{Around, PeerAt}
 use Rattle.fed_serve.specs.Serving.{Serves as ServesOne}
 use Rattle.fed_serve.proofs.Walks.{serves}
 use Rattle.fed_serve.specs.declared.part.ResolverPart.{ResolverPart}

@@ -6,13 +6,14 @@ use Rattle.fed_ports.specs.declared.clock.Clock.{Ghosts as ClockGhosts}
 use Rattle.fed_ports.specs.declared.network.Network.{Ghosts as NetworkGhosts}
 use Rattle.fed_ports.specs.declared.sink.Sink.{Ghosts as SinkGhosts}
 use Rattle.fed_ports.specs.declared.source.Source.{Ghosts as SourceGhosts}
+use Rattle.fed_ports.specs.Times.{ClockAt, clock_at}
 use Rattle.authority_core.specs.Nodes.{Node as Authority}
 use Rattle.resolve_reply.specs.declared.reply.Reply.{Reply}
 use Rattle.resolve_round.specs.declared.trace.Trace.{Trace}
 use Rattle.fed_resolver.specs.declared.outcome.Refusal.{Refusal}
 use Rattle.fed_serve.specs.Resolutions.{CallAt}
 use Rattle.fed_serve.specs.declared.node.Node.{Node}
-use Rattle.fed_serve.specs.Moments.{ClockAt, PeerAt, around, clock_at, peer_at}
+use Rattle.fed_serve.specs.Moments.{PeerAt, around, peer_at}
 use Rattle.fed_serve.specs.Serving.{Serves as ServesOne}
 use Rattle.fed_serve.specs.declared.served.Served.{Served}
 use Rattle.fed_serve.specs.declared.serving.ServeFault.{ServeFault}

@@ -1,6 +1,6 @@
 -- The whole rehearsal, from its steps.
 use Rattle.std.proofs.Common.{◌≡◌, ℕ, List, [], ◌++◌, true, false, Option, Some, None, Result, Ok, Err, IfErr, refl, ap, ◌∙◌, subst}
-use Rattle.fed_ports.specs.Plans.{Plan}
+use Rattle.fed_base.specs.Plans.{Plan}
 use Rattle.fed_net.specs.declared.memory_link.MemoryLink.{MemoryLink}
 use Rattle.fed_net.specs.declared.named_page.NamedPage.{NamedPage}
 use Rattle.fed_net.specs.MemoryLinks.{link_plan, link_web, page_of}

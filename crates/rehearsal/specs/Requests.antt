@@ -19,7 +19,7 @@ use Rattle.fed_serve.specs.declared.node.Node.{Node}
 use Rattle.fed_serve.specs.declared.served.Served.{Served}
 use Rattle.fed_serve.specs.declared.serving.ServeFault.{ServeFault}
 use Rattle.fed_serve.specs.declared.serving.ServeFault.TheVariants as serve
-use Rattle.fed_serve.specs.Moments.{ClockAt, PeerAt, around, clock_at}
+use Rattle.fed_serve.specs.Moments.{PeerAt, around}
 use Rattle.fed_serve.specs.Serving.{Serves}
 use Rattle.node_files.specs.declared.parts.Parts.{Parts}
 use Rattle.node_files.specs.ResolvingParts.{ArePartsOf}
@@ -28,6 +28,7 @@ use Rattle.rehearsal.specs.declared.fault.RehearsalFault.TheVariants.{Worn, Memo
 use Rattle.rehearsal.specs.declared.requesting.Answer.{Answer}
 use Rattle.rehearsal.specs.Federations.{Federation, pages_in}
 use Rattle.rehearsal.specs.Moments.{moment}
+use Rattle.fed_ports.specs.Times.{ClockAt, clock_at}
 
 -- ---- the resolver
 

@@ -8,7 +8,7 @@ use Rattle.std.proofs.lemmas.Str.{is_utf8-from_IsUtf8}
 use Rattle.fed_json.specs.declared.tree.Json.{Json, Int, Object, Text, List as ListOf, the_lemmas}
 use Rattle.fed_json.specs.declared.tree.Member.{Member}
 use Rattle.fed_json.specs.Forms.{IsWhole, has_odd, in_bounds, is_before, members_whole, rising, well_formed, whole}
-use Rattle.fed_json.specs.Members.{text_member}
+use Rattle.fed_json.specs.Members.{number_member, text_member}
 use Rattle.fed_json.specs.Reading.{member_of}
 use Rattle.fed_json.specs.Trees.{as_object, object_members}
 use Rattle.fed_json.proofs.Accessors.{as_object-Object, whole-members}
@@ -19,7 +19,6 @@ use Rattle.jwk_set.proofs.WrittenKeys.{ascii, whole_text}
 use Rattle.sealed.specs.Sealing.{IsObject}
 use Rattle.entity_statement.specs.Claims.{Identifier, mark_utf8}
 use Rattle.entity_statement.specs.declared.marks.MarkEntry.{MarkEntry}
-use Rattle.trust_mark.specs.Statuses.{number_member}
 use Rattle.resolve_reply.specs.declared.said.Said.{Said}
 use Rattle.resolve_reply.specs.Replies.{IsWritable, common_members, cut_to, is_wanted, mark_tree, marks_member, reply_claims}
 

@@ -11,7 +11,7 @@ use Rattle.jwk_set.specs.declared.jwk.Jwk.{Jwk}
 use Rattle.entity_statement.specs.Claims.{Claims, Identifier, mark_utf8}
 use Rattle.entity_statement.specs.declared.marks.MarkEntry.{MarkEntry}
 use Rattle.trust_mark.specs.Conditions.{admits, claims_reason}
-use Rattle.trust_mark.specs.Counts.{CountsAtMost, counted, mark_tests}
+use Rattle.trust_mark.specs.Counts.{mark_tests}
 use Rattle.trust_mark.specs.Marks.{Admits, MarkOk, issuers_of, mark_of}
 use Rattle.trust_mark.specs.declared.mark.Mark.{Mark}
 use Rattle.trust_mark.specs.declared.verdict.MarkReason.TheVariants.{Kind, Unlisted, Issuer}
@@ -24,6 +24,7 @@ use Rattle.resolve_reply.specs.declared.marks.GoodMarks.{GoodMarks}
 use Rattle.resolve_reply.specs.Looking.{Decides, IsLookedAt, Takes, TakesBy, tests_with}
 use Rattle.resolve_reply.specs.Marks.{AreGood, AreThose, IsReturned, Judging, case_by, is_searched, issuers_by_mark, looked_at, searched_for, tests_by, tests_for, tests_of_marks}
 use Rattle.resolve_reply.specs.Replies.{least_end, least_with}
+use Rattle.fed_base.specs.Counts.{CountsAtMost, counted}
 
 -- ---- lists with one more element
 

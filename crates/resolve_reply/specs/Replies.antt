@@ -6,13 +6,12 @@ use Rattle.std.specs.Str.{is_utf8}
 use Rattle.fed_json.specs.declared.tree.Json.{Json, Text, Object, List as ListOf}
 use Rattle.fed_json.specs.declared.tree.Member.{Member}
 use Rattle.fed_json.specs.Forms.{IsWhole}
-use Rattle.fed_json.specs.Members.{text_member}
+use Rattle.fed_json.specs.Members.{number_member, text_member}
 use Rattle.fed_json.specs.Reading.{member_of}
 use Rattle.fed_json.specs.Trees.{object_members}
 use Rattle.sealed.specs.Sealing.{sealed_text}
 use Rattle.entity_statement.specs.Claims.{Identifier, mark_utf8}
 use Rattle.entity_statement.specs.declared.marks.MarkEntry.{MarkEntry}
-use Rattle.trust_mark.specs.Statuses.{number_member}
 use Rattle.trust_mark.specs.declared.mark.Mark.{Mark}
 use Rattle.resolve_reply.specs.declared.signer.Signer.{Signer}
 use Rattle.resolve_reply.specs.declared.reply.Reply.{Reply}

@@ -3,10 +3,9 @@
 ghost use Rattle.std.specs.Prelude.{◌≡◌, ◌<◌, ◌^◌, ◌++◌, [], ◌∷◌, codes, map, IfOk, OnOk};
 ghost use Rattle.fed_json.specs.declared.tree.Json.{Text as TextOf, List as ListOf};
 ghost use Rattle.fed_json.specs.Forms.{IsWhole};
-ghost use Rattle.fed_json.specs.Members.{text_member};
+ghost use Rattle.fed_json.specs.Members.{number_member, text_member};
 ghost use Rattle.fed_json.specs.Reading.{member_of};
 ghost use Rattle.sealed.specs.Sealing.{IsObject};
-ghost use Rattle.trust_mark.specs.Statuses.{number_member};
 ghost use Rattle.resolve_reply.specs.Replies.{IsWritable, mark_tree, marks_member, reply_claims};
 
 use crate::said::Said;

@@ -5,11 +5,11 @@ ghost use Rattle.std.specs.List.{list_all};
 ghost use Rattle.std.specs.Option.{option_copied};
 ghost use Rattle.entity_statement.specs.Claims.{mark_utf8};
 ghost use Rattle.entity_statement.specs.Told.{told};
-ghost use Rattle.trust_mark.specs.Counts.{CountsAtMost, counted};
 ghost use Rattle.trust_mark.specs.Marks.{case_of};
 ghost use Rattle.resolve_reply.specs.Looking.{IsLookedAt, Takes, keys_in, tests_with};
 ghost use Rattle.resolve_reply.specs.Marks.{AreGood, issuers_by_mark, judging_by, keys_of, looked_at, tests_of_marks};
 ghost use Rattle.resolve_reply.specs.Replies.{least_end};
+ghost use Rattle.fed_base.specs.Counts.{CountsAtMost, counted};
 
 use crate::issuers::{Issuer, MarkIssuers};
 use entity_id::EntityId;

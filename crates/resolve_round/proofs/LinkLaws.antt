@@ -2,12 +2,11 @@
 use Rattle.std.proofs.Common.{◌≡◌, ◌≤◌, ◌<◌, ◌+◌, ℕ, zero, suc, List, [], ◌∷◌, min, cond, Option, Some, None, Result, Ok, Err, refl, sym, ap, ◌∙◌, subst, inl, inr, ⊎_elim, ◌⊎◌, arith}
 use Rattle.std.specs.Prelude.{IfSome}
 use Rattle.std.proofs.lemmas.List.Sums.{sum_by-le-sum_by}
-use Rattle.fed_base.specs.Counts.{Rose, next_count, last_count}
+use Rattle.fed_base.specs.Counts.{Rose, counted, last_count, next_count}
 use Rattle.fed_ports.specs.declared.page.Page.{Page}
 use Rattle.fed_ports.specs.declared.link.LinkFault.{LinkFault}
 use Rattle.fed_ports.specs.declared.link.LinkFault.TheVariants.{Failed, Memory}
 use Rattle.fed_ports.specs.Webs.{HasLinkCause, LinkCounted, Serves, Web, page_in}
-use Rattle.chain_check.specs.Counts.{counted}
 use Rattle.chain_climb.proofs.Elements.{among-split}
 use Rattle.statement_shelf.specs.declared.calls.Proven.{Proven}
 use Rattle.resolve_round.specs.declared.halt.Halt.{Halt}

@@ -9,9 +9,9 @@ use Rattle.jwk_set.specs.declared.jwk.Jwk.{Jwk}
 use Rattle.sealed.specs.Deciding.{has_signature, is_sealed, is_sealed_by}
 use Rattle.sealed.specs.Seals.{named_key, pair_of}
 use Rattle.sealed.proofs.DecidingLaws.{is_sealed-from_IsSealed, is_sealed-from_IsUnsealed}
+use Rattle.sealed.specs.Tests.{key_in}
 use Rattle.entity_statement.specs.Claims.{Claims}
 use Rattle.entity_statement.specs.Signed.{statement_of}
-use Rattle.chain_check.specs.Signatures.{key_in}
 use Rattle.chain_check.proofs.SignatureLaws.{key_in-compact}
 use Rattle.resolve_round.specs.declared.trace.Search.{Search}
 use Rattle.resolve_round.specs.declared.trace.Trace.{Trace}

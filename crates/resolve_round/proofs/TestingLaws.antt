@@ -2,10 +2,9 @@
 use Rattle.std.proofs.Common.{◌≡◌, ℕ, List, [], ◌∷◌, ◌++◌, length, map, Bool, true, false, refl, sym, ap, ◌∙◌, subst, inl, inr, ⊎_elim, append-nil, append_assoc, length-append}
 use Rattle.std.proofs.lemmas.List.Elements.{filter_map-append}
 use Rattle.jwk_set.specs.declared.jwk.Jwk.{Jwk}
-use Rattle.chain_check.specs.Counts.{counted}
 use Rattle.chain_climb.specs.Elements.{Among}
 use Rattle.chain_climb.proofs.Elements.{among-left, among-right}
-use Rattle.fed_base.specs.Counts.{next_count}
+use Rattle.fed_base.specs.Counts.{counted, next_count}
 use Rattle.jws_form.specs.declared.compact.Compact.{Compact}
 use Rattle.jws_form.specs.Compact.{IsCompact}
 use Rattle.sealed.specs.Answers.{IsTested}

@@ -1,6 +1,5 @@
 -- How a round uses its link.
 use Rattle.std.specs.Prelude.{◌≡◌, ◌≤◌, ◌<◌, ◌+◌, ◌⊎◌, ℕ, List, Option, IfSome, Result, Ok, Err}
-use Rattle.chain_check.specs.Counts.{counted}
 use Rattle.chain_climb.specs.Elements.{Among}
 use Rattle.fed_ports.specs.declared.page.Page.{Page}
 use Rattle.fed_ports.specs.Webs.{Web, page_in}
@@ -9,6 +8,7 @@ use Rattle.resolve_round.specs.declared.halt.Halt.TheVariants as halt
 use Rattle.resolve_round.specs.declared.trace.Got.TheVariants.{Fetched}
 use Rattle.resolve_round.specs.declared.trace.Search.{Search}
 use Rattle.resolve_round.specs.Walking.{Giving, Stumbled, Walked}
+use Rattle.fed_base.specs.Counts.{counted}
 
 -- a link at one moment: its counts of calls and of faults, and its web, where it tells one
 pub record LinkSeen : Type 0 where

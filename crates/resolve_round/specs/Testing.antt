@@ -1,17 +1,17 @@
 -- What a test of a pair adds to a trace.
 use Rattle.std.specs.Prelude.{◌≡◌, ◌⊎◌, ℕ, List, ◌++◌, length, Bool, true, false, Some}
 use Rattle.jwk_set.specs.declared.jwk.Jwk.{Jwk}
-use Rattle.chain_check.specs.Counts.{counted}
-use Rattle.chain_check.specs.Signatures.{key_in}
 use Rattle.sealed.specs.Seals.{Pair}
 use Rattle.sealed.specs.declared.tested.Tested.{Tested}
 use Rattle.sealed.specs.declared.tested.Tested.TheVariants.{Yes, No}
+use Rattle.sealed.specs.Tests.{key_in}
 use Rattle.resolve_round.specs.declared.trace.Check.{Check}
 use Rattle.resolve_round.specs.declared.trace.Search.{Search}
 use Rattle.resolve_round.specs.declared.trace.Trace.{Trace}
 use Rattle.resolve_round.specs.Knowing.{HoldsSoFar, IsKnownGood, with_search}
 use Rattle.resolve_round.specs.Told.{NamedByStatement, Obtained, ProvesGood}
 use Rattle.resolve_round.specs.Traces.{looks_in, puts_in}
+use Rattle.fed_base.specs.Counts.{counted}
 
 -- the check of a pair with this answer
 abbrev pub check_of : Pair → Bool → Check

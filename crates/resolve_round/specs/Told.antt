@@ -2,11 +2,11 @@
 use Rattle.std.specs.Prelude.{◌≡◌, ◌⊎◌, ◌+◌, ℕ, List, [], ◌∷◌, ◌++◌, length, map, MatchBool, true, Some, slice_index_or}
 use Rattle.jwk_set.specs.declared.jwk.Jwk.{Jwk}
 use Rattle.sealed.specs.Seals.{IsSealed, IsUnsealed, Pair}
+use Rattle.sealed.specs.Tests.{key_in}
 use Rattle.entity_statement.specs.Claims.{Claims}
 use Rattle.entity_statement.specs.Signed.{statement_of}
 use Rattle.chain_check.specs.Chains.{Texts, statements_of}
 use Rattle.chain_check.specs.Judging.{seal_keys, seal_place}
-use Rattle.chain_check.specs.Signatures.{key_in}
 use Rattle.fed_base.specs.Places.{HoldsBelow}
 use Rattle.fed_ports.specs.declared.page.Page.{Page}
 use Rattle.chain_climb.specs.Climbs.{Need}

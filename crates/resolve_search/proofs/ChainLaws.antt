@@ -15,12 +15,13 @@ use Rattle.jwk_set.specs.declared.jwk.Jwk.{Jwk}
 use Rattle.jwk_set.specs.declared.set.JwkSet.{JwkSet}
 use Rattle.jwk_set.specs.KeySets.{key_named}
 use Rattle.sealed.specs.Seals.{IsSealed, IsSealedBy, IsUnsealed, Pair, named_key}
+use Rattle.sealed.specs.Tests.{key_in}
 use Rattle.entity_statement.specs.Claims.{Claims}
 use Rattle.entity_statement.specs.Signed.{statement_of}
 use Rattle.entity_statement.specs.declared.signed.SignedStatement.{SignedStatement}
 use Rattle.chain_check.specs.Chains.{HasForm, Texts, max_statements, statements_of}
 use Rattle.chain_check.specs.Judging.{AtSeal, IsJudgementOn, IsKnownSeal, IsOfItsText, IsUnknown, NeedsTest, pair_of, seal_keys, seal_place, texts_of}
-use Rattle.chain_check.specs.Signatures.{AreSigned, key_in, keys_at}
+use Rattle.chain_check.specs.Signatures.{AreSigned, keys_at}
 use Rattle.chain_check.specs.Validity.{Case, IsValid, ToSignatures, case_of, chain_of}
 use Rattle.chain_check.specs.declared.judged.Judged.TheVariants.{Told}
 use Rattle.chain_check.specs.declared.tried.Tried.{Tried}

@@ -5,6 +5,7 @@ use Rattle.jws_form.proofs.Laws.{IsCompact-unique}
 use Rattle.slh_dsa.specs.Verifying.{Verifies}
 use Rattle.jwk_set.specs.declared.jwk.Jwk.{Jwk}
 use Rattle.sealed.specs.Seals.{IsSealedBy, IsUnsealed, named_key, pair_of}
+use Rattle.sealed.specs.Tests.{key_in}
 use Rattle.fed_base.specs.Places.{FailsFirst, HoldsBelow}
 use Rattle.chain_limits.specs.declared.verdict.LimitVerdict.{LimitVerdict}
 use Rattle.chain_limits.specs.declared.verdict.LimitVerdict.TheVariants as limit
@@ -15,7 +16,6 @@ use Rattle.chain_check.specs.declared.reason.Reason.{Reason}
 use Rattle.chain_check.specs.declared.reason.Reason.TheVariants.{Form, Names, Times, Signature, PathLength, Name, Conflict, Policy}
 use Rattle.chain_check.specs.declared.verdict.Verdict.TheVariants.{Refused}
 use Rattle.chain_check.specs.Metadata.{limited_places}
-use Rattle.chain_check.specs.Signatures.{key_in}
 use Rattle.chain_check.specs.Validity.{Case, IsValid, chain_of}
 use Rattle.chain_check.specs.Verdicts.{IsVerdictOn}
 use Rattle.chain_check.proofs.SignatureLaws.{key_in-compact}

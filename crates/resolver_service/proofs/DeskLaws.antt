@@ -7,6 +7,7 @@ use Rattle.fed_base.specs.declared.faults.Failed.{Failed}
 use Rattle.fed_base.specs.declared.ledger.Plain.{Plain}
 use Rattle.fed_ports.specs.Causes.{HasCause}
 use Rattle.fed_ports.specs.Lists.{Added, Gave}
+use Rattle.fed_ports.specs.Times.{ClockAt, IsOneReading}
 use Rattle.http_plain.specs.declared.link.HttpLink.{HttpLink}
 use Rattle.http_plain.specs.declared.route.Route.{Route}
 use Rattle.turn_log.specs.Groups.{AreJoined, IsSame, known}
@@ -25,7 +26,6 @@ use Rattle.fed_serve.specs.declared.served.Served.{Served}
 use Rattle.fed_serve.specs.declared.serving.ServeFault.{ServeFault}
 use Rattle.fed_serve.specs.declared.serving.ServeFault.TheVariants.{ReadFault, WriteFault, Ended, Worn}
 use Rattle.fed_serve.specs.Desks.{AreServedAt, IsFree, IsServedAt, NetworkAt, ServesMany, Views, desks_at}
-use Rattle.fed_serve.specs.Moments.{ClockAt, IsOneReading}
 use Rattle.fed_serve.specs.Handlings.{Handling, dealt, issued, not_asked, resolved, unread}
 use Rattle.fed_serve.specs.Uses.{IsWornBy, Uses}
 use Rattle.resolver_service.specs.declared.stop.Stop.{Stop}

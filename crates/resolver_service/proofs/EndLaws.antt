@@ -3,6 +3,7 @@ use Rattle.std.proofs.Common.{◌≡◌, ◌<◌, ℕ, List, [], Option, Some, E
 use Rattle.std.specs.Prelude.{◌⊎◌, min}
 use Rattle.fed_ports.specs.Exchanges.{Exchange}
 use Rattle.fed_ports.specs.Stores.{Files}
+use Rattle.fed_ports.specs.Times.{ClockAt}
 use Rattle.authority_core.specs.Nodes.{Node as Authority}
 use Rattle.turn_log.specs.Groups.{IsHistory}
 use Rattle.turn_log.specs.Runs.{call_limit}
@@ -12,7 +13,6 @@ use Rattle.statement_shelf.specs.Shelf.{ShelfStep}
 use Rattle.resolve_round.specs.Acts.{HasCounted}
 use Rattle.fed_serve.specs.declared.part.ResolverPart.{ResolverPart}
 use Rattle.fed_serve.specs.Desks.{network_at}
-use Rattle.fed_serve.specs.Moments.{ClockAt}
 use Rattle.fed_serve.specs.declared.node.Node.{Node}
 use Rattle.jwk_set.specs.declared.set.JwkSet.{JwkSet}
 use Rattle.resolver_service.specs.Alone.{HasSeenNothing}

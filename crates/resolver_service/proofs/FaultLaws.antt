@@ -2,8 +2,7 @@
 use Rattle.std.proofs.Common.{◌≡◌, ◌≢◌, ◌≤◌, ◌+◌, ℕ, zero, suc, List, [], ◌∷◌, ◌++◌, map, Err, refl, sym, ap, subst, le_trans, arith}
 use Rattle.std.proofs.Math.Nat.{le-min, min-le_right}
 use Rattle.std.proofs.lemmas.List.Sums.{sum_by-cons}
-use Rattle.fed_base.specs.Counts.{Rose, last_count, next_count}
-use Rattle.trust_mark.specs.Counts.{counted}
+use Rattle.fed_base.specs.Counts.{Rose, counted, last_count, next_count}
 use Rattle.resolve_reply.specs.declared.signer.Signer.{Signer}
 use Rattle.resolve_round.specs.Courses.{Course, search_of}
 use Rattle.resolve_round.specs.Rounds.{IsLast}

@@ -8,6 +8,7 @@ use Rattle.fed_base.specs.declared.faults.Memory.{Memory}
 use Rattle.fed_base.specs.declared.ledger.Plain.{Plain}
 use Rattle.fed_ports.specs.Causes.{HasCause}
 use Rattle.fed_ports.specs.Lists.{Added, Gave}
+use Rattle.fed_ports.specs.Times.{ClockAt, IsOneReading}
 use Rattle.http_plain.specs.declared.link.HttpLink.{HttpLink}
 use Rattle.http_plain.specs.declared.route.Route.{Route}
 use Rattle.turn_log.specs.Groups.{AreJoined, known}
@@ -20,7 +21,6 @@ use Rattle.fed_serve.specs.declared.part.ResolverPart.{ResolverPart}
 use Rattle.fed_serve.specs.declared.desk.Desk.{Desk}
 use Rattle.fed_serve.specs.declared.node.Node.{Node}
 use Rattle.fed_serve.specs.Desks.{IsServedAt, NetworkAt, ServesMany, Views, desks_at}
-use Rattle.fed_serve.specs.Moments.{ClockAt, IsOneReading}
 use Rattle.resolver_service.specs.declared.stop.Stop.{Stop}
 use Rattle.resolver_service.specs.declared.stop.Stop.TheVariants as stop
 use Rattle.resolver_service.specs.Batches.{AreEnded, IsNewDesk, Progress, ServesDesks, ServiceViews, Setup, Standing, at_desks, is_worn, peers_at, peers_of, progress, setup, standing}

@@ -3,7 +3,7 @@ use Rattle.std.proofs.Common.{◌≡◌, ◌≢◌, ◌≤◌, ◌<◌, ◌⊎�
 use Rattle.std.specs.Prelude.{count_by}
 use Rattle.std.proofs.lemmas.List.{append-nil, append_assoc, append_cancel_left}
 use Rattle.std.proofs.lemmas.List.Sums.{sum_by-cons}
-use Rattle.fed_base.specs.Counts.{last_count}
+use Rattle.fed_base.specs.Counts.{counted, last_count}
 use Rattle.fed_ports.specs.declared.page.Page.{Page}
 use Rattle.fed_ports.specs.declared.page.Page.TheVariants.{NoRoute}
 use Rattle.fed_ports.specs.Exchanges.{Exchange}
@@ -12,7 +12,6 @@ use Rattle.http_plain.specs.declared.route.Route.{Route}
 use Rattle.http_plain.specs.Clients.{ClientPage, HasNoRoute}
 use Rattle.node_config.specs.Nodes.{Resolver}
 use Rattle.authority_core.specs.Nodes.{Node}
-use Rattle.trust_mark.specs.Counts.{counted}
 use Rattle.chain_climb.specs.Elements.{Among}
 use Rattle.chain_climb.proofs.Elements.{among-flat_map, among-left, among-right, flat_map-among}
 use Rattle.resolve_reply.specs.declared.reply.Reply.{Reply}

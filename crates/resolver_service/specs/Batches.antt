@@ -4,6 +4,7 @@ use Rattle.fed_base.specs.Ledgers.{plain_count}
 use Rattle.fed_base.specs.declared.ledger.Plain.{Plain}
 use Rattle.fed_ports.specs.Exchanges.{Exchange}
 use Rattle.fed_ports.specs.Lists.{Added, Gave}
+use Rattle.fed_ports.specs.Times.{ClockAt, IsOneReading}
 use Rattle.http_plain.specs.declared.link.HttpLink.{HttpLink}
 use Rattle.http_plain.specs.declared.route.Route.{Route}
 use Rattle.http_plain.specs.Links.{Listening, link_calls, link_network, link_routes}
@@ -18,7 +19,7 @@ use Rattle.fed_serve.specs.declared.served.Served.{Served}
 use Rattle.fed_serve.specs.declared.serving.ServeFault.{ServeFault}
 use Rattle.fed_serve.specs.declared.serving.ServeFault.TheVariants.{Worn}
 use Rattle.fed_serve.specs.Desks.{AreServedAt, IsServedAt, NetworkAt, Views, views_of}
-use Rattle.fed_serve.specs.Moments.{ClockAt, IsOneReading, PeerAt}
+use Rattle.fed_serve.specs.Moments.{PeerAt}
 use Rattle.resolver_service.specs.Exchanged.{link_gave}
 
 -- ---- one moment

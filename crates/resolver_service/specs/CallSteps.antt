@@ -2,7 +2,6 @@
 use Rattle.std.specs.Prelude.{◌≡◌, ℕ, List, IfOk, Err}
 use Rattle.std.specs.declared.snapshot.Snapshot.{Snapshot}
 use Rattle.fed_base.specs.Counts.{Rose}
-use Rattle.fed_serve.specs.Moments.{IsOneReading}
 use Rattle.sealed.specs.Sealing.{IsSealedFor}
 use Rattle.turn_log.specs.Groups.{IsUnused, OwnsEach}
 use Rattle.turn_log.specs.declared.kept.KeptTable.{KeptTable}
@@ -24,6 +23,7 @@ use Rattle.resolver_service.specs.Alone.{ResolvesAlone}
 use Rattle.resolver_service.specs.Calls.{Around, HasKeys}
 use Rattle.resolver_service.specs.Exchanged.{ExchangedBy}
 use Rattle.node_files.specs.ResolvingParts.{booked_keys}
+use Rattle.fed_ports.specs.Times.{IsOneReading}
 
 -- what one call tells of its trace at a moment, by the keys that its book was opened with
 pub record TellsBy (signer : Signer) (anchors : List AnchorKeys) (request : ResolveRequest) (moment : ℕ) (outcome : Outcome) : Type 0 where

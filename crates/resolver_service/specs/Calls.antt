@@ -2,13 +2,13 @@
 use Rattle.std.specs.Prelude.{◌≡◌, ◌≤◌, ◌⊎◌, ℕ, List, [], length, map, Bool, true, false, Option, Some, None, IfOk, Result, Ok, Err}
 use Rattle.fed_base.specs.Counts.{Rose}
 use Rattle.fed_ports.specs.Exchanges.{Exchange}
+use Rattle.fed_ports.specs.Times.{ClockAt, IsOneReading}
 use Rattle.jwk_set.specs.declared.jwk.Jwk.{Jwk}
 use Rattle.jws_form.specs.Compact.{max_bytes}
 use Rattle.sealed.specs.Seals.{IsSealedBy}
 use Rattle.key_ring.specs.Sets.{live_set, signer_seeds}
 use Rattle.node_config.specs.Nodes.{Resolver}
 use Rattle.authority_core.specs.Nodes.{Node}
-use Rattle.fed_serve.specs.Moments.{ClockAt, IsOneReading}
 use Rattle.turn_log.specs.Runs.{call_limit}
 use Rattle.turn_log.specs.Groups.{known}
 use Rattle.statement_shelf.specs.Passes.{CommonsPass}

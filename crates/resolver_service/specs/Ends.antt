@@ -2,6 +2,7 @@
 use Rattle.std.specs.Prelude.{◌≡◌, ◌<◌, ◌⊎◌, ℕ, [], min, Option, Some, None}
 use Rattle.fed_base.specs.Counts.{Rose}
 use Rattle.fed_ports.specs.Stores.{Files}
+use Rattle.fed_ports.specs.Times.{ClockAt}
 use Rattle.node_config.specs.Nodes.{Resolver}
 use Rattle.authority_core.specs.Nodes.{Node as Authority}
 use Rattle.turn_log.specs.Groups.{IsHistory, known}
@@ -12,7 +13,6 @@ use Rattle.statement_shelf.specs.Shelf.{ShelfStep}
 use Rattle.resolve_round.specs.Acts.{HasCounted}
 use Rattle.fed_serve.specs.declared.node.Node.{Node}
 use Rattle.fed_serve.specs.Desks.{NetworkAt}
-use Rattle.fed_serve.specs.Moments.{ClockAt}
 use Rattle.node_files.specs.Moments.{NodeAt}
 use Rattle.node_files.specs.Orders.{Order}
 use Rattle.node_files.specs.NodeFiles.{IsNodeOf, IsResolver}

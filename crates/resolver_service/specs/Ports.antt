@@ -5,11 +5,12 @@ use Rattle.fed_ports.specs.declared.link.Link.{Ghosts as LinkGhosts}
 use Rattle.fed_ports.specs.declared.network.Network.{Ghosts as NetworkGhosts}
 use Rattle.fed_ports.specs.declared.sink.Sink.{Ghosts as SinkGhosts}
 use Rattle.fed_ports.specs.declared.source.Source.{Ghosts as SourceGhosts}
+use Rattle.fed_ports.specs.Times.{ClockAt, clock_at}
 use Rattle.http_plain.specs.Links.{Listening, listening}
 use Rattle.statement_shelf.specs.Passes.{CommonsKnown}
 use Rattle.fed_serve.specs.Resolutions.{call_at}
 use Rattle.fed_serve.specs.Desks.{NetworkAt, Views, network_at, views_of}
-use Rattle.fed_serve.specs.Moments.{ClockAt, PeerAt, clock_at, peer_at}
+use Rattle.fed_serve.specs.Moments.{PeerAt, peer_at}
 use Rattle.resolver_service.specs.Batches.{Progress, ServiceViews, Standing, progress, service_views, standing}
 use Rattle.resolver_service.specs.Calls.{Around as CallAround, around as around_call}
 use Rattle.resolver_service.specs.Ends.{Around, around}

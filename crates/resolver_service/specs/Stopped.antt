@@ -2,6 +2,7 @@
 use Rattle.std.specs.Prelude.{◌≡◌, ◌<◌, ◌⊎◌, ℕ, List, [], ◌∷◌, length, All, true, Option}
 use Rattle.fed_base.specs.declared.ledger.Plain.{Plain}
 use Rattle.fed_ports.specs.Lists.{Added, Gave}
+use Rattle.fed_ports.specs.Times.{IsOneReading}
 use Rattle.http_plain.specs.declared.link.HttpLink.{HttpLink}
 use Rattle.turn_log.specs.Groups.{known}
 use Rattle.statement_shelf.specs.Passes.{CommonsKnown, IsPurgeOfSome, IsShelfCall}
@@ -10,7 +11,6 @@ use Rattle.statement_shelf.specs.declared.calls.ShelfReply.{ShelfReply}
 use Rattle.fed_serve.specs.declared.desk.Desk.{Desk}
 use Rattle.fed_serve.specs.declared.node.Node.{Node}
 use Rattle.fed_serve.specs.Desks.{AreServedAt, IsServedAt, NetworkAt, Views}
-use Rattle.fed_serve.specs.Moments.{IsOneReading}
 use Rattle.resolver_service.specs.Batches.{AreBatches, Batch, IsNewDesk, IsSized, Setup, Standing, at_desks, is_worn, peers_at}
 
 -- ---- peers

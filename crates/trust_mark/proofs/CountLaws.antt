@@ -1,10 +1,11 @@
 -- How many tests the stages of a check count.
 use Rattle.std.proofs.Common.{◌≡◌, ◌+◌, ℕ, zero, suc, true, false, Some, None, refl, sym, ap, ◌∙◌, add-zero, add-suc, arith}
 use Rattle.std.specs.Option.{option_map_or}
-use Rattle.fed_base.specs.Counts.{next_count}
+use Rattle.fed_base.specs.Counts.{CountsAtMost, counted, next_count}
 use Rattle.sealed.specs.Deciding.{is_sealed_by}
+use Rattle.sealed.specs.Tests.{tests_under}
 use Rattle.trust_mark.specs.Conditions.{claims_reason}
-use Rattle.trust_mark.specs.Counts.{CountsAtMost, counted, delegation_tests, mark_tests, tests_from_signature, tests_under}
+use Rattle.trust_mark.specs.Counts.{delegation_tests, mark_tests, tests_from_signature}
 use Rattle.trust_mark.specs.Marks.{Case, mark_of, owner_of}
 use Rattle.trust_mark.specs.declared.mark.Mark.{Mark}
 use Rattle.trust_mark.specs.declared.verdict.MarkReason.{MarkReason}

@@ -4,7 +4,7 @@ use Rattle.std.specs.Prelude.{◌↔◌, MatchResult}
 use Rattle.std.specs.Option.{option_and_then}
 use Rattle.std.specs.Result.{result_ok}
 use Rattle.std.proofs.lemmas.Bool.{false_from_ne_true}
-use Rattle.fed_base.specs.Counts.{next_count}
+use Rattle.fed_base.specs.Counts.{counted, next_count}
 use Rattle.fed_base.specs.declared.faults.Memory.{Memory as NoMemory}
 use Rattle.jws_form.specs.declared.compact.Compact.{Compact}
 use Rattle.jws_form.specs.Compact.{IsCompact}
@@ -17,7 +17,7 @@ use Rattle.sealed.specs.Seals.{IsSealedBy, Pair, named_key}
 use Rattle.sealed.specs.declared.fault.SealFault.{SealFault}
 use Rattle.sealed.specs.declared.fault.SealFault.TheVariants.{NoKid, NoKey, BadSignature, Memory}
 use Rattle.sealed.proofs.DecidingLaws.{IsSealedBy-from_is_sealed_by, Splits-from_IsCompact, is_sealed_by-from_IsSealedBy}
-use Rattle.trust_mark.specs.Counts.{counted, key_in, tests_under}
+use Rattle.sealed.specs.Tests.{key_in, tests_under}
 use Rattle.trust_mark.specs.Stages.{Tells}
 
 -- the key that a text names is the one that its parts name

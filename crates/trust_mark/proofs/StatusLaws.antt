@@ -8,7 +8,7 @@ use Rattle.fed_base.specs.declared.faults.Memory.{Memory as NoMemory}
 use Rattle.fed_json.specs.declared.tree.Json.{Json, Int, Object, Text, the_lemmas}
 use Rattle.fed_json.specs.declared.tree.Member.{Member}
 use Rattle.fed_json.specs.Forms.{IsWhole, has_odd, in_bounds, well_formed, whole}
-use Rattle.fed_json.specs.Members.{text_member}
+use Rattle.fed_json.specs.Members.{number_member, text_member}
 use Rattle.fed_json.specs.Reading.{tree_in}
 use Rattle.fed_json.proofs.Booleans.{both_true}
 use Rattle.fed_json.proofs.Layers.{whole-Object}
@@ -16,7 +16,7 @@ use Rattle.entity_id.specs.Identifiers.{IsIdentifier}
 use Rattle.jwk_set.proofs.WrittenKeys.{ascii, whole_text}
 use Rattle.jws_form.specs.declared.compact.Compact.{Compact}
 use Rattle.trust_mark.specs.Claims.{status_claims, status_type_name}
-use Rattle.trust_mark.specs.Statuses.{answer_of, number_member, status_tree, status_word}
+use Rattle.trust_mark.specs.Statuses.{answer_of, status_tree, status_word}
 use Rattle.trust_mark.specs.declared.status.MarkStatus.{MarkStatus}
 use Rattle.trust_mark.specs.declared.status.MarkStatus.TheVariants.{Active, Expired, Revoked, Invalid}
 use Rattle.trust_mark.specs.declared.status.StatusAnswer.{StatusAnswer}

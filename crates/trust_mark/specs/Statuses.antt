@@ -24,10 +24,6 @@ status_of_word word =
     else if bytes_eq word (status_word Invalid) then Some Invalid
     else None
 
--- a member of that name that is a number (RFC 8259 section 6)
-abbrev pub number_member : List ℕ → ℕ → Member
-number_member name n = member_of name (Int (pos n))
-
 -- an answer that claims this (section 8.4.2)
 abbrev pub answer_of : List ℕ → ℕ → List ℕ → MarkStatus → StatusAnswer
 answer_of iss iat trust_mark status = record { iss = iss; iat = iat; trust_mark = trust_mark; status = status }

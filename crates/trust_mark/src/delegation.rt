@@ -5,9 +5,10 @@ ghost use Rattle.std.specs.Option.{option_map_or};
 ghost use Rattle.entity_statement.specs.Claims.{told_owner};
 ghost use Rattle.entity_statement.specs.Told.{told};
 ghost use Rattle.trust_mark.specs.Conditions.{is_for};
-ghost use Rattle.trust_mark.specs.Counts.{counted, delegation_tests};
+ghost use Rattle.trust_mark.specs.Counts.{delegation_tests};
 ghost use Rattle.trust_mark.specs.Marks.{IsDelegated, owner_of};
 ghost use Rattle.trust_mark.specs.Stages.{Carries};
+ghost use Rattle.fed_base.specs.Counts.{counted};
 
 use crate::conditions::{is_current, owner_of};
 use crate::mark::Mark;

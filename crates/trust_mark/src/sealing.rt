@@ -4,8 +4,9 @@ ghost use Rattle.std.specs.Prelude.{◌≡◌, ◌↔◌, IfOk, IsTrue, MatchRes
 ghost use Rattle.jws_form.specs.Compact.{IsCompact};
 ghost use Rattle.sealed.specs.Deciding.{is_sealed_by};
 ghost use Rattle.sealed.specs.Seals.{IsSealedBy};
-ghost use Rattle.trust_mark.specs.Counts.{counted, tests_under};
+ghost use Rattle.sealed.specs.Tests.{tests_under};
 ghost use Rattle.trust_mark.specs.Stages.{Tells};
+ghost use Rattle.fed_base.specs.Counts.{counted};
 
 use fed_base::{Ledger, Memory, Steps};
 use jwk_set::JwkSet;

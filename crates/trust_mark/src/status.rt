@@ -4,12 +4,12 @@ ghost use Rattle.std.specs.Prelude.{◌≡◌, ◌<◌, ◌^◌, ◌++◌, ◌�
 ghost use Rattle.std.specs.Str.{IsUtf8};
 ghost use Rattle.fed_base.specs.Moments.{moment_limit};
 ghost use Rattle.fed_json.specs.Forms.{IsWhole};
-ghost use Rattle.fed_json.specs.Members.{text_member};
+ghost use Rattle.fed_json.specs.Members.{number_member, text_member};
 ghost use Rattle.fed_json.specs.Reading.{tree_in};
 ghost use Rattle.jws_form.specs.declared.compact.Compact.{Compact as Parts};
 ghost use Rattle.trust_mark.specs.Claims.{Gives, status_answer_in, status_at, status_claims, status_of_tree, status_type_name};
 ghost use Rattle.trust_mark.specs.Grammar.{IsStatusAnswer};
-ghost use Rattle.trust_mark.specs.Statuses.{answer_of, number_member, status_of_word, status_tree, status_word};
+ghost use Rattle.trust_mark.specs.Statuses.{answer_of, status_of_word, status_tree, status_word};
 ghost use Rattle.trust_mark.specs.declared.status.StatusAnswer.{StatusAnswer as Claimed};
 
 use crate::both::both;

@@ -3,13 +3,14 @@
 ghost use Rattle.std.specs.Prelude.{◌≡◌, ◌≤◌, ◌↔◌, ℕ, Some, None, IfOk, IsTrue, MatchResult};
 ghost use Rattle.entity_statement.specs.Told.{told};
 ghost use Rattle.entity_statement.specs.Claims.{OwnerClaims};
-ghost use Rattle.trust_mark.specs.Counts.{CountsAtMost, counted, mark_tests};
+ghost use Rattle.trust_mark.specs.Counts.{mark_tests};
 ghost use Rattle.trust_mark.specs.Marks.{Case, HasDelegation, IsGood, IsListed, case_of, mark_of, owner_of};
 ghost use Rattle.trust_mark.specs.Stages.{IsReading};
 ghost use Rattle.trust_mark.specs.Verdicts.{HasEnded, IfGood, IsVerdictOn, NeverEnds, is_good};
 ghost use Rattle.trust_mark.specs.declared.mark.Mark.{Mark as Claimed};
 ghost use Rattle.trust_mark.specs.declared.verdict.MarkVerdict.{MarkVerdict as Answer};
 ghost use Rattle.trust_mark.specs.declared.verdict.MarkVerdict.TheVariants.{Good};
+ghost use Rattle.fed_base.specs.Counts.{CountsAtMost, counted};
 
 use crate::conditions::claims_reason;
 use crate::delegation::is_delegated;

@@ -1,5 +1,6 @@
 use Rattle.fed_base.specs.Places.{HoldsBelow}
-use Rattle.chain_check.specs.Counts.{CountsAtMost, CountsSigned}
+use Rattle.fed_base.specs.Counts.{CountsAtMost}
+use Rattle.chain_check.specs.Counts.{CountsSigned}
 use Rattle.chain_check.specs.Signatures.{NamesOneKey, SignedAt}
 use Rattle.chain_check.specs.Reading.{claims_in, texts_in}
 use Rattle.chain_check.proofs.SignatureLaws.{most_at}

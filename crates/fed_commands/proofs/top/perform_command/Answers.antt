@@ -1,9 +1,10 @@
 use Rattle.std.proofs.Common.{◌∙◌, subst}
-use Rattle.fed_commands.specs.Answers.{IsEnded, Output, Readings, output_of, readings_of}
+use Rattle.fed_commands.specs.Answers.{IsEnded, Output, output_of, readings_of}
 use Rattle.fed_commands.proofs.ReplyLaws.{reached_at}
 use Rattle.fed_commands.proofs.SealingLaws.{ended_sealed}
 use Rattle.fed_commands.proofs.TopLaws.{clock_used, ended_answers, ended_source, ended_sink, ended_store, ended_range}
 use Rattle.fed_commands.proofs.top.perform_command.Goals as goal
+use Rattle.fed_ports.specs.Times.{ClockAt}
 
 -- src/top.rt
 pub returns-in-Ok : goal.returns-in-Ok
@@ -11,8 +12,8 @@ returns-in-Ok g c =
     let cmd = c.args.command.now in
     let reply = c.in-Ok.reply in
     let status = c.conclude.result in
-    let first : Readings = readings_of g.C.Clock c.args.clock.now in
-    let now : Readings = readings_of g.C.Clock c.moment_for-moment.new.clock in
+    let first : ClockAt = readings_of g.C.Clock c.args.clock.now in
+    let now : ClockAt = readings_of g.C.Clock c.moment_for-moment.new.clock in
     let left = g.S.Source.left c.args.input.now in
     let left' = g.S.Source.left c.reply_to.new.input in
     let held = g.K.Sink.held c.args.out.now in

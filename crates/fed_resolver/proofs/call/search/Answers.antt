@@ -1,7 +1,6 @@
 use Rattle.std.proofs.Common.{Err, length, sym, ap, ◌∙◌, subst, inl}
 use Rattle.std.proofs.lemmas.Result.{err_from_is_err_and}
 use Rattle.turn_log.specs.Groups.{known}
-use Rattle.trust_mark.specs.Counts.{counted}
 use Rattle.resolve_round.specs.Told.{IsTrueSoFar}
 use Rattle.resolve_round.specs.declared.aim.Aim.{Aim}
 use Rattle.resolve_round.specs.Linking.{link_seen}
@@ -18,6 +17,7 @@ use Rattle.fed_resolver.proofs.StretchLaws.{goes-on_to, goes-still, goes-then, p
 use Rattle.fed_resolver.proofs.TickLaws.{checks-counted, goes-answered, goes-broken, some-counted, walks-answered, walks-broken}
 use Rattle.fed_resolver.proofs.WholeLaws.{counts-by, refused-answered, refused-unworn, whole-by}
 use Rattle.fed_resolver.proofs.call.search.Goals as goal
+use Rattle.fed_base.specs.Counts.{counted}
 
 -- ---- memory was wanting at the beginning
 

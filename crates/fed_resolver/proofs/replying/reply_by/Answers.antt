@@ -4,7 +4,6 @@ use Rattle.std.specs.Str.{is_utf8}
 use Rattle.std.proofs.lemmas.Result.{err_from_is_err_and}
 use Rattle.entity_statement.specs.Signed.{statement_of}
 use Rattle.entity_statement.specs.Told.{told}
-use Rattle.trust_mark.specs.Counts.{counted}
 use Rattle.resolve_reply.specs.Marks.{judging_by, looked_at, tests_of_marks}
 use Rattle.resolve_round.specs.Pages.{chain_of}
 use Rattle.resolve_round.specs.Rounds.{pages_in}
@@ -19,6 +18,7 @@ use Rattle.fed_resolver.proofs.MarkCounts.{leaf-tests}
 use Rattle.fed_resolver.proofs.StretchLaws.{stumbles-none}
 use Rattle.fed_resolver.proofs.TickLaws.{checks-counted, marks-counted, some-counted, some-marks}
 use Rattle.fed_resolver.proofs.replying.reply_by.Goals as goal
+use Rattle.fed_base.specs.Counts.{counted}
 
 pub returns-in_err-issuers-clause-goes : goal.returns-in_err-issuers-clause-goes
 returns-in_err-issuers-clause-goes g c =

@@ -1,9 +1,9 @@
 use Rattle.std.proofs.Common.{[], ◌∷◌, refl, rules, subst, sym, ◌∙◌}
 use Rattle.std.proofs.lemmas.Result.{err_from_is_err_and}
 use Rattle.fed_ports.specs.Lists.{Added, Gave}
+use Rattle.fed_ports.specs.Times.{clock_at}
 use Rattle.turn_log.specs.Groups.{known}
 use Rattle.fed_serve.specs.Resolutions.{call_at}
-use Rattle.fed_serve.specs.Moments.{clock_at}
 use Rattle.node_service.proofs.ConnectionLaws.{answered_alone}
 use Rattle.node_service.proofs.connections.serve_next.Goals as goal
 

@@ -1,8 +1,8 @@
 use Rattle.std.proofs.Common.{◌≡◌, take}
 use Rattle.entity_statement.specs.Told.{told}
-use Rattle.trust_mark.specs.Counts.{counted}
 use Rattle.resolve_reply.specs.Marks.{AreGood, judging_by, looked_at, tests_of_marks}
 use Rattle.resolve_reply.proofs.marks.good_marks.Given as goal
+use Rattle.fed_base.specs.Counts.{counted}
 
 abbrev pub invariant-loop-place : goal.invariant-loop-place
 invariant-loop-place g l = record {

@@ -1,12 +1,13 @@
 use Rattle.std.proofs.Common.{refl, sym, ap, ◌∙◌}
 use Rattle.std.proofs.lemmas.Result.{err_from_is_err_and}
 use Rattle.sealed.specs.Deciding.{is_sealed_by}
+use Rattle.sealed.specs.Tests.{tests_under}
 use Rattle.entity_statement.specs.Told.{told}
-use Rattle.trust_mark.specs.Counts.{counted, tests_under}
 use Rattle.trust_mark.specs.Marks.{case_of}
 use Rattle.trust_mark.proofs.CountLaws.{refused-tests, sealed-counted, unsealed-counted, wanting-counted, zero-counted}
 use Rattle.trust_mark.proofs.VerdictLaws.{claims-told, good-told, undelegated-told, unsealed-told}
 use Rattle.trust_mark.proofs.verifying.verdict_on.Goals as goal
+use Rattle.fed_base.specs.Counts.{counted}
 
 pub returns-in-Some-clause-verdict : goal.returns-in-Some-clause-verdict
 returns-in-Some-clause-verdict g c =

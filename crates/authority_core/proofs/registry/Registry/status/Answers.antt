@@ -6,10 +6,10 @@ use Rattle.sealed.specs.Seals.{IsSealedBy}
 use Rattle.authority_core.specs.Answers.{status_response}
 use Rattle.authority_core.specs.Nodes.{Node, node_of}
 use Rattle.authority_core.proofs.Responses.{answer-live, status-is}
-use Rattle.trust_mark.specs.Counts.{counted}
 use Rattle.authority_core.specs.Statuses.{status_tests}
 use Rattle.authority_core.proofs.StatusLaws.{all-at-most, either-counted, none-at-most}
 use Rattle.authority_core.proofs.registry.Registry.status.Goals as goal
+use Rattle.fed_base.specs.Counts.{counted}
 
 pub returns-clause-response : goal.returns-clause-response
 returns-clause-response g c =

@@ -1,6 +1,6 @@
 use Rattle.std.proofs.Common.{length, sym, ap, ◌∙◌, arith}
 use Rattle.fed_ports.specs.KeptFiles.{kept_of, kept_size, files_of}
-use Rattle.fed_ports.specs.Plans.{calls_left}
+use Rattle.fed_base.specs.Plans.{calls_left}
 use Rattle.fed_ports.proofs.memory_store.MemoryStore.new.Goals as goal
 
 pub invariant_of-result-clause-sized : goal.invariant_of-result-clause-sized

@@ -1,10 +1,10 @@
 use Rattle.std.proofs.Common.{sym, ap, ◌∙◌}
-use Rattle.trust_mark.specs.Counts.{counted}
 use Rattle.trust_mark.proofs.CountLaws.{zero-counted}
 use Rattle.mark_status.specs.Stages.{asking_by}
 use Rattle.mark_status.specs.Tells.{tell_of_status}
 use Rattle.mark_status.proofs.AnswerLaws.{about-tests, about-told, stray-tests, stray-told}
 use Rattle.mark_status.proofs.question.Question.tell_by.Goals as goal
+use Rattle.fed_base.specs.Counts.{counted}
 
 pub returns-then-not-is_answered-clause-tell : goal.returns-then-not-is_answered-clause-tell
 returns-then-not-is_answered-clause-tell g c =

@@ -1,7 +1,7 @@
 -- Which calls of an object in memory fail.
 use Rattle.std.specs.Prelude.{ℕ, ◌-◌, ◌≤◌, ◌⊎◌, List, Contains}
 use Rattle.fed_base.specs.Counts.{next_count}
-use Rattle.fed_ports.specs.declared.call_plan.CallPlan.{CallPlan}
+use Rattle.fed_base.specs.declared.call_plan.CallPlan.{CallPlan}
 
 -- the numbers of the calls that are to fail, how many calls there is room for, and how many were made
 pub record Plan : Type 0 where

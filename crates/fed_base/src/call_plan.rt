@@ -1,9 +1,9 @@
 // Which calls of an object in memory fail.
 
 ghost use Rattle.std.specs.Prelude.{◌≡◌, ◌↔◌, ◌<◌, ◌-◌, IsTrue, IfOk};
-ghost use Rattle.fed_ports.specs.Plans.{Plan, plan_of, after_call, calls_left, IsDue};
+ghost use Rattle.fed_base.specs.Plans.{Plan, plan_of, after_call, calls_left, IsDue};
 
-use fed_base::Memory;
+use crate::faults::Memory;
 use std::alloc::Global;
 
 /// The numbers of the calls that are to fail, and the number of calls for which there is room.
