@@ -3,8 +3,9 @@
 /// The page of `verify`.
 pub(crate) const VERIFY: &[u8] = b"fed verify PUB < TEXT
 
-Checks one entity configuration under a public key. The text's own keys, its kid
-and its moments aren't looked at.
+Checks one entity configuration under a public key, by the algorithm that its
+header names, SLH-DSA-SHA2-128s or SLH-DSA-SHA2-128f. The text's own keys, its
+kid and its moments aren't looked at.
 
 words    PUB          the public key, PK.seed and PK.root (FIPS 205): 43
                       base64url characters
@@ -29,7 +30,7 @@ words    --anchor ID  the anchor's identifier, a URL
          --keys FILE  a file with the anchor's keys, a JWK Set
          --at T       the moment for which it is checked, in seconds since 1970;
                       without it, now
-input    a JSON list of at most 10 texts: the leaf's configuration, the
+input    a JSON list of at most 14 texts: the leaf's configuration, the
          statement about the leaf, and so on up to the anchor's configuration
 output   valid <leaf> <exp> the chain is valid until exp; a second line has the
                             leaf's metadata under the merged policy

@@ -34,7 +34,7 @@ input    the claims, a JSON object
 output   a line          the text in JWS compact serialization
          refused Form    the claims aren't those of such a text, or a number of
                          them has a fraction, an exponent or too many digits
-         refused TooLong they have more than 180,000 bytes as compact JSON
+         refused TooLong they have more than 179,000 bytes as compact JSON
          input           the ring file isn't there or isn't of its form, or the
                          input is no JSON object
 status   0 signed, 1 refused, 2 words or input, 3 the input can't be read, 4 the
