@@ -285,8 +285,8 @@ def faulty():
             ("lifetime", 31536001), ("lifetime", "60"), ("lifetime", 60.5), ("metadata", []), ("metadata", {"a": {"b": 1.5}}),
             ("authority_hints", []), ("authority_hints", ["https://a.example"] * 33), ("trust_marks", {}), ("trust_mark_issuers", []),
             ("trust_mark_owners", []), ("subordinates", {}), ("subordinates", [sub, sub]), ("subordinates", [{**sub, "entity_id": ID}]),
-            ("subordinates", [{"entity_id": LEAF}]), ("subordinates", [{**sub, "metadata": {"a": {"b": "x" * 180000}}}]),
-            ("metadata", {"a": {"b": "x" * 180000}}), ("revoked_marks", "m"), ("resolver", {})]
+            ("subordinates", [{"entity_id": LEAF}]), ("subordinates", [{**sub, "metadata": {"a": {"b": "x" * 179000}}}]),
+            ("metadata", {"a": {"b": "x" * 179000}}), ("revoked_marks", "m"), ("resolver", {})]
     for number, (member, value) in enumerate(rows):
         config = {name: held for name, held in CONFIG.items() if name != member}
         if value is not None:

@@ -139,7 +139,7 @@ ends 2 input nested-100000 check "${anchor[@]}" --keys no-keys --at 1800000000
 { printf '["x"'; { yes ',"x"' || true; } | head -n 99999 | tr -d '\n'; printf ']'; } >many
 ends 1 "refused 0 Form" many check "${anchor[@]}" --keys no-keys --at 1800000000
 
-# Claims of 180,000 bytes and of one more.
+# Claims of 179,000 bytes and of one more.
 claims() {
     local head='{"exp":1900000000,"iat":1800000000,"iss":"https://a.example","jwks":{"keys":[]},"note":"' tail='","sub":"https://a.example"}'
     printf '%s' "$head"
@@ -157,17 +157,17 @@ seals() {
     fi
 }
 own=$("$fed" keygen --ring again "${times[@]}" <seeds | sed 's/.*"pub":"\([^"]*\)".*/\1/')
-claims 180000 >claims
+claims 179000 >claims
 seals claims
 got=0
 { "$fed" issue --ring kept --typ entity-statement+jwt <claims 2>/dev/null || echo $? >large-status; } | true || true
 [ "$(cat large-status 2>/dev/null)" = 4 ] && passed=$((passed + 1)) || differs "issue of more than a pipe holds, into a closed one"
-{ head -c 179999 claims; head -c 4014304 blank; tail -c 2 claims; } >longest-claims
+{ head -c 178999 claims; head -c 4015304 blank; tail -c 2 claims; } >longest-claims
 [ "$(wc -c <longest-claims)" = 4194305 ] || differs "longest-claims has $(wc -c <longest-claims) bytes"
 ends 2 input longest-claims issue --ring kept --typ entity-statement+jwt
 tr -d '\n' <longest-claims >bare-claims
 seals bare-claims
-claims 180001 >longer-claims
+claims 179001 >longer-claims
 ends 1 "refused TooLong" longer-claims issue --ring kept --typ entity-statement+jwt
 deep() { printf '{"exp":2,"iat":1,"iss":"https://a.example","jwks":{"keys":[]},"sub":"https://a.example","x":%s}\n' "$(nested "$1")"; }
 deep 126 >nested-claims

@@ -288,8 +288,8 @@ def check_claims(key):
         (claims_of(1, 0, [key, 1]), "standard input: the claim jwks: key 1 isn't an object"),
     ]:
         row(words, json.dumps(given), 1, "refused Form\n", sentence)
-    row(words, json.dumps({**good, "x": "a" * 180000}), 1, "refused TooLong\n",
-        f"standard input: the claims have {len(json.dumps(good, separators=(',', ':'))) + 180007} bytes as compact JSON; 180,000 are sealed at most")
+    row(words, json.dumps({**good, "x": "a" * 179000}), 1, "refused TooLong\n",
+        f"standard input: the claims have {len(json.dumps(good, separators=(',', ':'))) + 179007} bytes as compact JSON; 179,000 are sealed at most")
     mark = {"iss": name(1), "sub": name(0), "iat": AT, "trust_mark_type": "https://m.example"}
     for typ, given, sentence in [
         ("trust-mark+jwt", without(mark, "trust_mark_type"), "standard input: the claim trust_mark_type is missing"),
@@ -308,7 +308,7 @@ def check_verify(key):
         (json.dumps(good), "Form", "standard input: the text begins as JSON does, and is no signed text"),
         ("a.b", "Form", "standard input: the text isn't three parts with full stops between them"),
         (unsigned(good)[:-1] + "B", "Form", "standard input: the signature isn't base64url without padding"),
-        (unsigned(good, alg="RS256"), "Form", "standard input: this text is signed with RS256; fed checks SLH-DSA-SHA2-128s"),
+        (unsigned(good, alg="RS256"), "Form", "standard input: this text is signed with RS256; fed checks SLH-DSA-SHA2-128s or SLH-DSA-SHA2-128f"),
         (unsigned(good, typ="JWT"), "Form",
          "standard input: the header's typ is JWT; that of an entity statement is entity-statement+jwt"),
         (unsigned(good, crit=["b64"]), "Form", "standard input: the header has crit, extensions of which fed knows none"),
@@ -342,10 +342,10 @@ def check_chains(key, other):
         return [*texts[:place], unsigned({**claims[place], **more}), *texts[place + 1:]]
 
     refused([], "0 Form", "the chain is empty")
-    refused(texts * 4, "10 Form", "the chain has 12 texts; 10 are read at most")
+    refused(texts * 5, "14 Form", "the chain has 15 texts; 14 are read at most")
     refused([texts[0], "x"], "1 Form", "place 1: the text isn't three parts with full stops between them")
     refused([unsigned(claims[0], alg="ES256"), *texts[1:]], "0 Form",
-            "place 0: this text is signed with ES256; fed checks SLH-DSA-SHA2-128s")
+            "place 0: this text is signed with ES256; fed checks SLH-DSA-SHA2-128s or SLH-DSA-SHA2-128f")
     refused(with_claims(1, exp=None), "1 Form",
             "place 1: the claim exp isn't a whole number from 0 to 2^62 - 1, in seconds since 1970 (Shape)")
     refused(texts[:2], "1 Names",
@@ -473,7 +473,7 @@ def check_inspections(key):
             ({"iss": name(1)}, {"typ": "trust-mark+jwt"}, "the claim sub is missing"), ([], {"typ": "trust-mark+jwt"}, "the claims aren't a JSON object"),
             ({"iss": name(1), "iat": AT, "trust_mark": "", "status": "x"}, {"typ": "trust-mark-status-response+jwt"},
              "the claim status isn't active, expired, revoked or invalid (Shape)"),
-            (claims_of(1, 1), {"alg": "RS256"}, "this text is signed with RS256; fed checks SLH-DSA-SHA2-128s")]:
+            (claims_of(1, 1), {"alg": "RS256"}, "this text is signed with RS256; fed checks SLH-DSA-SHA2-128s or SLH-DSA-SHA2-128f")]:
         status, _, err = run(["show"], unsigned(claims, **header))
         compare(f"show {header}", (status, err), (1 if sentence else 0, said([f"standard input: {sentence}"] if sentence else [])))
     config = {"entity_id": name(1), "ring": "ring", "lifetime": 60}

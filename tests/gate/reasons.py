@@ -200,7 +200,7 @@ def check_lengths(leaf, others):
     check("no text", "refused 0 Form", [], 0)
     check("one text of another", "refused 0 Names", Chain(1, leaf, others).unsigned(), 1)
     check("two texts", "refused 1 Names", [unsigned(statement(0, 0, [leaf.jwk]))] * 2, 0)
-    for texts, wanted in [(10, "refused 0 Signature"), (11, "refused 10 Form"), (12, "refused 10 Form")]:
+    for texts, wanted in [(14, "refused 0 Signature"), (15, "refused 14 Form"), (16, "refused 14 Form")]:
         long = Chain(texts, leaf, others)
         check(f"{texts} texts", wanted, long.unsigned(), long.anchor)
 
@@ -311,17 +311,17 @@ def check_valid(chain, leaf):
 
 
 def check_long(chain):
-    """Goes through the reasons after Times at the far places of ten texts."""
+    """Goes through the reasons after Times at the far places of fourteen texts."""
     valid = f"valid {name(0)} {AT + 100}"
-    check("ten texts", valid, chain.signed(), chain.anchor)
-    check("ten texts, the last unsigned", "refused 9 Signature", chain.signed({}, {9: unsigned(chain.claims[9])}), chain.anchor)
-    check("ten texts, a path of 6", "refused 8 PathLength", chain.signed({8: {"constraints": {"max_path_length": 6}}}), chain.anchor)
-    named = chain.signed({8: {"constraints": {"naming_constraints": {"excluded": ["e7.example"]}}}})
-    check("ten texts, a name", "refused 8 Name", named, chain.anchor)
-    conflict = chain.signed({8: policy("text", {"value": "y"}), 4: policy("text", {"value": "z"})})
-    check("ten texts, a conflict", f'refused 4 Conflict "{RP}" "text" value value', conflict, chain.anchor)
-    refused = chain.signed({8: policy("text", {"one_of": ["y"]})})
-    check("ten texts, a policy", f'refused 0 Policy "{RP}" "text" one_of', refused, chain.anchor)
+    check("fourteen texts", valid, chain.signed(), chain.anchor)
+    check("fourteen texts, the last unsigned", "refused 13 Signature", chain.signed({}, {13: unsigned(chain.claims[13])}), chain.anchor)
+    check("fourteen texts, a path of 10", "refused 12 PathLength", chain.signed({12: {"constraints": {"max_path_length": 10}}}), chain.anchor)
+    named = chain.signed({12: {"constraints": {"naming_constraints": {"excluded": ["e7.example"]}}}})
+    check("fourteen texts, a name", "refused 12 Name", named, chain.anchor)
+    conflict = chain.signed({12: policy("text", {"value": "y"}), 4: policy("text", {"value": "z"})})
+    check("fourteen texts, a conflict", f'refused 4 Conflict "{RP}" "text" value value', conflict, chain.anchor)
+    refused = chain.signed({12: policy("text", {"one_of": ["y"]})})
+    check("fourteen texts, a policy", f'refused 0 Policy "{RP}" "text" one_of', refused, chain.anchor)
 
 
 def main():
@@ -332,7 +332,7 @@ def main():
         for key in (leaf, others):
             with open(f"{key.ring}.json", "w", encoding="utf-8") as it:
                 json.dump({"keys": [key.jwk]}, it)
-        chain, long = Chain(4, leaf, others), Chain(10, leaf, others)
+        chain, long = Chain(4, leaf, others), Chain(14, leaf, others)
         check_faults(chain, leaf)
         check_lengths(leaf, others)
         check_names(chain)

@@ -162,7 +162,7 @@ def entity_pages():
         ("262,145 bytes", head + b"\r\n" + b"a" * 262145, "has more than 262,144 bytes"),
         ("262,144 bytes of no statement", head + b"\r\n" + b"a" * 262144, bad, "place 0: the text isn't three parts with full stops between them"),
         ("JSON", json.dumps(own_rp), bad, "place 0: the text begins as JSON does, and is no signed text"),
-        ("another algorithm", unsealed(own_rp, alg="ES256"), bad, "place 0: this text is signed with ES256; fed checks SLH-DSA-SHA2-128s"),
+        ("another algorithm", unsealed(own_rp, alg="ES256"), bad, "place 0: this text is signed with ES256; fed checks SLH-DSA-SHA2-128s or SLH-DSA-SHA2-128f"),
         ("another entity's", IM_OWN, f"has another text, by {IM} about {IM}"),
         ("a statement", IM_RP, f"has another text, by {IM} about {RP}"),
         ("expired", unsealed({**own_rp, "exp": expired}), f"expired at {moment(expired)}"),

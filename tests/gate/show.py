@@ -358,8 +358,8 @@ def check_configs():
     make("twice.ring", json.dumps({**kept, "keys": kept["keys"] + kept["keys"][1:2]}))
     for ring, fault in [("no", "Absent"), ("long.ring", "TooLong"), ("bad.ring", "Shape"), ("twice.ring", "Known")]:
         refused(f"the ring {ring}", {**node, "ring": ring, "trust_marks": [{"trust_mark_type": "t", "trust_mark": "x"}]}, f"refused ring {fault}\n")
-    refused("long metadata", {**node, "metadata": {"a": {"b": "x" * 180000}}}, "refused metadata TooLong\n")
-    refused("a long statement", {**node, "subordinates": [{**below[0], "metadata": {"a": {"b": "x" * 180000}}}]}, "refused subordinates TooLong\n")
+    refused("long metadata", {**node, "metadata": {"a": {"b": "x" * 179000}}}, "refused metadata TooLong\n")
+    refused("a long statement", {**node, "subordinates": [{**below[0], "metadata": {"a": {"b": "x" * 179000}}}]}, "refused subordinates TooLong\n")
     entry = lambda claims, typ="https://tm.example/good": {"trust_mark_type": typ, "trust_mark": unsigned(claims, typ="trust-mark+jwt")}
     own = {**MARK, "sub": "https://ta.example"}
     refused("a mark that is none", {**node, "trust_marks": [entry(own), {"trust_mark_type": "t", "trust_mark": "x"}]}, "refused trust_marks 1 Form\n")

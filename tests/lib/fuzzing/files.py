@@ -10,7 +10,7 @@ from .pool import AT, BEGIN, END, MARK, RP, STATEMENT, TA
 
 NOWHERE = "https://nowhere.example"
 UNLISTED = b'{"error":"invalid_trust_anchor","error_description":"no such trust anchor"}\n'
-CLAIMS_LIMIT = 180000
+CLAIMS_LIMIT = 179000
 
 
 def is_one_of(*answers):
@@ -217,7 +217,7 @@ def seals(data, typ):
 
 def is_sealed(done, payload, typ, kid):
     header, claims_part, signature = done.out.rstrip(b"\n").split(b".")
-    wanted = rules.compact({"alg": rules.ALGORITHM, "kid": kid, "typ": typ})
+    wanted = rules.compact({"alg": rules.SMALL, "kid": kid, "typ": typ})
     return payload is not None and decoded(header).decode() == wanted and decoded(claims_part).decode() == payload and len(decoded(signature)) == 7856
 
 

@@ -17,7 +17,7 @@ NODE = "http://127.0.0.1/fed"
 WIDTH = 20
 SUPERIORS = [f"https://h{number}.example" for number in range(WIDTH)]
 ABOVE = [f"https://g{number}.example/x" for number in range(WIDTH)]
-LONG = [f"https://e{number}.example" for number in range(9)]
+LONG = [f"https://e{number}.example" for number in range(13)]
 # a leaf and its superior that hint more entities than a search asks for, none of which is there
 FAR, HUB = "https://far.example", "https://hub.example"
 GONE = [[f"https://{letter}{number}.example" for number in range(31)] for letter in "xy"]
@@ -26,7 +26,8 @@ SEAL = """import json, sys
 sys.dont_write_bytecode = True
 sys.path.insert(0, sys.argv[1])
 import sealing
-print(sealing.sealed(*json.load(sys.stdin)))"""
+given = json.load(sys.stdin)
+print(sealing.sealed(*given) if len(given) > 2 else json.dumps(sealing.key_of(*given)))"""
 RELYING = drawn.RELYING
 
 
@@ -37,18 +38,18 @@ def endpoint(entity):
 class Key:
     def __init__(self, ring, seeds, jwk):
         self.ring, self.seeds, self.jwk = ring, seeds, jwk
-        self.kid, self.pub = jwk["kid"], jwk["pub"]
+        self.kid, self.pub, self.own = jwk["kid"], jwk["pub"], (jwk["alg"], jwk["pub"])
 
 
 class Pool:
-    """All that is good. `texts` has what was signed by its name, `signers` the public key of each signed text."""
+    """All that is good. `texts` has what was signed by its name, `signers` the algorithm and the public key of each signed text."""
 
     def __init__(self, program, folder, seed):
         self.program, self.folder = program, folder
         self.rng = random.Random(f"pool {seed}")
         self.keys, self.claims, self.texts, self.signers, self.changes = {}, {}, {}, {}, {}
         with ThreadPoolExecutor(len(os.sched_getaffinity(0))) as self.workers:
-            names = ["ta", "im", "rp", "resolver", "node", "other"]
+            names = ["ta", "im", "rp", "resolver", "node", "other", "fast rp", "fast im"]
             for name, key in zip(names, self.workers.map(self.key, names, [self.rng.getrandbits(384) for _ in names])):
                 self.keys[name] = key
             self.state_chains()
@@ -59,10 +60,10 @@ class Pool:
             wanted = [(name, *it) for name, it in self.claims.items()]
             for (name, _, by, _), text in zip(wanted, self.workers.map(lambda it: self.sealed(*it[1:]), wanted)):
                 self.texts[name] = text
-                self.signers[text] = self.keys[by].pub
+                self.signers[text] = self.keys[by].own
             for name, text in made.items():
                 self.changes[name] = text.result()
-                self.signers[self.changes[name]] = self.keys[changes[name][1]].pub
+                self.signers[self.changes[name]] = self.keys[changes[name][1]].own
         self.write_files()
         self.known = {text: rules.statement(text.encode()) for text in self.texts.values()}
         self.judge = rules.Judge(self.signers)
@@ -74,16 +75,25 @@ class Pool:
         return done.stdout
 
     def key(self, name, seeds):
+        """A key in a ring, or one of the second set, which no ring holds."""
+        if name.startswith("fast"):
+            return Key(None, "%096x" % seeds, json.loads(self.otherwise(rules.FAST, "%096x" % seeds)))
         made = self.fed(["keygen", "--ring", f"{name}.ring", "--at", "1", "--exp", str(END)], b"%096x\n" % seeds)
         return Key(f"{name}.ring", "%096x" % seeds, json.loads(made))
 
     def sealed(self, claims, by, typ):
+        if self.keys[by].ring is None:
+            return self.otherwise(claims, typ, self.keys[by].seeds, self.keys[by].jwk)
         return self.fed(["issue", "--ring", self.keys[by].ring, "--typ", typ], json.dumps(claims).encode()).decode().strip()
 
     def sealed_otherwise(self, claims, by):
         """Other keys for an anchor, a text of a type that the program signs with none of its commands."""
-        words, key = [sys.executable, "-c", SEAL, TESTS], self.keys[by]
-        done = subprocess.run(words, input=json.dumps([claims, CHANGE, key.seeds, key.jwk]), capture_output=True, text=True, check=True)
+        return self.otherwise(claims, CHANGE, self.keys[by].seeds, self.keys[by].jwk)
+
+    @staticmethod
+    def otherwise(*given):
+        """What another implementation makes: a key of an algorithm and seeds, or a sealed text."""
+        done = subprocess.run([sys.executable, "-c", SEAL, TESTS], input=json.dumps(given), capture_output=True, text=True, check=True)
         return done.stdout.strip()
 
     def state(self, name, claims, by, typ=STATEMENT):
@@ -96,7 +106,7 @@ class Pool:
     def about(self, superior, subject, by, **more):
         return {"iss": superior, "sub": subject, "iat": BEGIN, "exp": END - 1, "jwks": {"keys": [self.keys[by].jwk]}, **more}
 
-    # ---- chains of one, three, four and ten texts
+    # ---- chains of one, three, four and fourteen texts, and one that is signed by keys of both sets
 
     def state_chains(self):
         foreign = {"kty": "RSA", "kid": "rsa", "n": "vQ", "e": "AQAB", "x": [1, {"y": None}]}
@@ -115,11 +125,14 @@ class Pool:
         self.state("ta", self.own(TA, "ta", metadata=endpoint(TA), trust_mark_issuers={"t": [TA], "open": []}, trust_mark_owners={
             "owned": {"sub": IM, "jwks": {"keys": [self.keys["im"].jwk]}}}), "ta")
         self.state("long leaf", self.own(LONG[0], "rp", metadata={RELYING: {"p": "x"}}), "rp")
-        for number in range(1, 9):
-            superior = LONG[number] if number < 8 else TA
-            self.state(f"long {number}", self.about(superior, LONG[number - 1], "rp" if number == 1 else "im"), "im" if number < 8 else "ta")
+        for number in range(1, 13):
+            superior = LONG[number] if number < 12 else TA
+            self.state(f"long {number}", self.about(superior, LONG[number - 1], "rp" if number == 1 else "im"), "im" if number < 12 else "ta")
+        self.state("fast leaf", self.own(RP, "fast rp", metadata={RELYING: {"p": "x"}}), "fast rp")
+        self.state("fast im about leaf", self.about(IM, RP, "fast rp"), "fast im")
+        self.state("ta about fast im", self.about(TA, IM, "fast im"), "ta")
         self.chains = [["ta"], ["leaf", "ta about leaf", "ta"], ["leaf", "im about leaf", "ta about im", "ta"],
-                       ["long leaf", *(f"long {number}" for number in range(1, 9)), "ta"]]
+                       ["fast leaf", "fast im about leaf", "ta about fast im", "ta"], ["long leaf", *(f"long {number}" for number in range(1, 13)), "ta"]]
 
     # ---- leaves, and policies of two superiors, of which each fits each
 

@@ -7,8 +7,8 @@ import re
 
 from . import policies
 
-ALGORITHM, STATEMENT = "SLH-DSA-SHA2-128s", "entity-statement+jwt"
-MOMENTS, TEXT_LIMIT, FILE_LIMIT, DEPTH = 1 << 62, 262144, 4194304, 127
+SMALL, FAST, STATEMENT = "SLH-DSA-SHA2-128s", "SLH-DSA-SHA2-128f", "entity-statement+jwt"
+MOMENTS, TEXT_LIMIT, FILE_LIMIT, DEPTH, CHAIN = 1 << 62, 262144, 4194304, 127, 14
 # a number whose value isn't kept
 ODD = type("Odd", (), {"__repr__": lambda self: "ODD"})()
 SURE = re.compile(r"https?://(?!xn--)(?:[a-z0-9][a-z0-9-]*\.(?!xn--))*[a-z][a-z0-9-]*(?::[0-9]{1,4})?(?:/[A-Za-z0-9._~/-]*)?")
@@ -136,17 +136,17 @@ class Doubts:
 
 
 def key_set(tree):
-    """The keys of this project by their names."""
+    """The algorithm and the public key of each key of this project, by its name."""
     asks(is_object(tree) and isinstance(tree.get("keys"), list) and len(tree["keys"]) <= 64)
     own, names = {}, set()
     for key in tree["keys"]:
         asks(is_object(key) and isinstance(key.get("kty"), str) and is_whole(key))
         name = key.get("kid")
-        if key["kty"] == "AKP" and key.get("alg") == ALGORITHM:
+        if key["kty"] == "AKP" and key.get("alg") in (SMALL, FAST):
             public = key.get("pub")
             asks(isinstance(name, str) and name and isinstance(public, str) and public.isascii() and "priv" not in key)
             asks(len(public) == 43 and decoded(public.encode()) is not None)
-            own[name] = public
+            own[name] = key["alg"], public
         if isinstance(name, str):
             asks(name not in names)
             names.add(name)
@@ -239,7 +239,7 @@ class Text:
         except Unreadable:
             raise Fault from None
         asks(is_object(header) and all(isinstance(header[name], str) for name in ("typ", "kid", "alg") if name in header))
-        asks("crit" not in header and header.get("alg") == ALGORITHM)
+        asks("crit" not in header and header.get("alg") in (SMALL, FAST))
         self.typ, self.kid, self.payload = header.get("typ"), header.get("kid"), found[1]
 
 
@@ -335,7 +335,7 @@ def resolved(chain):
 
 
 def signature_fault(texts, chain, keys, signers):
-    """The least place whose text isn't signed as it must be. `signers` has the public key of each text that was signed."""
+    """The least place whose text isn't signed as it must be. `signers` has the algorithm and the public key of each text that was signed."""
     for place, it in enumerate(chain):
         sets = [chain[place + 1].keys if place + 1 < len(chain) else keys]
         if place == 0:
@@ -363,14 +363,14 @@ class Judge:
     def answers(self, texts, anchor, keys, moment):
         """What `check` may write on these texts: one line, and others where an identifier is in doubt."""
         chain, more = [], []
-        for place, text in enumerate(texts[:10]):
+        for place, text in enumerate(texts[:CHAIN]):
             it = self.read(text)
             if it is None:
                 return [*more, f"refused {place} Form\n"]
             if it.doubted:
                 more.append(f"refused {place} Form\n")
             chain.append(it)
-        if not texts or len(texts) > 10:
+        if not texts or len(texts) > CHAIN:
             return [*more, f"refused {len(chain)} Form\n"]
         return [*more, self.judged(texts, chain, anchor, keys, moment)]
 

@@ -36,7 +36,7 @@ def is_reply(pool, text, chain, keys, sub=RP, marks=(), types=()):
     metadata = {typ: held for typ, held in rules.tree_of(verdict[1].encode()).items() if not types or typ in types}
     wanted = {"exp": int(verdict[0].split(" ")[2]), "iat": moment, "iss": RESOLVER, "metadata": metadata, "sub": sub, "trust_chain": chain}
     wanted |= {"trust_marks": marks} if marks else {}
-    so = decoded(header).decode() == rules.compact({"alg": rules.ALGORITHM, "kid": pool.keys["resolver"].kid, "typ": "resolve-response+jwt"})
+    so = decoded(header).decode() == rules.compact({"alg": rules.SMALL, "kid": pool.keys["resolver"].kid, "typ": "resolve-response+jwt"})
     return so and abs(moment - time.time()) < 30 and decoded(payload).decode() == rules.compact(wanted) and len(decoded(signature)) == SIGNATURE
 
 

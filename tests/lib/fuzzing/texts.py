@@ -7,7 +7,7 @@ from . import changes, rules
 from .changes import Pairs, Raw, encoded, written
 from .pool import AT, BEGIN, END, IM, RP, TA
 
-SIGNATURE = 7856
+SIGNATURES = [7856, 17088]
 MOMENTS = [AT] * 12 + [BEGIN - 61, BEGIN - 60, BEGIN, END - 8, END - 7, END - 1, END, 0, (1 << 62) - 1]
 STATUSES = {"valid": 0, "refused": 1, "input": 2}
 
@@ -66,10 +66,12 @@ class Parts:
         keys = self.claims["jwks"]["keys"]
         keys.insert(self.rng.randrange(len(keys) + 1), self.rng.choice([
             {"kty": "RSA", "n": "AQAB", "alg": "RS256"}, {"kty": "AKP", "alg": "ML-DSA-44", "kid": "m", "pub": "x"}, {"kty": "", "kid": 5, "priv": 1},
-            {"kty": "EC", "kid": self.header["kid"] + "x", "deep": {"a": [[]]}}]))
+            {"kty": "EC", "kid": self.header["kid"] + "x", "deep": {"a": [[]]}}, {"kty": "AKP", "alg": rules.FAST, "kid": "f", "pub": "A" * 43},
+            {"kty": "AKP", "alg": rules.FAST, "pub": "A" * 43}]))
 
     def another_signature(self):
-        size = self.rng.choice([SIGNATURE, SIGNATURE, SIGNATURE - 1, SIGNATURE + 1, 0, 1, 3, 16, 32, 100, 100000])
+        good = self.rng.choice(SIGNATURES)
+        size = self.rng.choice([good, good, good - 1, good + 1, 0, 1, 3, 16, 32, 100, 100000])
         kind = self.rng.randrange(3)
         if kind == 0:
             self.signature = encoded(bytes([self.rng.randrange(256)]) * size)
@@ -79,7 +81,7 @@ class Parts:
             self.signature = encoded(changes.turned(self.rng, changes.decoded(self.signature)))
 
     def another_header(self):
-        kind = self.rng.randrange(5)
+        kind = self.rng.randrange(6)
         if kind == 0:
             self.header.pop("kid", None)
         elif kind == 1:
@@ -88,6 +90,8 @@ class Parts:
             self.header = Pairs([("alg", "none"), *self.header.items()])
         elif kind == 3:
             self.header["x" * self.rng.randrange(3)] = self.rng.choice([None, Raw(b"1e5"), "jwk", {"jku": "https://x.example"}])
+        elif kind == 4:
+            self.header["alg"] = rules.SMALL if self.header.get("alg") == rules.FAST else rules.FAST
         else:
             self.header = {"typ": self.header.pop("typ"), **self.header}
 
@@ -157,12 +161,12 @@ class Parts:
 
 
 def texts(case):
-    """A list of up to twelve texts, those before one place changed so that they mostly still read, or one text for `verify`."""
+    """A list of up to sixteen texts, those before one place changed so that they mostly still read, or one text for `verify`."""
     rng, pool = case.rng, case.pool
     if rng.random() < .1:
         return verified(case)
     chain = list(rng.choice(pool.chains[2:]))
-    count = rng.choice([1, 3, 4, 9, 10, 10, 10, 10, 10, 10, 10, 11, 12])
+    count = rng.choice([1, 3, 4, 13, 14, 14, 14, 14, 14, 14, 14, 15, 16])
     hard = rng.randrange(count) if rng.random() < .9 else count
     made = []
     for place in range(count):
@@ -173,7 +177,7 @@ def texts(case):
         parts = Parts(rng, good)
         made.append((parts.changed_hard() if place == hard else parts.changed_softly()).decode("latin-1"))
     looked = 0
-    for place, text in enumerate(made[:10]):
+    for place, text in enumerate(made[:rules.CHAIN]):
         looked += text not in pool.signers
         if pool.judge.read(text) is None:
             break
@@ -186,7 +190,7 @@ def pool_keys(pool):
 
 def verified(case):
     rng, pool = case.rng, case.pool
-    name, by = rng.choice([("leaf", "rp"), ("ta", "ta"), ("im about leaf", "im")])
+    name, by = rng.choice([("leaf", "rp"), ("ta", "ta"), ("im about leaf", "im"), ("fast leaf", "fast rp")])
     parts = Parts(rng, pool.texts[name])
     text = parts.changed_hard() if rng.random() < .7 else parts.changed_softly()
     given = text + rng.choice([b"", b"\n", b"\r\n", b"\n\n", b"\r", b" ", b"\x00"])
@@ -208,7 +212,7 @@ def verdicts(pool, given, public):
     more = ["refused Form\n"] if it.doubted else []
     if not it.own:
         return [*more, "refused Names\n"]
-    so = text.isascii() and pool.signers.get(text.decode()) == public
+    so = text.isascii() and pool.signers.get(text.decode(), (None, None))[1] == public
     return [*more, f"valid {it.sub}\n" if so else "refused Signature\n"]
 
 

@@ -213,7 +213,7 @@ def marks(case):
     claims = {**pool.claims["leaf"][0], "trust_marks": entries}
     sealed = case.worker.runner.run(["issue", "--ring", "rp.ring", "--typ", STATEMENT], json.dumps(claims).encode())
     leaf = sealed.out.decode().strip()
-    pool.signers[leaf] = pool.keys["rp"].pub
+    pool.signers[leaf] = pool.keys["rp"].own
     names = {page_of(IM): "im", fetch_of(IM, RP): "im about leaf", page_of(TA): "ta", fetch_of(TA, IM): "ta about im"}
     web.pages, web.calls = {page_of(RP): framed(rng, leaf.encode()), **{call: framed(rng, pool.texts[name].encode()) for call, name in names.items()}}, []
     returned = [entry for entry in entries[:16] if good.get(entry["trust_mark"]) == entry["trust_mark_type"]]
