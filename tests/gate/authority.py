@@ -60,14 +60,7 @@ class Node:
         self.connections = connections
 
     def connect(self):
-        end = time.monotonic() + PATIENCE
-        while True:
-            try:
-                return socket.create_connection(("127.0.0.1", self.port), timeout=PATIENCE)
-            except ConnectionRefusedError:
-                if time.monotonic() > end or self.running.poll() is not None:
-                    raise
-                time.sleep(0.02)
+        return program.connected(self.running, self.port)
 
     def raw(self, given):
         """Sends these bytes, shuts that side, and gives all that comes back."""

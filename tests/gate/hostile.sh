@@ -1,19 +1,9 @@
 #!/usr/bin/env bash
 # The built program among hostile files: folders and devices in place of files, a full disk, a closed pipe, inputs at their limits.
 # It prints what differs from the table of statuses and fails where anything does.
-set -euo pipefail
-cd "$(dirname "$0")/../.."
-fed=$PWD/fed
+# shellcheck source=tests/lib/rows.sh
+source "$(dirname "$0")/../lib/rows.sh"
 examples=$PWD/examples
-place=$(mktemp -d)
-trap 'rm -rf "$place"' EXIT
-passed=0
-failed=0
-
-differs() {
-    failed=$((failed + 1))
-    echo "hostile: $*" >&2
-}
 
 # ends STATUS TEXT INPUT WORDS..: the program ends with STATUS, and writes TEXT and a line end, or nothing where TEXT is empty
 ends() {
@@ -22,7 +12,7 @@ ends() {
     "$fed" "$@" <"$input" >"$place/out" 2>"$place/err" || got=$?
     want=${text:+$text$'\n'}
     if [ "$got" = "$status" ] && [ "$(cat "$place/out"; echo .)" = "$want." ]; then
-        passed=$((passed + 1))
+        as_it_should
     else
         differs "fed $*: status $got instead of $status, wrote $(head -c 200 "$place/out")"
     fi
@@ -31,13 +21,12 @@ ends() {
 # holds FILE TEXT: the file holds this text and nothing else
 holds() {
     if [ "$(cat "$1" 2>/dev/null; echo .)" = "$2." ]; then
-        passed=$((passed + 1))
+        as_it_should
     else
         differs "$1 holds $(head -c 200 "$1" 2>/dev/null || echo nothing)"
     fi
 }
 
-"$fed" --version >/dev/null
 key=$(cat "$examples/rp.pub")
 text=$examples/rp.jwt
 cd "$place"
@@ -72,7 +61,7 @@ ends 2 input /dev/null check "${anchor[@]}" --keys no-keys --at 1800000000
 ends 2 input /dev/zero verify "$key"
 ends 2 input /dev/zero keygen --ring absent "${times[@]}"
 ends 2 input /dev/zero check "${anchor[@]}" --keys no-keys --at 1800000000
-[ ! -e absent ] && passed=$((passed + 1)) || differs "keygen without seeds made a ring"
+[ ! -e absent ] && as_it_should || differs "keygen without seeds made a ring"
 
 # A ring is there whatever it holds, and stays as it is.
 printf 'not a ring' >junk
@@ -86,30 +75,30 @@ ends 2 input empty-list issue --ring huge --typ entity-statement+jwt
 # A ring that can't be written leaves nothing behind.
 before=$(ls folder)
 ends 6 "" seeds keygen --ring folder/absent/ring "${times[@]}"
-[ "$(ls folder)" = "$before" ] && passed=$((passed + 1)) || differs "keygen left a file behind"
+[ "$(ls folder)" = "$before" ] && as_it_should || differs "keygen left a file behind"
 
 # A full disk and a closed pipe under the output: a fault of the sink, and the ring that was kept stays.
 got=0
 "$fed" verify "$key" <"$text" >/dev/full 2>/dev/null || got=$?
-[ "$got" = 4 ] && passed=$((passed + 1)) || differs "verify into a full disk: status $got"
+[ "$got" = 4 ] && as_it_should || differs "verify into a full disk: status $got"
 got=0
 "$fed" keygen --ring kept "${times[@]}" <seeds >/dev/full 2>/dev/null || got=$?
-[ "$got" = 4 ] && [ -s kept ] && passed=$((passed + 1)) || differs "keygen into a full disk: status $got"
-[ "$(stat -c %a kept)" = 600 ] && passed=$((passed + 1)) || differs "a ring file of mode $(stat -c %a kept)"
+[ "$got" = 4 ] && [ -s kept ] && as_it_should || differs "keygen into a full disk: status $got"
+[ "$(stat -c %a kept)" = 600 ] && as_it_should || differs "a ring file of mode $(stat -c %a kept)"
 ends 1 "refused Exists" seeds keygen --ring kept "${times[@]}"
 ends 3 "" folder issue --ring kept --typ entity-statement+jwt
 ends 2 input /dev/null issue --ring kept --typ entity-statement+jwt
 ends 2 input /dev/zero issue --ring kept --typ entity-statement+jwt
 got=0
 "$fed" check "${anchor[@]}" --keys no-keys --at 1800000000 <empty-list >/dev/full 2>/dev/null || got=$?
-[ "$got" = 4 ] && passed=$((passed + 1)) || differs "check into a full disk: status $got"
+[ "$got" = 4 ] && as_it_should || differs "check into a full disk: status $got"
 got=0
 "$fed" --help >/dev/full 2>/dev/null || got=$?
-[ "$got" = 4 ] && passed=$((passed + 1)) || differs "--help into a full disk: status $got"
+[ "$got" = 4 ] && as_it_should || differs "--help into a full disk: status $got"
 got=0
 { "$fed" verify "$key" <"$text" 2>/dev/null || echo $? >pipe-status; } | true || true
 got=$(cat pipe-status 2>/dev/null || echo 0)
-case $got in 0 | 4) passed=$((passed + 1)) ;; *) differs "verify into a closed pipe: status $got" ;; esac
+case $got in 0 | 4) as_it_should ;; *) differs "verify into a closed pipe: status $got" ;; esac
 
 # Inputs at their limits.
 head -c 4194304 /dev/zero | tr '\0' ' ' >blank
@@ -151,7 +140,7 @@ seals() {
     local got=0
     "$fed" issue --ring kept --typ entity-statement+jwt <"$1" >issued 2>/dev/null || got=$?
     if [ "$got" = 0 ] && [ "$(tail -c 1 issued | wc -l)" = 1 ] && [ "$("$fed" verify "$own" <issued)" = "valid https://a.example" ]; then
-        passed=$((passed + 1))
+        as_it_should
     else
         differs "issue of $1: status $got"
     fi
@@ -161,7 +150,7 @@ claims 179000 >claims
 seals claims
 got=0
 { "$fed" issue --ring kept --typ entity-statement+jwt <claims 2>/dev/null || echo $? >large-status; } | true || true
-[ "$(cat large-status 2>/dev/null)" = 4 ] && passed=$((passed + 1)) || differs "issue of more than a pipe holds, into a closed one"
+[ "$(cat large-status 2>/dev/null)" = 4 ] && as_it_should || differs "issue of more than a pipe holds, into a closed one"
 { head -c 178999 claims; head -c 4015304 blank; tail -c 2 claims; } >longest-claims
 [ "$(wc -c <longest-claims)" = 4194305 ] || differs "longest-claims has $(wc -c <longest-claims) bytes"
 ends 2 input longest-claims issue --ring kept --typ entity-statement+jwt
@@ -175,5 +164,4 @@ seals nested-claims
 deep 127 >deeper-claims
 ends 2 input deeper-claims issue --ring kept --typ entity-statement+jwt
 
-echo "hostile: $passed passed, $failed failed"
-[ "$failed" -eq 0 ]
+told

@@ -15,21 +15,13 @@ import tempfile
 sys.dont_write_bytecode = True
 sys.path.insert(0, f"{os.path.dirname(os.path.dirname(os.path.abspath(__file__)))}/lib")
 from laid import TOP  # noqa: E402
-from program import ENVIRONMENT, FED, run  # noqa: E402
+from program import ENVIRONMENT, FED, Rows, run  # noqa: E402
 
 AT = 1800000000
 LATE = 4000000000
 STATEMENT = "entity-statement+jwt"
-passed, failed = 0, 0
-
-
-def compare(row, got, wanted):
-    global passed, failed
-    if got == wanted:
-        passed += 1
-    else:
-        failed += 1
-        print(f"notes: {row}: {got!r}, not {wanted!r}"[:1200], file=sys.stderr)
+ROWS = Rows("notes")
+compare = ROWS.compare
 
 
 def said(sentences):
@@ -526,8 +518,7 @@ def main():
         check_outside(key)
         check_terminal(key)
         os.chdir(TOP)
-    print(f"notes: {passed} passed, {failed} failed")
-    return 1 if failed else 0
+    return ROWS.end()
 
 
 if __name__ == "__main__":

@@ -1,12 +1,7 @@
 #!/usr/bin/env bash
 # The built program on the repository's examples, as a user runs it. It prints what differs and fails where anything does.
-set -euo pipefail
-cd "$(dirname "$0")/../.."
-fed=$PWD/fed
-place=$(mktemp -d)
-trap 'rm -rf "$place"' EXIT
-passed=0
-failed=0
+# shellcheck source=tests/lib/rows.sh
+source "$(dirname "$0")/../lib/rows.sh"
 
 # answers STATUS TEXT INPUT WORDS..: the program writes TEXT and a line end, and ends with STATUS
 answers() {
@@ -15,14 +10,12 @@ answers() {
     "$fed" "$@" <"$input" >"$place/out" 2>"$place/err" || got=$?
     if [ "$got" = "$status" ] && [ "$(cat "$place/out"; echo .)" = "$text
 ." ]; then
-        passed=$((passed + 1))
+        as_it_should
     else
-        failed=$((failed + 1))
-        echo "program: fed $*: status $got, wrote $(head -c 200 "$place/out")" >&2
+        differs "fed $*: status $got, wrote $(head -c 200 "$place/out")"
     fi
 }
 
-"$fed" --version >/dev/null
 key=$(cat examples/rp.pub)
 text=examples/rp.jwt
 answers 0 "valid https://rp.example" "$text" verify "$key"
@@ -106,5 +99,4 @@ answers 0 "done" /dev/null rotate --ring "$place/ring" --act revoke --kid "$(kid
 answers 1 "refused Order" /dev/null rotate --ring "$place/ring" --act retire --kid "$(kid_of <<<"$second")"
 answers 2 input "$place/two" rotate --ring "$place/claims" --act add --at 3 --exp 4
 
-echo "program: $passed passed, $failed failed"
-[ "$failed" -eq 0 ]
+told

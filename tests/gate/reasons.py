@@ -17,25 +17,18 @@ sys.dont_write_bytecode = True
 sys.path.insert(0, f"{os.path.dirname(os.path.dirname(os.path.abspath(__file__)))}/lib")
 import program  # noqa: E402
 from laid import TOP  # noqa: E402
+from program import Rows  # noqa: E402
 
 AT = 1800000000
 TYP = "entity-statement+jwt"
 RP = "openid_relying_party"
 METADATA = {RP: {"list": ["a"], "scope": "a b", "text": "x"}, "other": {"p": 1}}
-passed, failed = 0, 0
+ROWS = Rows("reasons", 400)
+compare = ROWS.compare
 
 
 def run(words, given=""):
     return program.run(words, given)[:2]
-
-
-def compare(row, got, wanted):
-    global passed, failed
-    if got == wanted:
-        passed += 1
-    else:
-        failed += 1
-        print(f"reasons: {row}: {got!r}, not {wanted!r}"[:400], file=sys.stderr)
 
 
 # ---- texts
@@ -344,8 +337,7 @@ def main():
         check_valid(chain, leaf)
         check_long(long)
         os.chdir(TOP)
-    print(f"reasons: {passed} passed, {failed} failed")
-    return 1 if failed else 0
+    return ROWS.end()
 
 
 if __name__ == "__main__":

@@ -1,22 +1,16 @@
 #!/usr/bin/env bash
 # What the built program does with a ring's file on a disk: twenty commands that change one file at once, locks that stay, links, and files that
 # others can read. It prints what differs and fails where anything does.
-set -euo pipefail
-cd "$(dirname "$0")/../.."
-fed=$PWD/fed
-place=$(mktemp -d)
-trap 'rm -rf "$place"' EXIT
-passed=0
-failed=0
+# shellcheck source=tests/lib/rows.sh
+source "$(dirname "$0")/../lib/rows.sh"
 at_once=20
 
 # holds WORDS..: the test of these words is met
 holds() {
     if test "$@"; then
-        passed=$((passed + 1))
+        as_it_should
     else
-        failed=$((failed + 1))
-        echo "rings: not so: $*" >&2
+        differs "not so: $*"
     fi
 }
 
@@ -33,7 +27,6 @@ add_key() {
     echo "$status"
 }
 
-"$fed" --version >/dev/null
 
 # of twenty that make one file at once, one does, and the others find its file or end with 6
 ring=$place/r
@@ -114,5 +107,4 @@ status=0
 holds "$status $(cat "$place/out")" = "1 refused Unknown"
 holds "$(grep -c "chmod" "$place/err")" = 0
 
-echo "rings: $passed passed, $failed failed"
-[ "$failed" -eq 0 ]
+told

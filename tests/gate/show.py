@@ -16,21 +16,13 @@ import tempfile
 sys.dont_write_bytecode = True
 sys.path.insert(0, f"{os.path.dirname(os.path.dirname(os.path.abspath(__file__)))}/lib")
 from laid import TOP  # noqa: E402
-from program import FED, run  # noqa: E402
+from program import FED, Rows, run  # noqa: E402
 
 AT = 1800000000
 STATEMENT = "entity-statement+jwt"
 LAST = "nothing was verified\n"
-passed, failed = 0, 0
-
-
-def compare(row, got, wanted):
-    global passed, failed
-    if got == wanted:
-        passed += 1
-    else:
-        failed += 1
-        print(f"show: {row}: {got!r}, not {wanted!r}"[:2000], file=sys.stderr)
+ROWS = Rows("show", 2000)
+compare = ROWS.compare
 
 
 def answers(row, words, given, status, text):
@@ -435,8 +427,7 @@ def main():
         check_outside()
         check_help()
         os.chdir(TOP)
-    print(f"show: {passed} passed, {failed} failed")
-    return 1 if failed else 0
+    return ROWS.end()
 
 
 if __name__ == "__main__":

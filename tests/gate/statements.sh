@@ -1,15 +1,9 @@
 #!/usr/bin/env bash
 # Which claims are those of an entity statement, claim by claim (docs/rules/STATEMENTS.md), as `fed issue` answers. It prints what differs and
 # fails where anything does.
-set -euo pipefail
-cd "$(dirname "$0")/../.."
-fed=$PWD/fed
-place=$(mktemp -d)
-trap 'rm -rf "$place"' EXIT
-passed=0
-failed=0
+# shellcheck source=tests/lib/rows.sh
+source "$(dirname "$0")/../lib/rows.sh"
 
-"$fed" --version >/dev/null
 cd "$place"
 printf '%096d\n' 7 | "$fed" keygen --ring ring --at 1 --exp 2 >key
 
@@ -18,10 +12,9 @@ answers() {
     local got=0
     printf '%s\n' "$3" | "$fed" issue --ring ring --typ entity-statement+jwt >out 2>err || got=$?
     if [ "$got" = "$1" ] && { [ -z "$2" ] || [ "$(cat out)" = "$2" ]; }; then
-        passed=$((passed + 1))
+        as_it_should
     else
-        failed=$((failed + 1))
-        echo "statements: $3: status $got, wrote $(head -c 60 out)" >&2
+        differs "$3: status $got, wrote $(head -c 60 out)"
     fi
 }
 reads() { answers 0 "" "{$1}"; }
@@ -120,5 +113,4 @@ answers 2 input "[]"
 answers 2 input "\"x\""
 answers 2 input "{$own"
 
-echo "statements: $passed passed, $failed failed"
-[ "$failed" -eq 0 ]
+told

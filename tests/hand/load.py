@@ -25,6 +25,7 @@ sys.dont_write_bytecode = True
 sys.path.insert(0, f"{os.path.dirname(os.path.dirname(os.path.abspath(__file__)))}/lib")
 import laid  # noqa: E402
 from laid import TOP, Host, free_port, tell  # noqa: E402
+from program import connected  # noqa: E402
 from sealing import decoded, sealed  # noqa: E402
 
 FED = f"{TOP}/fed"
@@ -86,14 +87,7 @@ class Service:
         self.running.communicate(timeout=PATIENCE)
 
     def connect(self):
-        end = time.monotonic() + PATIENCE
-        while True:
-            try:
-                return socket.create_connection(("127.0.0.1", self.port), timeout=PATIENCE)
-            except ConnectionRefusedError:
-                if time.monotonic() > end or self.running.poll() is not None:
-                    raise
-                time.sleep(0.02)
+        return connected(self.running, self.port)
 
     def memory(self):
         """Its resident memory, in KB."""

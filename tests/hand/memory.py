@@ -41,6 +41,8 @@ sys.dont_write_bytecode = True
 TOP = os.path.dirname(os.path.dirname(os.path.dirname(os.path.abspath(__file__))))
 sys.path.insert(0, f"{TOP}/tests/lib")
 from fuzzing.webs import RESET, Web, fetch_of, page_of  # noqa: E402
+from laid import is_free  # noqa: E402
+from program import chosen  # noqa: E402
 from sealing import decoded, sealed  # noqa: E402
 
 # the moment that the clock tells, and the times of what is made for it
@@ -305,12 +307,8 @@ def own_port():
     while True:
         lane += lanes
         port = 20000 + lane % (12000 // lanes * lanes)
-        with socket.socket() as it:
-            try:
-                it.bind(("127.0.0.1", port))
-            except OSError:
-                continue
-        return port
+        if is_free(port):
+            return port
 
 
 def private(path, flags):
@@ -498,18 +496,12 @@ def part_of(text):
     return int(found[1]), int(found[2])
 
 
-def chosen():
+def words_given():
     parser = argparse.ArgumentParser(description=__doc__, formatter_class=argparse.RawDescriptionHelpFormatter)
-    parser.add_argument("--program")
     parser.add_argument("--each", type=int)
     parser.add_argument("--part", type=part_of, default="1/1", metavar="K/N")
     parser.add_argument("names", nargs="*", metavar="NAME")
-    given = parser.parse_args()
-    if given.program is None:
-        subprocess.run([f"{TOP}/fed", "--version"], check=True, stdout=subprocess.DEVNULL)
-        given.program = f"{TOP}/out/fed"
-    given.program = os.path.abspath(given.program)
-    return given
+    return chosen(parser)
 
 
 def marks_in(text):
@@ -578,5 +570,5 @@ def main():
         shutil.rmtree(place)
 
 
-options = chosen()
+options = words_given()
 sys.exit(main())

@@ -13,7 +13,10 @@ import os
 import subprocess
 import sys
 
-TOP = os.path.dirname(os.path.dirname(os.path.dirname(os.path.abspath(__file__))))
+sys.dont_write_bytecode = True
+sys.path.insert(0, f"{os.path.dirname(os.path.dirname(os.path.abspath(__file__)))}/lib")
+from program import chosen  # noqa: E402
+
 MOST, PATIENCE = 200, 300
 
 
@@ -35,17 +38,6 @@ def rehearsed(params):
     return None if got == (0, lines_of(params), "") else f"{params}: {got}"
 
 
-def chosen():
-    parser = argparse.ArgumentParser(description=__doc__, formatter_class=argparse.RawDescriptionHelpFormatter)
-    parser.add_argument("--program")
-    given = parser.parse_args()
-    if given.program is None:
-        subprocess.run([f"{TOP}/fed", "--version"], check=True, stdout=subprocess.DEVNULL)
-        given.program = f"{TOP}/out/fed"
-    given.program = os.path.abspath(given.program)
-    return given
-
-
 def main():
     with multiprocessing.get_context("fork").Pool(len(os.sched_getaffinity(0))) as workers:
         amiss = [it for it in workers.imap_unordered(rehearsed, range(MOST + 1)) if it]
@@ -55,5 +47,5 @@ def main():
     return 1 if amiss else 0
 
 
-options = chosen()
+options = chosen(argparse.ArgumentParser(description=__doc__, formatter_class=argparse.RawDescriptionHelpFormatter))
 sys.exit(main())

@@ -74,13 +74,20 @@ def free_port():
             if port in given:
                 continue
             given.add(port)
-        with socket.socket() as it:
+        if is_free(port, True):
+            return port
+
+
+def is_free(port, closing=False):
+    """Whether nobody listens on the port, and no connection of it stands. One that is closing doesn't count where that is said."""
+    with socket.socket() as it:
+        if closing:
             it.setsockopt(socket.SOL_SOCKET, socket.SO_REUSEADDR, 1)
-            try:
-                it.bind(("127.0.0.1", port))
-            except OSError:
-                continue
-        return port
+        try:
+            it.bind(("127.0.0.1", port))
+        except OSError:
+            return False
+    return True
 
 
 def guarded(row):

@@ -5,7 +5,7 @@ import json
 import os
 
 from . import changes, messages, searches, texts, webs
-from .callers import FIELDS, Server, Told, form, talk
+from .callers import CONNECT, FIELDS, Server, Told, form, talk
 from .changes import Raw
 from .pool import ABOVE, CHANGE, FAR, GONE, HUB, IM, LONG, NODE, RELYING, RESOLVER, RP, SUPERIORS, TA
 from .searches import fetch_of, page_of
@@ -220,24 +220,20 @@ def batch(kind, worker, rng, size, report):
     """So many cases at one process. Where fewer connections than it takes do for these, the others ask for nothing."""
     count = -(-size // KINDS[kind])
     caller = Caller(worker, rng, report, kind)
-    server = Server(worker.pool, worker.port(), count, f"{worker.folder}/log", "resolver", caller.file)
     made, data = 0, b""
-    try:
-        while made < count and report.tried < size:
-            caller.ask(server)
-            made += 1
-        for _ in range(count - made):
-            with server.connect() as it:
-                talk(it, [b"x\r\n\r\n"], "shut", 0)
-        wrong = server.ended()
-        if wrong:
-            raise Failed(data, f"the end after {count} connections: {wrong}")
-    except Failed as failure:
-        save(report, worker, kind, caller, failure, f"request {made} of {count}")
-    finally:
-        if server.running.poll() is None:
-            server.running.kill()
-            server.running.wait()
+    with Server(worker.pool, worker.port(), count, f"{worker.folder}/log", "resolver", caller.file) as server:
+        try:
+            while made < count and report.tried < size:
+                caller.ask(server)
+                made += 1
+            for _ in range(count - made):
+                with server.connect() as it:
+                    talk(it, [b"x\r\n\r\n"], "shut", 0)
+            wrong = server.ended()
+            if wrong:
+                raise Failed(data, f"the end after {count} connections: {wrong}")
+        except Failed as failure:
+            save(report, worker, kind, caller, failure, f"request {made} of {count}")
 
 
 AGAIN = '''#!/usr/bin/env python3
@@ -250,13 +246,7 @@ from fuzzing import searches, webs
 web = webs.Web({web})
 web.pages = {{call: open(name, "rb").read() if name else searches.RESET for call, name in {pages!r}.items()}}
 node = subprocess.Popen([{program!r}, "resolver", "--config", {config!r}, "--port", "{port}", "--connections", "1"])
-while True:
-    try:
-        it = socket.create_connection(("127.0.0.1", {port}), timeout=10)
-        break
-    except ConnectionRefusedError:
-        time.sleep(0.01)
-it.sendall(open("request", "rb").read())
+{connect}it.sendall(open("request", "rb").read())
 it.shutdown(socket.SHUT_WR)
 while got := it.recv(65536):
     sys.stdout.buffer.write(got)
@@ -273,6 +263,7 @@ def save(report, worker, kind, caller, failure, where):
         with open(f"{worker.pool.folder}/{name}", "rb") as it:
             files[name] = it.read()
     tests = os.path.dirname(os.path.dirname(os.path.abspath(__file__)))
+    port = worker.port()
     files["again"] = AGAIN.format(tests=tests, web=caller.web.port, pages=names, program=os.path.abspath(worker.pool.program), config=caller.file,
-                                  port=worker.port()).encode()
+                                  port=port, connect=CONNECT.format(port=port)).encode()
     report.fail(kind, f"{where}: {what}", files)

@@ -9,6 +9,8 @@ import socket
 import sys
 import time
 
+from laid import is_free
+
 from . import askers, callers, files, lines, programs, texts, webs
 
 ONE_RUN = {**texts.KINDS, **files.KINDS, **lines.KINDS, **webs.KINDS}
@@ -137,12 +139,8 @@ class Worker:
         """A port on which nobody listens, below those that Linux gives outgoing connections."""
         while True:
             port = self.ports.randrange(20000, 32768)
-            with socket.socket() as it:
-                try:
-                    it.bind(("127.0.0.1", port))
-                except OSError:
-                    continue
-            return port
+            if is_free(port):
+                return port
 
     def web(self):
         if self.served is None:

@@ -11,6 +11,8 @@ import subprocess
 import time
 from urllib.parse import quote_plus, urlencode
 
+from program import connected
+
 from . import changes, messages
 from .changes import decoded
 from .pool import IM, NODE, RELYING, RP
@@ -51,17 +53,21 @@ class Server:
                                             env=ENVIRONMENT)
         self.wanted = b"served %d\n" % connections, connections
 
+    def __enter__(self):
+        return self
+
+    def __exit__(self, *_):
+        if self.running.poll() is None:
+            self.running.kill()
+            self.running.wait()
+
     def connect(self):
-        end = time.monotonic() + PATIENCE
-        while True:
-            try:
-                it = socket.create_connection(("127.0.0.1", self.port), timeout=PATIENCE)
-                it.setsockopt(socket.IPPROTO_TCP, socket.TCP_NODELAY, 1)
-                return it
-            except ConnectionRefusedError:
-                if time.monotonic() > end or self.running.poll() is not None:
-                    raise Told("nobody listens") from None
-                time.sleep(0.01)
+        try:
+            it = connected(self.running, self.port)
+        except ConnectionRefusedError:
+            raise Told("nobody listens") from None
+        it.setsockopt(socket.IPPROTO_TCP, socket.TCP_NODELAY, 1)
+        return it
 
     def ended(self):
         """What is wrong with how it ended, or nothing."""
@@ -283,8 +289,7 @@ KINDS = {"heads": heads, "streams": streams}
 def batch(kind, worker, rng, size, report):
     """So many connections at one process."""
     log = f"{worker.folder}/log"
-    server = Server(worker.pool, worker.port(), size, log)
-    try:
+    with Server(worker.pool, worker.port(), size, log) as server:
         for number in range(size):
             pieces, end, wait = KINDS[kind](rng, worker.pool)
             began, data = time.time(), b"".join(pieces)
@@ -299,25 +304,23 @@ def batch(kind, worker, rng, size, report):
         wrong = server.ended()
         if wrong:
             save(report, worker, kind, pieces, end, wait, f"the end after {size} connections: {wrong}")
-    finally:
-        if server.running.poll() is None:
-            server.running.kill()
-            server.running.wait()
 
 
+# what a kept failure's script does behind the start of a server
+CONNECT = '''while True:
+    try:
+        it = socket.create_connection(("127.0.0.1", {port}), timeout=10)
+        break
+    except ConnectionRefusedError:
+        time.sleep(0.01)
+'''
 AGAIN = '''#!/usr/bin/env python3
 """Calls an authority once, as tests/hand/fuzz.py did: {what}"""
 import os, socket, struct, subprocess, sys, time
 os.chdir(os.path.dirname(os.path.abspath(__file__)))
 pieces, end, wait = [{pieces}], {end!r}, {wait}
 node = subprocess.Popen([{program!r}, "authority", "--config", "node.json", "--port", "{port}", "--connections", "1"])
-while True:
-    try:
-        it = socket.create_connection(("127.0.0.1", {port}), timeout=10)
-        break
-    except ConnectionRefusedError:
-        time.sleep(0.01)
-for piece in pieces:
+{connect}for piece in pieces:
     it.sendall(open(piece, "rb").read())
     time.sleep(wait)
 if end == "reset":
@@ -337,6 +340,7 @@ def save(report, worker, kind, pieces, end, wait, what):
     for name in ("node.json", "node.ring"):
         with open(f"{worker.pool.folder}/{name}", "rb") as it:
             files[name] = it.read()
-    files["again"] = AGAIN.format(what=what[:200].replace('"', "'").replace("\\", "/"), pieces=names, end=end, wait=wait, program=os.path.abspath(worker.pool.program),
-                                  port=worker.port()).encode()
+    port = worker.port()
+    files["again"] = AGAIN.format(what=what[:200].replace('"', "'").replace("\\", "/"), pieces=names, end=end, wait=wait, port=port,
+                                  program=os.path.abspath(worker.pool.program), connect=CONNECT.format(port=port)).encode()
     report.fail(kind, what, files)
