@@ -1,5 +1,5 @@
 -- Each fault that is told is there.
-use Rattle.std.proofs.Common.{◌≡◌, ◌≢◌, ◌<◌, ◌+◌, ℕ, Bool, true, false, cond, nat_lt, List, [], ◌∷◌, ◌++◌, length, count_by, slice_index_or, Option, Some, None, option_map, option_and_then, is_some, ok_or, Result, Ok, Err, IfErr, codes, refl, sym, ap, ◌∙◌, subst, arith, true≢false}
+use Rattle.std.proofs.Common.{◌≡◌, ◌≢◌, ◌<◌, ◌+◌, ℕ, Bool, true, false, cond, nat_lt, List, [], ◌∷◌, ◌++◌, length, count_by, slice_index_or, Option, Some, None, option_map, option_and_then, is_some, ok_or, Result, Ok, Err, IfErr, codes, refl, sym, ap, ◌∙◌, subst, arith}
 use Rattle.std.proofs.lemmas.Bool.Decides.{nat_tests}
 use Rattle.std.proofs.lemmas.List.Splits.{length-slice_split}
 use Rattle.base64.specs.GeneralPurpose.{IsBytes}
@@ -7,7 +7,9 @@ use Rattle.fed_json.specs.declared.tree.Json.{Json, Text, Object}
 use Rattle.fed_json.specs.declared.tree.Member.{Member}
 use Rattle.fed_json.specs.Trees.{find, as_text, as_object}
 use Rattle.fed_json.specs.Reading.{tree_in}
+use Rattle.fed_base.specs.declared.algorithm.Alg.{Alg}
 use Rattle.jws_form.specs.declared.compact.Compact.{Compact}
+use Rattle.jws_form.specs.declared.header.Names.{Names}
 use Rattle.fed_base.specs.Answers.{◌>>=◌}
 use Rattle.jws_form.specs.declared.fault.FormFault.{FormFault}
 use Rattle.jws_form.specs.declared.fault.FormFault.TheVariants.{TooLong, Parts, Base64, Header, Crit, Algorithm, Memory}
@@ -15,18 +17,13 @@ use Rattle.base64url.specs.Base64url.{base64url, decoded}
 use Rattle.jws_form.specs.Compact.{max_bytes, stop}
 use Rattle.jws_form.specs.Faults.{part, HasHeader, HasTexts, IsTextWhere, HasFault}
 use Rattle.jws_form.specs.Header.{algorithm}
-use Rattle.jws_form.specs.Splitting.{Gives, is_stop, parts_of, three_of, text_of, is_ours, names_of, names_in, bytes_of, compact_of, splitting}
+use Rattle.jws_form.specs.Splitting.{Gives, is_stop, parts_of, three_of, text_of, names_of, names_in, bytes_of, compact_of, splitting}
 use Rattle.base64url.proofs.Canonical.{decoded-base64url, base64url-decoded}
-use Rattle.jws_form.proofs.Headers.{text_of-Text, was_read, read_bytes}
+use Rattle.jws_form.proofs.Headers.{text_of-Text, was_read, read_bytes, names, known}
+use Rattle.jws_form.proofs.Algorithms.{algorithm_of-algorithm}
 use Rattle.jws_form.proofs.Laws.{ok_or_ok, three_of_some, part_bytes}
 use Rattle.jws_form.proofs.Stops.{joined_parts}
 use Rattle.fed_json.proofs.Accessors.{as_object-Object}
-
-abbrev Pair : Type 0
-Pair = Option (List ℕ) × Option (List ℕ)
-
-abbrev pair : Option (List ℕ) → Option (List ℕ) → Pair
-pair typ kid = (typ, kid)
 
 -- ---- the header
 
@@ -42,20 +39,20 @@ text_fault (Some value) fault e = at (as_text value) e
 no_text : (name : List ℕ) (members : List Member) (fault : FormFault) → text_of (find name members) ≡ Err fault → ¬ IsTextWhere name members
 no_text name members fault e = λ is. let ok = sym e ∙ ap text_of is.1 ∙ text_of-Text is.0 in cc ok
 
-unnamed : (Fault : FormFault → Type 0) (ours : Bool) (names : Pair) (fault : FormFault) → cond ours (Ok names) (Err Algorithm) ≡ Err fault → (ours ≡ false → Fault Algorithm) → Fault fault
-unnamed Fault true names fault e other = cc e
-unnamed Fault false names fault e other = let is : Algorithm ≡ fault = cc e in subst Fault is (other refl)
+unnamed : (Fault : FormFault → Type 0) (ours : Option Alg) (said : Alg → Names) (fault : FormFault) → (ok_or ours Algorithm >>= (λ a. Ok (said a))) ≡ Err fault → (ours ≡ None → Fault Algorithm) → Fault fault
+unnamed Fault (Some alg) said fault e other = cc e
+unnamed Fault None said fault e other = let is : Algorithm ≡ fault = cc e in subst Fault is (other refl)
 
 -- the fault of a header's members, by the first step that refuses
 refused : (Fault : FormFault → Type 0) (typ kid alg : Result (Option (List ℕ)) FormFault) (crit : Bool) (fault : FormFault)
     → (typ ≡ Err fault → Fault fault) → (kid ≡ Err fault → Fault fault) → (alg ≡ Err fault → Fault fault) → (crit ≡ true → Fault Crit)
-    → ((name : Option (List ℕ)) → alg ≡ Ok name → is_ours name ≡ false → Fault Algorithm)
-    → (typ >>= (λ t. kid >>= (λ k. alg >>= (λ a. cond crit (Err Crit) (cond (is_ours a) (Ok (pair t k)) (Err Algorithm)))))) ≡ Err fault → Fault fault
+    → ((name : Option (List ℕ)) → alg ≡ Ok name → known name ≡ None → Fault Algorithm)
+    → (typ >>= (λ t. kid >>= (λ k. alg >>= (λ n. cond crit (Err Crit) (ok_or (known n) Algorithm >>= (λ a. Ok (names a t k))))))) ≡ Err fault → Fault fault
 refused Fault (Err f) kid alg crit fault at_typ at_kid at_alg at_crit other e = at_typ (cc e)
 refused Fault (Ok t) (Err f) alg crit fault at_typ at_kid at_alg at_crit other e = at_kid (cc e)
 refused Fault (Ok t) (Ok k) (Err f) crit fault at_typ at_kid at_alg at_crit other e = at_alg (cc e)
 refused Fault (Ok t) (Ok k) (Ok a) true fault at_typ at_kid at_alg at_crit other e = let is : Crit ≡ fault = cc e in subst Fault is (at_crit refl)
-refused Fault (Ok t) (Ok k) (Ok a) false fault at_typ at_kid at_alg at_crit other e = unnamed Fault (is_ours a) (t, k) fault e (other a refl)
+refused Fault (Ok t) (Ok k) (Ok a) false fault at_typ at_kid at_alg at_crit other e = unnamed Fault (known a) (λ alg. names alg t k) fault e (other a refl)
 
 -- the text has one header
 one_header : (x header : List ℕ) (members : List Member) → decoded (part x 0) ≡ Some header → HasHeader x members → tree_in header ≡ Some (Object members)
@@ -78,11 +75,12 @@ is_absent : (o : Option Json) → is_some o ≡ true → o ≢ None
 is_absent None e = λ none. cc e
 is_absent (Some value) e = λ none. cc none
 
-not_ours : (o : Option Json) (name : Option (List ℕ)) → text_of o ≡ Ok name → is_ours name ≡ false → o ≢ Some (Text algorithm)
-not_ours o name is other = λ ours.
-    let same = sym is ∙ ap text_of ours ∙ text_of-Text (Some algorithm) in
-    let named : name ≡ Some algorithm = cc same in
-    true≢false (sym (ap is_ours named) ∙ other)
+not_ours : (o : Option Json) (name : Option (List ℕ)) → text_of o ≡ Ok name → known name ≡ None → (alg : Alg) → o ≢ Some (Text (algorithm alg))
+not_ours o name is other alg = λ ours.
+    let same = sym is ∙ ap text_of ours ∙ text_of-Text (Some (algorithm alg)) in
+    let named : name ≡ Some (algorithm alg) = cc same in
+    let clash = sym other ∙ ap known named ∙ algorithm_of-algorithm alg in
+    cc clash
 
 members_refused : (x header : List ℕ) (members : List Member) (fault : FormFault) → part x 0 ≡ base64url header → decoded (part x 0) ≡ Some header → tree_in header ≡ Some (Object members)
     → names_of members ≡ Err fault → HasFault x fault
@@ -111,7 +109,7 @@ names_refused x header fault spelled is e = object_refused x header (option_and_
 -- ---- the parts
 
 -- the fault of three parts, by the first step that refuses
-three_refused : (Fault : FormFault → Type 0) (first second third : Result (List ℕ) FormFault) (names : List ℕ → Result Pair FormFault) (made : List ℕ → List ℕ → Pair → Compact) (fault : FormFault)
+three_refused : (Fault : FormFault → Type 0) (first second third : Result (List ℕ) FormFault) (names : List ℕ → Result Names FormFault) (made : List ℕ → List ℕ → Names → Compact) (fault : FormFault)
     → (first ≡ Err fault → Fault fault) → (second ≡ Err fault → Fault fault) → (third ≡ Err fault → Fault fault)
     → ((header : List ℕ) → first ≡ Ok header → names header ≡ Err fault → Fault fault)
     → (first >>= (λ h. second >>= (λ p. third >>= (λ s. names h >>= (λ n. Ok (made p s n)))))) ≡ Err fault → Fault fault
@@ -120,7 +118,7 @@ three_refused Fault (Ok h) (Err f) third names made fault at_first at_second at_
 three_refused Fault (Ok h) (Ok p) (Err f) names made fault at_first at_second at_third at_names e = at_third (cc e)
 three_refused Fault (Ok h) (Ok p) (Ok s) names made fault at_first at_second at_third at_names e = at_names h refl (last (names h) e)
   where
-    last : (r : Result Pair FormFault) → (r >>= (λ n. Ok (made p s n))) ≡ Err fault → r ≡ Err fault
+    last : (r : Result Names FormFault) → (r >>= (λ n. Ok (made p s n))) ≡ Err fault → r ≡ Err fault
     last (Ok n) is = cc is
     last (Err f) is = cc is
 
@@ -145,7 +143,7 @@ parts_refused x p fault bytes are e =
     let joined = joined_parts x p.0 p.1 p.2 are in
     let first = part_bytes p.0 p.1 p.2 (subst IsBytes joined bytes) in
     three_refused (HasFault x) (bytes_of 0 p.0) (bytes_of 1 p.1) (bytes_of 2 p.2) names_in
-    (λ payload signature names. record { whole = x; typ = names.0; kid = names.1; payload = payload; signed = p.0 ++ stop ∷ p.1; signature = signature }) fault
+    (λ payload signature said. record { whole = x; alg = said.alg; typ = said.typ; kid = said.kid; payload = payload; signed = p.0 ++ stop ∷ p.1; signature = signature }) fault
     (part_refused x p.0 0 fault (at 0)) (part_refused x p.1 1 fault (at 1)) (part_refused x p.2 2 fault (at 2))
     (λ header ok told.
     let is = decoded_ok 0 p.0 header ok in

@@ -6,7 +6,9 @@ use Rattle.std.proofs.lemmas.Bool.Decides.{nat_tests}
 use Rattle.std.proofs.lemmas.List.Splits.{slice_split_none, slice_split_at}
 use Rattle.base64.specs.GeneralPurpose.{IsBytes}
 use Rattle.base64.proofs.EngineFacts.{front_bytes}
+use Rattle.fed_base.specs.declared.algorithm.Alg.{Alg}
 use Rattle.jws_form.specs.declared.compact.Compact.{Compact}
+use Rattle.jws_form.specs.declared.header.Names.{Names}
 use Rattle.fed_base.specs.Answers.{◌>>=◌}
 use Rattle.jws_form.specs.declared.fault.FormFault.{FormFault}
 use Rattle.jws_form.specs.declared.fault.FormFault.TheVariants.{TooLong, Parts, Base64}
@@ -43,8 +45,8 @@ only x c is =
     let parts = ap parts_of spelled ∙ parts_of-joined input.header c.payload c.signature in
     let whole = is.whole_is in
     let signed = input.signed_is in
-    rw (small, parts, bytes_of-base64url 0 input.header (header_bytes input.header c.typ c.kid input.header_is), bytes_of-base64url 1 c.payload input.payload_bytes, bytes_of-base64url 2 c.signature is.signature_bytes, names_in-IsHeaderText input.header c.typ c.kid input.header_is)
-    (ap₂ (λ w g. Ok (record { whole = w; typ = c.typ; kid = c.kid; payload = c.payload; signed = g; signature = c.signature })) (sym whole) (sym signed))
+    rw (small, parts, bytes_of-base64url 0 input.header (header_bytes input.header c.alg c.typ c.kid input.header_is), bytes_of-base64url 1 c.payload input.payload_bytes, bytes_of-base64url 2 c.signature is.signature_bytes, names_in-IsHeaderText input.header c.alg c.typ c.kid input.header_is)
+    (ap₂ (λ w g. Ok (record { whole = w; alg = c.alg; typ = c.typ; kid = c.kid; payload = c.payload; signed = g; signature = c.signature })) (sym whole) (sym signed))
 
 -- a text has its parts in one way
 pub IsCompact-unique : (x : List ℕ) (c d : Compact) → IsCompact x c → IsCompact x d → c ≡ d
@@ -87,32 +89,32 @@ part_bytes a b c bytes =
     }
 
 -- what the reading of three parts let through
-record PartsTaken (x signed : List ℕ) (first second third : Result (List ℕ) FormFault) (names : List ℕ → Result (Option (List ℕ) × Option (List ℕ)) FormFault) (c : Compact) : Type 0 where
+record PartsTaken (x signed : List ℕ) (first second third : Result (List ℕ) FormFault) (names : List ℕ → Result Names FormFault) (c : Compact) : Type 0 where
   header : List ℕ
   first_ok : first ≡ Ok header
   second_ok : second ≡ Ok c.payload
   third_ok : third ≡ Ok c.signature
-  names_ok : names header ≡ Ok ((c.typ, c.kid))
+  names_ok : names header ≡ Ok (record { alg = c.alg; typ = c.typ; kid = c.kid })
   whole_is : x ≡ c.whole
   signed_is : signed ≡ c.signed
 
-named : (x signed h p s : List ℕ) (names : List ℕ → Result (Option (List ℕ) × Option (List ℕ)) FormFault) (r : Result (Option (List ℕ) × Option (List ℕ)) FormFault) (c : Compact) → names h ≡ r
-    → (r >>= (λ n. Ok (record { whole = x; typ = n.0; kid = n.1; payload = p; signed = signed; signature = s }))) ≡ Ok c → PartsTaken x signed (Ok h) (Ok p) (Ok s) names c
+named : (x signed h p s : List ℕ) (names : List ℕ → Result Names FormFault) (r : Result Names FormFault) (c : Compact) → names h ≡ r
+    → (r >>= (λ n. Ok (record { whole = x; alg = n.alg; typ = n.typ; kid = n.kid; payload = p; signed = signed; signature = s }))) ≡ Ok c → PartsTaken x signed (Ok h) (Ok p) (Ok s) names c
 named x signed h p s names (Ok n) c is e =
-    let same : record { whole = x; typ = n.0; kid = n.1; payload = p; signed = signed; signature = s } ≡ c = cc e in
+    let same : record { whole = x; alg = n.alg; typ = n.typ; kid = n.kid; payload = p; signed = signed; signature = s } ≡ c = cc e in
     record {
       header = h;
       first_ok = refl;
       second_ok = ap (λ d. Ok d.payload) same;
       third_ok = ap (λ d. Ok d.signature) same;
-      names_ok = is ∙ ap (λ d. Ok ((d.typ, d.kid))) same;
+      names_ok = is ∙ ap (λ d. Ok (record { alg = d.alg; typ = d.typ; kid = d.kid })) same;
       whole_is = ap (λ d. d.whole) same;
       signed_is = ap (λ d. d.signed) same;
     }
 named x signed h p s names (Err f) c is e = cc e
 
-parts_taken : (x signed : List ℕ) (first second third : Result (List ℕ) FormFault) (names : List ℕ → Result (Option (List ℕ) × Option (List ℕ)) FormFault) (c : Compact)
-    → (first >>= (λ h. second >>= (λ p. third >>= (λ s. names h >>= (λ n. Ok (record { whole = x; typ = n.0; kid = n.1; payload = p; signed = signed; signature = s })))))) ≡ Ok c
+parts_taken : (x signed : List ℕ) (first second third : Result (List ℕ) FormFault) (names : List ℕ → Result Names FormFault) (c : Compact)
+    → (first >>= (λ h. second >>= (λ p. third >>= (λ s. names h >>= (λ n. Ok (record { whole = x; alg = n.alg; typ = n.typ; kid = n.kid; payload = p; signed = signed; signature = s })))))) ≡ Ok c
     → PartsTaken x signed first second third names c
 parts_taken x signed (Ok h) (Ok p) (Ok s) names c e = named x signed h p s names (names h) c refl e
 parts_taken x signed (Ok h) (Ok p) (Err f) names c e = cc e
@@ -163,7 +165,7 @@ found_by (Err fault) x bytes forms e = tt
 
 -- ---- what is written reads
 
-pub IsSigningInput-written : (r : Result (List ℕ) Memory) (header payload : List ℕ) (typ kid : Option (List ℕ)) → IfOk r (λ text. text ≡ signing_input_of header payload)
-    → IsBytes payload → IsHeaderText header typ kid → IfOk r (λ text. IsSigningInput text payload typ kid)
-IsSigningInput-written (Ok text) header payload typ kid is bytes reads = record { header = header; header_is = reads; payload_bytes = bytes; signed_is = is }
-IsSigningInput-written (Err want) header payload typ kid is bytes reads = tt
+pub IsSigningInput-written : (r : Result (List ℕ) Memory) (header payload : List ℕ) (alg : Alg) (typ kid : Option (List ℕ)) → IfOk r (λ text. text ≡ signing_input_of header payload)
+    → IsBytes payload → IsHeaderText header alg typ kid → IfOk r (λ text. IsSigningInput text payload alg typ kid)
+IsSigningInput-written (Ok text) header payload alg typ kid is bytes reads = record { header = header; header_is = reads; payload_bytes = bytes; signed_is = is }
+IsSigningInput-written (Err want) header payload alg typ kid is bytes reads = tt

@@ -1,3 +1,4 @@
+pub mod Algorithms
 pub mod Alphabet
 pub mod Bytes
 pub mod Faults

@@ -1,6 +1,7 @@
 -- What each fault says of a text, apart from the order in which faults are told.
 use Rattle.std.specs.Prelude.{◌≡◌, ◌≢◌, ◌<◌, ℕ, List, [], length, count_by, slice_index_or, codes, Option, Some, None, option_map}
 use Rattle.base64.specs.GeneralPurpose.{IsBytes}
+use Rattle.fed_base.specs.declared.algorithm.Alg.{Alg}
 use Rattle.fed_json.specs.declared.tree.Json.{Text, Object}
 use Rattle.fed_json.specs.declared.tree.Member.{Member}
 use Rattle.fed_json.specs.Trees.{find}
@@ -39,5 +40,5 @@ HasFault x Parts = count_by is_stop x ≢ 2
 HasFault x (Base64 number) = (bytes : List ℕ) → IsBytes bytes → part x number ≢ base64url bytes
 HasFault x Header = (members : List Member) → HasHeader x members → ¬ HasTexts members
 HasFault x Crit = (members : List Member) × HasHeader x members × (find (codes "crit") members ≢ None)
-HasFault x Algorithm = (members : List Member) × HasHeader x members × (find (codes "alg") members ≢ Some (Text algorithm))
+HasFault x Algorithm = (members : List Member) × HasHeader x members × ((alg : Alg) → find (codes "alg") members ≢ Some (Text (algorithm alg)))
 HasFault x Memory = Unit {0}

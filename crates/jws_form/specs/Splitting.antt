@@ -1,5 +1,5 @@
 -- What taking a text apart answers: its parts, or the first fault.
-use Rattle.std.specs.Prelude.{◌≡◌, ℕ, ◌==◌, List, [], ◌∷◌, ◌++◌, length, codes, bytes_eq, nat_lt, Bool, false, is_some, Option, Some, None, option_and_then, ok_or, IfSome, Result, Ok, Err, if◌then◌else◌}
+use Rattle.std.specs.Prelude.{◌≡◌, ℕ, ◌==◌, List, [], ◌∷◌, ◌++◌, length, codes, nat_lt, Bool, is_some, Option, Some, None, option_and_then, ok_or, IfSome, Result, Ok, Err, if◌then◌else◌}
 use Rattle.std.specs.List.{slice_split}
 use Rattle.std.specs.Str.{IsUtf8}
 use Rattle.base64.specs.GeneralPurpose.{IsBytes}
@@ -9,10 +9,11 @@ use Rattle.fed_json.specs.Trees.{find, as_text, as_object, optional}
 use Rattle.fed_json.specs.Reading.{tree_in}
 use Rattle.fed_base.specs.Answers.{◌>>=◌}
 use Rattle.jws_form.specs.declared.compact.Compact.{Compact}
+use Rattle.jws_form.specs.declared.header.Names.{Names}
 use Rattle.jws_form.specs.declared.fault.FormFault.{FormFault}
 use Rattle.jws_form.specs.declared.fault.FormFault.TheVariants.{TooLong, Parts, Base64, Header, Crit, Algorithm, Memory}
 use Rattle.base64url.specs.Base64url.{decoded}
-use Rattle.jws_form.specs.Header.{algorithm}
+use Rattle.jws_form.specs.Header.{algorithm_of}
 use Rattle.jws_form.specs.Compact.{max_bytes, stop}
 
 -- the answer is the one that is expected, unless memory was wanting
@@ -33,23 +34,19 @@ is_stop byte = byte == stop
 abbrev pub text_of : Option Json → Result (Option (List ℕ)) FormFault
 text_of value = ok_or (optional as_text value) Header
 
--- the value of `alg` is there, and names the algorithm (RFC 7515 section 4.1.1)
-abbrev pub is_ours : Option (List ℕ) → Bool
-is_ours None = false
-is_ours (Some alg) = bytes_eq alg algorithm
-
--- the type and the key name that the members of a header give (RFC 7515 section 4.1)
-unfoldable pub names_of : List Member → Result (Option (List ℕ) × Option (List ℕ)) FormFault
+-- the algorithm, the type and the key name that the members of a header give (RFC 7515 section 4.1)
+unfoldable pub names_of : List Member → Result Names FormFault
 names_of members = do
   typ ← text_of (find (codes "typ") members)
   kid ← text_of (find (codes "kid") members)
   alg ← text_of (find (codes "alg") members)
   if is_some (find (codes "crit") members) then Err Crit
-      else if is_ours alg then Ok (typ, kid)
-      else Err Algorithm
+      else do
+        known ← ok_or (option_and_then algorithm_of alg) Algorithm
+        Ok (record { alg = known; typ = typ; kid = kid })
 
 -- the same of a JSON text (RFC 7515 section 5.2, steps 3 to 5)
-unfoldable pub names_in : List ℕ → Result (Option (List ℕ) × Option (List ℕ)) FormFault
+unfoldable pub names_in : List ℕ → Result Names FormFault
 names_in bytes = do
   members ← ok_or (option_and_then as_object (tree_in bytes)) Header
   names_of members
@@ -79,8 +76,9 @@ compact_of x parts = do
   names ← names_in header
   Ok (record {
     whole = x;
-    typ = names.0;
-    kid = names.1;
+    alg = names.alg;
+    typ = names.typ;
+    kid = names.kid;
     payload = payload;
     signed = parts.0 ++ stop ∷ parts.1;
     signature = signature;

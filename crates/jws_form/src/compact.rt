@@ -1,6 +1,6 @@
 // The parts of a compact text.
 
-use fed_base::{Duplicate, Memory, Text};
+use fed_base::{Alg, Duplicate, Memory, Text};
 use std::alloc::Global;
 
 /// A compact text, taken apart (RFC 7515 section 5.2).
@@ -8,6 +8,8 @@ use std::alloc::Global;
 pub struct Compact {
     /// The text itself, at most 262,144 bytes.
     pub whole: Text,
+    /// The algorithm that the header's `alg` names.
+    pub alg: Alg,
     /// The header's `typ`, UTF-8.
     pub typ: Option<Text>,
     /// The header's `kid`, UTF-8, which names the key that signed.
@@ -24,6 +26,7 @@ impl Duplicate for Compact {
     fn copy(&self, alloc: Global) -> Result<Self, Memory> {
         Ok(Compact {
             whole: self.whole.copy(alloc)?,
+            alg: self.alg,
             typ: self.typ.copy(alloc)?,
             kid: self.kid.copy(alloc)?,
             payload: self.payload.copy(alloc)?,

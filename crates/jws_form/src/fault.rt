@@ -23,8 +23,8 @@ pub enum FormFault {
     /// The header asks for extensions, of which none is known here (RFC 7515 section 4.1.11).
     #[error("the header asks for extensions by `crit`")]
     Crit,
-    /// The header's `alg` is absent or isn't `SLH-DSA-SHA2-128s`.
-    #[error("the header's `alg` is not SLH-DSA-SHA2-128s")]
+    /// The header's `alg` is absent, or is neither `SLH-DSA-SHA2-128s` nor `SLH-DSA-SHA2-128f`.
+    #[error("the header's `alg` is neither SLH-DSA-SHA2-128s nor SLH-DSA-SHA2-128f")]
     Algorithm,
     /// There was no memory for the parts.
     #[error("out of memory")]

@@ -7,23 +7,25 @@ ghost use Rattle.fed_json.specs.Forms.{members_well_formed};
 ghost use Rattle.fed_json.specs.Trees.{find as found};
 ghost use Rattle.jws_form.specs.Splitting.{Gives, GivesBy, text_of, names_of, names_in};
 
-use crate::FormFault;
-use fed_base::{Duplicate, Memory, Text};
+use crate::{FormFault, algorithm_of};
+use fed_base::{Alg, Duplicate, Memory, Text};
 use fed_json::{Json, Member, TreeFault, find, read_tree};
 use std::alloc::Global;
 
-/// The `alg` of every text and key that verifies: the parameter set of FIPS 205 (RFC 7515 section 4.1.1).
-pub const ALGORITHM: &[u8] = b"SLH-DSA-SHA2-128s";
+/// What a header says (RFC 7515 sections 4.1.1, 4.1.9 and 4.1.4).
+#[derive(Drop)]
+pub(crate) struct Names {
+    pub alg: Alg,
+    pub typ: Option<Text>,
+    pub kid: Option<Text>,
+}
 
-/// The `typ` and `kid` of a header (RFC 7515 sections 4.1.9 and 4.1.4).
+/// The algorithm, `typ` and `kid` of a header.
 #[tactic(auto, unfolding(crate::specs::Splitting::names_in))]
-pub(crate) fn read_header(
-    alloc: Global,
-    bytes: &[u8],
-) -> Result<(Option<Text>, Option<Text>), FormFault>
+pub(crate) fn read_header(alloc: Global, bytes: &[u8]) -> Result<Names, FormFault>
     ensures exact { Gives result (names_in bytes.now) }
-    ensures typ { IfOk result (λ names. IfSome names.0 IsUtf8) }
-    ensures kid { IfOk result (λ names. IfSome names.1 IsUtf8) }
+    ensures typ { IfOk result (λ names. IfSome names.typ IsUtf8) }
+    ensures kid { IfOk result (λ names. IfSome names.kid IsUtf8) }
 {
     match read_tree(alloc, bytes) {
         Ok(Json::Object(members)) => read_members(alloc, members.as_slice()),
@@ -34,14 +36,11 @@ pub(crate) fn read_header(
 
 // The same of the header's members.
 #[tactic(auto, unfolding(crate::specs::Splitting::names_of))]
-fn read_members(
-    alloc: Global,
-    members: &[Member],
-) -> Result<(Option<Text>, Option<Text>), FormFault>
+fn read_members(alloc: Global, members: &[Member]) -> Result<Names, FormFault>
     requires { IsTrue (members_well_formed members.now) }
     ensures exact { Gives result (names_of members.now) }
-    ensures typ { IfOk result (λ names. IfSome names.0 IsUtf8) }
-    ensures kid { IfOk result (λ names. IfSome names.1 IsUtf8) }
+    ensures typ { IfOk result (λ names. IfSome names.typ IsUtf8) }
+    ensures kid { IfOk result (λ names. IfSome names.kid IsUtf8) }
 {
     let typ = optional_text(members, b"typ")?;
     let kid = optional_text(members, b"kid")?;
@@ -49,10 +48,14 @@ fn read_members(
     if find(members, b"crit").is_some() {
         return Err(FormFault::Crit);
     }
-    match alg {
-        Some(alg) if alg.as_slice() == ALGORITHM => Ok((copied(alloc, typ)?, copied(alloc, kid)?)),
-        _ => Err(FormFault::Algorithm),
-    }
+    let Some(alg) = alg.and_then(|name| algorithm_of(name.as_slice())) else {
+        return Err(FormFault::Algorithm);
+    };
+    Ok(Names {
+        alg,
+        typ: copied(alloc, typ)?,
+        kid: copied(alloc, kid)?,
+    })
 }
 
 // The text under a name, where the name is there (RFC 7515 section 4).

@@ -1,6 +1,7 @@
 // Texts put together.
 
 ghost use Rattle.std.specs.Prelude.{◌≡◌, ◌≤◌, List, ℕ, Option, IfOk, length};
+ghost use Rattle.fed_base.specs.declared.algorithm.Alg.{Alg};
 ghost use Rattle.fed_json.specs.Compact.{compact};
 ghost use Rattle.fed_json.specs.Forms.{IsWhole, nesting};
 ghost use Rattle.jws_form.specs.declared.compact.Compact.{Compact};
@@ -19,8 +20,8 @@ use std::alloc::Global;
 pub fn signing_input(alloc: Global, header: &Json, payload: &[u8]) -> Result<Text, Memory>
     requires { IsWhole header.now }
     ensures text { IfOk result (λ text. text ≡ signing_input_of (compact header.now) payload.now) }
-    ensures reads { (typ kid : Option (List ℕ)) → IsHeader header.now typ kid
-        → nesting header.now ≤ 127 → IfOk result (λ text. IsSigningInput text payload.now typ kid) }
+    ensures reads { (alg : Alg) (typ kid : Option (List ℕ)) → IsHeader header.now alg typ kid
+        → nesting header.now ≤ 127 → IfOk result (λ text. IsSigningInput text payload.now alg typ kid) }
 {
     let header = write_tree(alloc, header)?;
     encoded_parts(alloc, header.as_slice(), payload)
@@ -44,10 +45,11 @@ fn encoded_parts(alloc: Global, header: &[u8], payload: &[u8]) -> Result<Text, M
 /// and what that takes apart is joined again to the same text.
 pub fn join(alloc: Global, signed: &Text, signature: &[u8]) -> Result<Text, Memory>
     ensures text { IfOk result (λ text. text ≡ joined signed.now signature.now) }
-    ensures splits { (payload : List ℕ) (typ kid : Option (List ℕ))
-        → IsSigningInput signed.now payload typ kid
+    ensures splits { (payload : List ℕ) (alg : Alg) (typ kid : Option (List ℕ))
+        → IsSigningInput signed.now payload alg typ kid
         → IfOk result (λ text. length text ≤ max_bytes → IsCompact text (record {
           whole = text;
+          alg = alg;
           typ = typ;
           kid = kid;
           payload = payload;

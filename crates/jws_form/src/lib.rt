@@ -6,6 +6,7 @@
 //! payload.
 #![tactic(auto)]
 
+mod algorithm;
 mod compact;
 mod fault;
 mod header;
@@ -13,8 +14,8 @@ mod joining;
 mod parts;
 mod splitting;
 
+pub use algorithm::{algorithm_name, algorithm_of};
 pub use compact::Compact;
 pub use fault::FormFault;
-pub use header::ALGORITHM;
 pub use joining::{join, signing_input};
 pub use splitting::split;

@@ -44,11 +44,12 @@ fn read_parts(alloc: Global, text: &[u8], parts: &Parts<'_>) -> Result<Compact, 
     let header = part_bytes(alloc, 0, parts.header)?;
     let payload = part_bytes(alloc, 1, parts.payload)?;
     let signature = part_bytes(alloc, 2, parts.signature)?;
-    let (typ, kid) = read_header(alloc, header.as_slice())?;
+    let names = read_header(alloc, header.as_slice())?;
     Ok(Compact {
         whole: Text::of(alloc, text)?,
-        typ,
-        kid,
+        alg: names.alg,
+        typ: names.typ,
+        kid: names.kid,
         payload,
         signed: Text::of(alloc, parts.signed)?,
         signature,

@@ -5,7 +5,3 @@ use Rattle.jws_form.proofs.header.read_members.Goals as goal
 pub returns-in_default-clause-exact : goal.returns-in_default-clause-exact
 unfolding names_of
 returns-in_default-clause-exact c = search rules
-
-pub returns-in_ok-copied-in-Some-2-clause-exact : goal.returns-in_ok-copied-in-Some-2-clause-exact
-unfolding names_of
-returns-in_ok-copied-in-Some-2-clause-exact c = search rules
