@@ -52,6 +52,7 @@ signs from then on; a live key signs no more, and what it signed stays good; or
 a key isn't to be trusted any more.
 
 words    --ring FILE  the ring file
+         --act ACT    what is changed: add, retire or revoke
          --at T       from when the new key is for, or since when the key is
                       revoked, in seconds since 1970
          --exp T      until when the new key is for
