@@ -309,7 +309,7 @@ def check_verify(key):
         (unsigned(claims_of(1, 0)), "Names",
          "standard input: iss is https://e1.example and sub is https://e0.example; in a configuration they are equal"),
         (unsigned(good), "Signature",
-         "standard input: the signature doesn't verify under the key that was given; the kid of the text is k"),
+         "standard input: the SLH-DSA-SHA2-128s signature doesn't verify under the key that was given; the kid of the text is k"),
     ]:
         row(words, given, 1, f"refused {written}\n", sentence)
 
@@ -350,16 +350,16 @@ def check_chains(key, other):
     refused(with_claims(1, exp=AT), "1 Times", f"place 1 (https://e1.example about https://e0.example) expired at {moment(AT)}")
     refused(with_claims(2, iat=AT + 61), "2 Times",
             f"place 2 (https://e1.example about itself) is issued at {moment(AT + 61)}, more than a minute after {moment(AT)}")
-    refused(texts, "0 Signature", "place 0 (https://e0.example about itself) is signed by the key k, which isn't in its own jwks")
+    refused(texts, "0 Signature", "place 0 (https://e0.example about itself) is signed by the SLH-DSA-SHA2-128s key k, which isn't in its own jwks")
     named = [unsigned(claims[0], kid=key["kid"]), *texts[1:]]
     refused(named, "0 Signature",
-            f"place 0 (https://e0.example about itself): the signature doesn't verify under the key {key['kid']}"
+            f"place 0 (https://e0.example about itself): the signature doesn't verify under the SLH-DSA-SHA2-128s key {key['kid']}"
             " both of its own jwks and of the jwks of the next text")
     signed = [sealed("ring", claims[0]), sealed("other", claims[1]), sealed("other", claims[2])]
     refused([signed[0], texts[1], signed[2]], "1 Signature",
-            "place 1 (https://e1.example about https://e0.example): there is no key k in the jwks of the next text")
+            "place 1 (https://e1.example about https://e0.example): there is no SLH-DSA-SHA2-128s key k in the jwks of the next text")
     make("none.json", {"keys": []})
-    refused(signed, "2 Signature", f"place 2 (https://e1.example about itself): there is no key {other['kid']} among the anchor's keys",
+    refused(signed, "2 Signature", f"place 2 (https://e1.example about itself): there is no SLH-DSA-SHA2-128s key {other['kid']} among the anchor's keys",
             keys="none.json")
     rp = "openid_relying_party"
     refused([signed[0], sealed("other", {**claims[1], "constraints": {"naming_constraints": {"excluded": ["e0.example"]}}}), signed[2]],

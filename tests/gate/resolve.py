@@ -167,8 +167,8 @@ def entity_pages():
         ("a statement", IM_RP, f"has another text, by {IM} about {RP}"),
         ("expired", unsealed({**own_rp, "exp": expired}), f"expired at {moment(expired)}"),
         ("no kid", unsealed(own_rp, kid=None), "has no kid in its header, the name of the key that signed"),
-        ("another key", sealed(own_rp, "other"), f"is signed by the key {kid}, which isn't in its own jwks"),
-        ("another signature", unsealed(own_rp, kid=KEYS[RP]["kid"]), f": the signature doesn't verify under its own key {KEYS[RP]['kid']}"),
+        ("another key", sealed(own_rp, "other"), f"is signed by the SLH-DSA-SHA2-128s key {kid}, which isn't in its own jwks"),
+        ("another signature", unsealed(own_rp, kid=KEYS[RP]["kid"]), f": the signature doesn't verify under its own SLH-DSA-SHA2-128s key {KEYS[RP]['kid']}"),
     ]
     for row, page, sentence, *more in rows:
         space = "" if sentence.startswith(":") else " "
@@ -211,12 +211,12 @@ def chains():
     both = own(TA, metadata=endpoint(TA), jwks={"keys": [KEYS["other"], KEYS[TA]]})
     name = {"openid_relying_party": {"client_name": {"value": "B"}}}
     rows = [
-        ("another key", "chain", {fetch_of(IM, RP): sealed(about(IM, RP), "other")}, f"{im_rp}: there is no key {kid} in the jwks of the next text"),
+        ("another key", "chain", {fetch_of(IM, RP): sealed(about(IM, RP), "other")}, f"{im_rp}: there is no SLH-DSA-SHA2-128s key {kid} in the jwks of the next text"),
         ("another signature", "chain", {fetch_of(IM, RP): unsealed(about(IM, RP), kid=KEYS[IM]["kid"])},
-         f"{im_rp}: the signature doesn't verify under the key {KEYS[IM]['kid']} in the jwks of the next text"),
+         f"{im_rp}: the signature doesn't verify under the SLH-DSA-SHA2-128s key {KEYS[IM]['kid']} in the jwks of the next text"),
         ("expired", "chain", {fetch_of(TA, IM): unsealed(about(TA, IM, exp=NOW - 5))}, f"{ta_im} expired at {moment(NOW - 5)}"),
         ("another key of the anchor", "chain", {page_of(TA): sealed(both, "other")},
-         f"place 3 ({TA} about itself): there is no key {kid} among the anchor's keys"),
+         f"place 3 ({TA} about itself): there is no SLH-DSA-SHA2-128s key {kid} among the anchor's keys"),
         ("a path too long", "chain", {fetch_of(TA, IM): sealed(about(TA, IM, constraints={"max_path_length": 0}), TA)},
          f"{ta_im} allows a max_path_length of 0; between it and the leaf stand 1"),
         ("a name that isn't allowed", "chain",
