@@ -19,7 +19,7 @@ from laid import TOP  # noqa: E402
 from program import FED, Rows, run  # noqa: E402
 
 AT = 1800000000
-STATEMENT = "entity-statement+jwt"
+STATEMENT, ALGORITHM = "entity-statement+jwt", "SLH-DSA-SHA2-128s"
 LAST = "nothing was verified\n"
 ROWS = Rows("show", 2000)
 compare = ROWS.compare
@@ -135,7 +135,7 @@ def sections(text):
 
 # ---- signed texts
 
-HEADER = {"alg": "SLH-DSA-SHA2-128s", "kid": "k", "typ": STATEMENT}
+HEADER = {"alg": ALGORITHM, "kid": "k", "typ": STATEMENT}
 
 
 def unsigned(claims, **header):
@@ -297,7 +297,7 @@ def check_configs():
     key = made("node.ring", 8, AT + 2000000)
     node = {"entity_id": "https://ta.example", "ring": "node.ring", "lifetime": 86400}
     kid = key["kid"]
-    own = f"key {kid} live until {date(AT + 2000000)}\n"
+    own = f"key {kid} {ALGORITHM} live until {date(AT + 2000000)}\n"
     soon = f"ends soon: key {kid} {date(AT + 2000000)}\n"
     always = ["/historical-keys", "/trust-mark-status"]
 
@@ -333,8 +333,8 @@ def check_configs():
     third = run(f"rotate --ring node.ring --act add --at 1 --exp {AT}", seeds(10))[1].strip()
     run(f"rotate --ring node.ring --act retire --kid {kid}")
     run(f"rotate --ring node.ring --act revoke --kid {third} --at 77 --reason superseded")
-    told("keys in each state", node, AT, head + f"key {third} revoked since {date(77)}, superseded\nkey {second} live until {date(AT * 2)}\n"
-         f"key {kid} retired until {date(AT + 2000000)}\n" + served("https://ta.example", always))
+    told("keys in each state", node, AT, head + f"key {third} {ALGORITHM} revoked since {date(77)}, superseded\n"
+         f"key {second} {ALGORITHM} live until {date(AT * 2)}\nkey {kid} {ALGORITHM} retired until {date(AT + 2000000)}\n" + served("https://ta.example", always))
     # faults, in their order
     for member in ["entity_id", "ring", "lifetime", "metadata", "authority_hints", "trust_marks", "trust_mark_issuers", "trust_mark_owners", "subordinates",
                    "revoked_marks", "resolver"]:
