@@ -9,15 +9,18 @@ use Rattle.base64url.specs.Base64url.{IsBytes, base64url, decoded_32}
 use Rattle.base64url.proofs.Canonical.{decoded_32_iff, is_utf8-base64url, IsBytes-base64url}
 use Rattle.fed_json.specs.declared.tree.Json.{Json, Text, the_lemmas}
 use Rattle.fed_json.specs.declared.tree.Member.{Member}
+use Rattle.fed_base.specs.declared.algorithm.Alg.{Alg}
+use Rattle.fed_base.specs.declared.algorithm.Alg.TheVariants.{Small, Fast}
 use Rattle.fed_base.specs.declared.faults.Memory.{Memory}
 use Rattle.fed_json.specs.Forms.{has_odd, well_formed, whole, IsWhole}
 use Rattle.fed_json.specs.Trees.{as_object, text_at}
 use Rattle.jws_form.specs.Header.{algorithm}
+use Rattle.jws_form.proofs.Algorithms.{algorithm_of-algorithm}
 use Rattle.fed_json.proofs.Booleans.{both_true, left_true, right_true}
 use Rattle.fed_json.proofs.Layers.{has_odd-Object, whole-Object, well_formed-Text}
 use Rattle.jwk_set.specs.declared.jwk.Jwk.{Jwk}
 use Rattle.jwk_set.specs.declared.jwk.Jwk.TheVariants.{Own, Foreign}
-use Rattle.jwk_set.specs.Keys.{key_type, is_own, own_key, key_of, key_in, is_foreign, is_key}
+use Rattle.jwk_set.specs.Keys.{key_type, algorithm_at, is_own, own_key, key_of, key_in, is_foreign, is_key}
 use Rattle.jwk_set.specs.Trees.{own_tree}
 use Rattle.fed_json.specs.Members.{text_member}
 use Rattle.fed_json.proofs.Accessors.{as_object-Object, as_text-Text}
@@ -29,9 +32,9 @@ pub whole_text : (t : List ℕ) → is_utf8 t ≡ true → whole (Text t) ≡ tr
 whole_text t utf8 = both_true (well_formed-Text t ∙ utf8) (ap not (odd_text t))
 
 -- the members of an own key
-abbrev own_members : List ℕ → List ℕ → List Member
-own_members kid public =
-    text_member (codes "alg") algorithm ∷ text_member (codes "kid") kid ∷ text_member (codes "kty") key_type ∷ text_member (codes "pub") (base64url public) ∷ []
+abbrev own_members : List ℕ → Alg → List ℕ → List Member
+own_members kid alg public =
+    text_member (codes "alg") (algorithm alg) ∷ text_member (codes "kid") kid ∷ text_member (codes "kty") key_type ∷ text_member (codes "pub") (base64url public) ∷ []
 
 below_128 : (t : List ℕ) (i : ℕ) → list_all (λ x. nat_lt x 128) t ≡ true → get_or t i 0 < 128
 below_128 [] i all = omega arith
@@ -42,11 +45,15 @@ below_128 (x ∷ t) (suc i) all = below_128 t i (right_true (nat_lt x 128) _ all
 pub ascii : (t : List ℕ) → list_all (λ x. nat_lt x 128) t ≡ true → is_utf8 t ≡ true
 ascii t all = is_utf8-from_IsUtf8 t (IsUtf8-from_ascii t (λ i. below_128 t i all))
 
-pub own_whole : (kid public : List ℕ) → is_utf8 kid ≡ true → whole (own_tree kid public) ≡ true
-own_whole kid public utf8 =
-    whole-Object (own_members kid public)
+ascii_algorithm : (alg : Alg) → list_all (λ x. nat_lt x 128) (algorithm alg) ≡ true
+ascii_algorithm Small = refl
+ascii_algorithm Fast = refl
+
+pub own_whole : (kid : List ℕ) (alg : Alg) (public : List ℕ) → is_utf8 kid ≡ true → whole (own_tree kid alg public) ≡ true
+own_whole kid alg public utf8 =
+    whole-Object (own_members kid alg public)
     ∙ rw (
-      whole_text algorithm (ascii algorithm refl),
+      whole_text (algorithm alg) (ascii (algorithm alg) (ascii_algorithm alg)),
       whole_text kid utf8,
       whole_text key_type (ascii key_type refl),
       whole_text (base64url public) (is_utf8-base64url public),
@@ -56,18 +63,23 @@ own_whole kid public utf8 =
       ascii (codes "pub") refl,
     ) refl
 
-own_odd : (kid public : List ℕ) → has_odd (own_tree kid public) ≡ false
-own_odd kid public = has_odd-Object (own_members kid public) ∙ rw (odd_text algorithm, odd_text kid, odd_text key_type, odd_text (base64url public)) refl
+own_odd : (kid : List ℕ) (alg : Alg) (public : List ℕ) → has_odd (own_tree kid alg public) ≡ false
+own_odd kid alg public = has_odd-Object (own_members kid alg public) ∙ rw (odd_text (algorithm alg), odd_text kid, odd_text key_type, odd_text (base64url public)) refl
 
-own_is_own : (kid public : List ℕ) → is_own (own_members kid public) ≡ true
+own_algorithm : (kid : List ℕ) (alg : Alg) (public : List ℕ) → algorithm_at (own_members kid alg public) ≡ Some alg
+unfolding algorithm_at
+own_algorithm kid alg public = rw (as_text-Text (algorithm alg), algorithm_of-algorithm alg) refl
+
+own_is_own : (kid : List ℕ) (alg : Alg) (public : List ℕ) → is_own (own_members kid alg public) ≡ true
 unfolding is_own
-own_is_own kid public = rw (as_text-Text key_type, as_text-Text algorithm) refl
+own_is_own kid alg public = rw (as_text-Text key_type, own_algorithm kid alg public) refl
 
-pub own_read : (kid public : List ℕ) → nat_lt 0 (length kid) ≡ true → IsBytes public → length public ≡ 32 → key_in (own_tree kid public) ≡ Some (Own kid public)
+pub own_read : (kid : List ℕ) (alg : Alg) (public : List ℕ) → nat_lt 0 (length kid) ≡ true → IsBytes public → length public ≡ 32
+    → key_in (own_tree kid alg public) ≡ Some (Own kid alg public)
 unfolding key_in key_of own_key
-own_read kid public named bytes size =
+own_read kid alg public named bytes size =
     let back : decoded_32 (base64url public) ≡ Some public = (decoded_32_iff (base64url public) public (IsBytes-base64url public) bytes size).1 refl in
-    rw (own_odd kid public, as_object-Object (own_members kid public), own_is_own kid public, as_text-Text key_type, as_text-Text kid, as_text-Text (base64url public), named, back) refl
+    rw (own_odd kid alg public, as_object-Object (own_members kid alg public), own_is_own kid alg public, own_algorithm kid alg public, as_text-Text key_type, as_text-Text kid, as_text-Text (base64url public), named, back) refl
 
 -- a foreign key is read as it stands
 foreign_by : (tree : Json) (odd : Bool) (o : Option (List Member)) → has_odd tree ≡ odd → as_object tree ≡ o

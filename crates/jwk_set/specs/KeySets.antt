@@ -4,6 +4,8 @@ use Rattle.std.specs.Option.{option_and_then}
 use Rattle.std.specs.List.{list_any}
 use Rattle.fed_json.specs.declared.tree.Json.{Json}
 use Rattle.fed_json.specs.Trees.{as_object, text_at}
+use Rattle.fed_base.specs.declared.algorithm.Alg.{Alg}
+use Rattle.fed_base.specs.declared.algorithm.Alg.TheVariants.{Small, Fast}
 use Rattle.fed_base.specs.Answers.{◌>>=◌}
 use Rattle.jwk_set.specs.declared.jwk.Jwk.{Jwk}
 use Rattle.jwk_set.specs.declared.jwk.Jwk.TheVariants.{Own, Foreign}
@@ -14,7 +16,7 @@ use Rattle.jwk_set.specs.Listed.{listed_in}
 
 -- the name of a key, where it is a text (RFC 7517 section 4.5)
 abbrev pub kid_of : Jwk → Option (List ℕ)
-kid_of (Own kid public) = Some kid
+kid_of (Own kid alg public) = Some kid
 kid_of (Foreign tree) = option_and_then (text_at (codes "kid")) (as_object tree)
 
 -- both are there, and they are one text
@@ -36,11 +38,18 @@ distinct_after earlier (key ∷ keys) = not (repeats_kid earlier key) && distinc
 unfoldable pub are_distinct : List Jwk → Bool
 are_distinct keys = distinct_after [] keys
 
--- the public key of the own key of that kid
-unfoldable pub key_named : List ℕ → List Jwk → Option (List ℕ)
-key_named kid [] = None
-key_named kid (Own k public ∷ keys) = if bytes_eq k kid then Some public else key_named kid keys
-key_named kid (Foreign tree ∷ keys) = key_named kid keys
+-- both are one algorithm
+abbrev pub is_one_algorithm : Alg → Alg → Bool
+is_one_algorithm Small Small = true
+is_one_algorithm Small Fast = false
+is_one_algorithm Fast Small = false
+is_one_algorithm Fast Fast = true
+
+-- the public key of the own key of that kid and algorithm
+unfoldable pub key_named : List ℕ → Alg → List Jwk → Option (List ℕ)
+key_named kid alg [] = None
+key_named kid alg (Own k a public ∷ keys) = if bytes_eq k kid && is_one_algorithm a alg then Some public else key_named kid alg keys
+key_named kid alg (Foreign tree ∷ keys) = key_named kid alg keys
 
 -- the tree is a set of these keys: each member has the form of its key, and no two have one kid
 pub record IsKeySet (tree : Json) (keys : List Jwk) : Type 0 where

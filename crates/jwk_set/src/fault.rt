@@ -10,8 +10,8 @@ pub enum SetFault {
     #[error("the value is not a set of at most 64 keys")]
     NotSet,
     /// The member at this place isn't an object, has no text `kty`, or holds a number that isn't kept; or it is of the
-    /// type AKP and the algorithm SLH-DSA-SHA2-128s, and has no text `kid` or an empty one, no `pub` of 32 bytes in
-    /// base64url, or a member `priv`.
+    /// type AKP and the algorithm SLH-DSA-SHA2-128s or SLH-DSA-SHA2-128f, and has no text `kid` or an empty one, no
+    /// `pub` of 32 bytes in base64url, or a member `priv`.
     #[error("member {0} of the set is not a key")]
     Shape(u64),
     /// The member at this place has the text `kid` of an earlier one.

@@ -9,7 +9,7 @@ ghost use Rattle.jwk_set.specs.Listed.{max_keys};
 use crate::fault::SetFault;
 use crate::jwk::{Jwk, write_key};
 use crate::keys::{listed_in, read_keys};
-use fed_base::{Duplicate, Memory, Seq, Text};
+use fed_base::{Alg, Duplicate, Memory, Seq, Text};
 use fed_json::{Json, Member};
 use std::alloc::Global;
 
@@ -26,6 +26,7 @@ pub struct JwkSet {
 
 impl JwkSet {
     ghost use Rattle.std.specs.Prelude.{◌≡◌, ◌↔◌, ℕ, List, Contains, IfOk, Ok, Some};
+    ghost use Rattle.fed_base.specs.declared.algorithm.Alg.{Alg};
     ghost use Rattle.fed_json.specs.declared.tree.Json.{Json};
     ghost use Rattle.fed_json.specs.Forms.{IsWellFormed, IsWhole};
     ghost use Rattle.jwk_set.specs.declared.jwk.Jwk.{Jwk};
@@ -48,14 +49,18 @@ impl JwkSet {
         Ok(JwkSet { keys })
     }
 
-    /// The public key of the own key of that `kid`, which is the only one.
-    pub fn key_of(&self, kid: &Text) -> Option<[u8; 32]>
-        ensures exact { result ≡ key_named kid.now self.now.keys }
-        ensures named { (public : List ℕ) → (result ≡ Some public) ↔ Contains self.now.keys (Own kid.now public) }
+    /// The public key of the own key of that `kid` and algorithm. No other key has its `kid`.
+    pub fn key_of(&self, kid: &Text, alg: Alg) -> Option<[u8; 32]>
+        ensures exact { result ≡ key_named kid.now alg self.now.keys }
+        ensures named { (public : List ℕ) → (result ≡ Some public) ↔ Contains self.now.keys (Own kid.now alg public) }
     {
         for key in self.keys.as_slice() {
             match key {
-                Jwk::Own { kid: name, public } => if name.as_slice() == kid.as_slice() {
+                Jwk::Own {
+                    kid: name,
+                    alg: own,
+                    public,
+                } => if name.as_slice() == kid.as_slice() && *own == alg {
                     return Some(*public);
                 },
                 Jwk::Foreign(_) => {},

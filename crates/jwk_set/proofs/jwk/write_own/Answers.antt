@@ -9,10 +9,10 @@ use Rattle.jwk_set.proofs.jwk.write_own.Goals as goal
 
 pub returns-clause-whole : goal.returns-clause-whole
 returns-clause-whole c =
-    let is : Object c.push-4.new.self ≡ own_tree c.args.kid.now c.args.public.now = search rules in
-    ap whole is ∙ own_whole c.args.kid.now c.args.public.now (right_true _ _ c.requires)
+    let is : Object c.push-4.new.self ≡ own_tree c.args.kid.now c.args.alg c.args.public.now = search rules in
+    ap whole is ∙ own_whole c.args.kid.now c.args.alg c.args.public.now (right_true _ _ c.requires)
 
 pub returns-clause-reads_back : goal.returns-clause-reads_back
 returns-clause-reads_back c =
-    let is : Object c.push-4.new.self ≡ own_tree c.args.kid.now c.args.public.now = search rules in
-    ap key_in is ∙ own_read c.args.kid.now c.args.public.now (left_true _ _ c.requires) c.fits-public c.told-public
+    let is : Object c.push-4.new.self ≡ own_tree c.args.kid.now c.args.alg c.args.public.now = search rules in
+    ap key_in is ∙ own_read c.args.kid.now c.args.alg c.args.public.now (left_true _ _ c.requires) c.fits-public c.told-public
