@@ -11,7 +11,6 @@
 
 mod address;
 mod clock;
-mod file_lock;
 mod input;
 mod kept_file;
 mod link;
@@ -21,7 +20,6 @@ mod memory_source;
 mod memory_store;
 mod named_file;
 mod network;
-mod output;
 mod page;
 mod peer;
 mod real;
@@ -33,7 +31,9 @@ mod store;
 
 pub use address::{Address, listen_address};
 pub use clock::Clock;
-pub use fed_base::{Alg, CallPlan, Duplicate, Failed, Ledger, MOMENT_LIMIT, Memory, Plain, Seq, Steps, Text};
+pub use fed_base::{
+    Alg, CallPlan, Duplicate, Failed, Ledger, MOMENT_LIMIT, Memory, Plain, Seq, Steps, Text,
+};
 pub use input::{ReadEnd, read_all};
 pub use link::{Link, LinkFault};
 pub use memory_clock::MemoryClock;
@@ -42,12 +42,11 @@ pub use memory_source::MemorySource;
 pub use memory_store::MemoryStore;
 pub use named_file::NamedFile;
 pub use network::Network;
-pub use output::write_all;
 pub use page::Page;
 pub use peer::Peer;
 pub use real::{RealSink, RealSource};
 pub use real_clock::RealClock;
 pub use real_store::RealStore;
-pub use sink::Sink;
+pub use sink::{Sink, write_all};
 pub use source::Source;
 pub use store::{FILE_LIMIT, Store, StoreFault};

@@ -3,7 +3,6 @@
 ghost use Rattle.std.specs.Prelude.{◌≡◌, None};
 ghost use Rattle.fed_ports.specs.Stores.{Loads};
 
-use crate::file_lock::{leave, take};
 use crate::input::{ReadEnd, read_all};
 use crate::real::RealSource;
 use crate::store::{Store, StoreFault};
@@ -181,7 +180,7 @@ fn replace<R: Files + Eprint>(
     let mut lock = name.copy(alloc).ok()?;
     lock.append(b".lock").ok()?;
     let lock = str::from_utf8(lock.as_slice()).ok()?;
-    if !take(rt, lock) {
+    if !take_lock(rt, lock) {
         return None;
     }
     let kept = if is_link(rt, path) || !still_stands(rt, alloc, name, path, seen) {
@@ -189,7 +188,7 @@ fn replace<R: Files + Eprint>(
     } else {
         keep_file(rt, alloc, name, bytes)
     };
-    leave(rt, lock);
+    leave_lock(rt, lock);
     kept
 }
 
@@ -220,5 +219,31 @@ impl<'a, R: Files + AllocGlobal + Eprint> Store for RealStore<'a, R> {
                 Err(Failed)
             }
         }
+    }
+}
+
+// Takes the lock of that name, a file of its own that is made where there is none, or says why it can't be taken.
+fn take_lock<R: Files + Eprint>(rt: &R, lock: &str) -> bool {
+    let mut how = OpenOptions::new();
+    how.write(true).create_new(true).mode(0o600);
+    match how.open(rt, lock) {
+        Ok(_) => true,
+        Err(error) => {
+            if error.kind() == ErrorKind::AlreadyExists {
+                let _ = eprintln!(rt;
+                    "fed: {lock} is there: another program is changing the file, or one ended before it was done; where none runs, remove {lock} and try again"
+                );
+            }
+            false
+        }
+    }
+}
+
+// Gives the lock back, or says that it stays.
+fn leave_lock<R: Files + Eprint>(rt: &R, lock: &str) {
+    if fs::remove_file(rt, lock).is_err() {
+        let _ = eprintln!(rt;
+            "fed: {lock} could not be removed; remove it before the file is changed again"
+        );
     }
 }

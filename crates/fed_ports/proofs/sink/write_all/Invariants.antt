@@ -1,6 +1,6 @@
 use Rattle.std.proofs.Common.{◌≡◌, ◌≤◌, ◌-◌, length, take}
 use Rattle.fed_ports.specs.Bytes.{Appends}
-use Rattle.fed_ports.proofs.output.write_all.Given as goal
+use Rattle.fed_ports.proofs.sink.write_all.Given as goal
 
 abbrev pub invariant-loop-at : goal.invariant-loop-at
 invariant-loop-at g l = let sink = g.K.Sink in record {

@@ -1,7 +1,7 @@
 use Rattle.std.proofs.Common.{◌≡◌, ap, rules, arith, length, take, drop, ◌-◌, take_all, List, ℕ}
 use Rattle.std.proofs.lemmas.List.{length-drop}
 use Rattle.fed_ports.proofs.Appending.{appends_on}
-use Rattle.fed_ports.proofs.output.write_all.Goals as goal
+use Rattle.fed_ports.proofs.sink.write_all.Goals as goal
 
 whole : (x : List ℕ) (i : ℕ) → take (length x - i) (drop i x) ≡ drop i x
 whole x i = take_all (length x - i) (drop i x) (omega (arith, length-drop i x))
