@@ -13,7 +13,7 @@ use Rattle.jws_form.specs.Splitting.{splitting}
 use Rattle.jws_form.proofs.Laws.{only}
 use Rattle.jwk_set.specs.declared.jwk.Jwk.{Jwk}
 use Rattle.slh_hash.specs.declared.params.Params.{Params}
-use Rattle.slh_hash.specs.declared.params.TheConstants.{P128S}
+use Rattle.slh_dsa.specs.Algorithms.{set_of}
 use Rattle.slh_dsa.specs.Verifying.{VerifiesBy, root_from, signature_bytes}
 use Rattle.sealed.specs.Seals.{Pair, pair_of, IsSealed, IsUnsealed, IsSealedBy, named_key}
 use Rattle.sealed.specs.Deciding.{Splits, verifies_by, has_signature, is_sealed, is_sealed_by, are_sealed}
@@ -43,7 +43,7 @@ VerifiesBy-from_verifies_by p public message sig test =
 
 pub is_sealed-from_IsSealed : (pair : Pair) → IsSealed pair → is_sealed pair ≡ true
 unfolding is_sealed
-is_sealed-from_IsSealed pair seal = rw (only pair.text seal.compact seal.splits) (verifies_by-from_VerifiesBy P128S pair.public seal.compact.signed seal.compact.signature seal.verifies)
+is_sealed-from_IsSealed pair seal = rw (only pair.text seal.compact seal.splits) (verifies_by-from_VerifiesBy (set_of seal.compact.alg) pair.public seal.compact.signed seal.compact.signature seal.verifies)
 
 sealed_by_parts : (pair : Pair) → Splits pair.text → (r : Result Compact FormFault) → splitting pair.text ≡ r
     → option_map_or (λ compact. has_signature compact pair.public) (result_ok r) false ≡ true → IsSealed pair
@@ -51,7 +51,7 @@ sealed_by_parts pair splits (Err fault) is test = absurd (true≢false (sym test
 sealed_by_parts pair splits (Ok compact) is test = record {
   compact = compact;
   splits = splits compact is;
-  verifies = VerifiesBy-from_verifies_by P128S pair.public compact.signed compact.signature test;
+  verifies = VerifiesBy-from_verifies_by (set_of compact.alg) pair.public compact.signed compact.signature test;
 }
 
 pub IsSealed-from_is_sealed : (pair : Pair) → Splits pair.text → is_sealed pair ≡ true → IsSealed pair
@@ -67,14 +67,14 @@ pub is_sealed-from_IsUnsealed : (pair : Pair) → IsUnsealed pair → is_sealed 
 unfolding is_sealed
 is_sealed-from_IsUnsealed pair miss =
     rw (only pair.text miss.compact miss.splits)
-    (not_true (has_signature miss.compact pair.public) (λ test. miss.fails (VerifiesBy-from_verifies_by P128S pair.public miss.compact.signed miss.compact.signature test)))
+    (not_true (has_signature miss.compact pair.public) (λ test. miss.fails (VerifiesBy-from_verifies_by (set_of miss.compact.alg) pair.public miss.compact.signed miss.compact.signature test)))
 
 -- ---- a text and a set
 
 pub is_sealed_by-from_IsSealedBy : (text : List ℕ) (keys : List Jwk) → IsSealedBy text keys → is_sealed_by text keys ≡ true
 unfolding is_sealed_by
 is_sealed_by-from_IsSealedBy text keys seal =
-    rw (only text seal.compact seal.splits, seal.named) (verifies_by-from_VerifiesBy P128S seal.public seal.compact.signed seal.compact.signature seal.verifies)
+    rw (only text seal.compact seal.splits, seal.named) (verifies_by-from_VerifiesBy (set_of seal.compact.alg) seal.public seal.compact.signed seal.compact.signature seal.verifies)
 
 named_by_key : (text : List ℕ) (keys : List Jwk) (compact : Compact) → IsCompact text compact → (o : Option (List ℕ)) → named_key compact keys ≡ o
     → option_map_or (has_signature compact) o false ≡ true → IsSealedBy text keys
@@ -84,7 +84,7 @@ named_by_key text keys compact splits (Some public) named test = record {
   splits = splits;
   public = public;
   named = named;
-  verifies = VerifiesBy-from_verifies_by P128S public compact.signed compact.signature test;
+  verifies = VerifiesBy-from_verifies_by (set_of compact.alg) public compact.signed compact.signature test;
 }
 
 named_by_parts : (text : List ℕ) (keys : List Jwk) → Splits text → (r : Result Compact FormFault) → splitting text ≡ r

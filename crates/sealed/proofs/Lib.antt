@@ -1,3 +1,4 @@
 pub mod DecidingLaws
 pub mod Headers
+pub mod SealLaws
 pub mod Sealings

@@ -8,7 +8,7 @@ use Rattle.jws_form.specs.Compact.{IsCompact}
 use Rattle.jws_form.specs.Splitting.{splitting}
 use Rattle.jwk_set.specs.declared.jwk.Jwk.{Jwk}
 use Rattle.slh_hash.specs.declared.params.Params.{Params}
-use Rattle.slh_hash.specs.declared.params.TheConstants.{P128S}
+use Rattle.slh_dsa.specs.Algorithms.{set_of}
 use Rattle.slh_dsa.specs.Verifying.{root_from, signature_bytes}
 use Rattle.sealed.specs.Seals.{Pair, pair_of, named_key}
 
@@ -17,9 +17,9 @@ unfoldable pub verifies_by : Params → List ℕ → List ℕ → List ℕ → B
 verifies_by p public message sig =
     nat_eq (length sig) (signature_bytes p) && bytes_eq (root_from p (take 16 public) (drop 16 public) message sig) (drop 16 public)
 
--- the signature of a compact text verifies under the key (RFC 7515 section 5.2, step 8)
+-- the signature of a compact text verifies under the key, in the algorithm that its header names (RFC 7515 section 5.2, step 8)
 abbrev pub has_signature : Compact → List ℕ → Bool
-has_signature compact public = verifies_by P128S public compact.signed compact.signature
+has_signature compact public = verifies_by (set_of compact.alg) public compact.signed compact.signature
 
 -- the text is a compact text that verifies under the key
 unfoldable pub is_sealed : Pair → Bool

@@ -8,7 +8,7 @@ pub enum SealFault {
     /// Its header has no `kid`.
     #[error("the header names no key")]
     NoKid,
-    /// Its header's `kid` is that of no own key of the set.
+    /// No own key of the set has its header's `kid` and its algorithm.
     #[error("the set has no such key")]
     NoKey,
     /// Its signature doesn't verify under the key that its header names.

@@ -15,4 +15,4 @@ pub use fault::SealFault;
 pub use pairs::{Sealed, Unsealed};
 pub use sealing::{seal, seal_payload};
 pub use tested::Tested;
-pub use testing::{check_sealed, test_key};
+pub use testing::{check_sealed, is_sealed, test_key};

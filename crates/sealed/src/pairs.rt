@@ -47,7 +47,7 @@ impl Sealed {
         ensures text { result.now ≡ self.now.text }
         ensures sealed { IsSealed self.now }
         ensures verifies { (c : Compact) → IsCompact self.now.text c
-            → Verifies self.now.public c.signed c.signature }
+            → Verifies c.alg self.now.public c.signed c.signature }
     {
         &self.text
     }
@@ -96,7 +96,7 @@ impl Unsealed {
         ensures text { result.now ≡ self.now.text }
         ensures unsealed { IsUnsealed self.now }
         ensures fails { (c : Compact) → IsCompact self.now.text c
-            → ¬ Verifies self.now.public c.signed c.signature }
+            → ¬ Verifies c.alg self.now.public c.signed c.signature }
     {
         &self.text
     }

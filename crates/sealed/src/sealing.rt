@@ -9,11 +9,11 @@ ghost use Rattle.jws_form.specs.Compact.{max_bytes};
 ghost use Rattle.jws_form.specs.Header.{IsHeader};
 ghost use Rattle.sealed.specs.Sealing.{HasParts, IsObject, IsSealedFor, header_of, sealed_payload, sealed_text};
 
-use fed_base::{Memory, Seq, Text};
+use fed_base::{Alg, Memory, Seq, Text};
 use fed_json::{Json, text_member, write_tree};
 use jwk_set::thumbprint;
-use jws_form::{ALGORITHM, join, signing_input};
-use slh_dsa::{KeyPair, SIGNATURE_BYTES, sign};
+use jws_form::{algorithm_name, join, signing_input};
+use slh_dsa::{KeyPair, MOST_SIGNATURE_BYTES, sign, signature_bytes};
 use std::alloc::Global;
 
 /// Signs claims as a text of that type (RFC 7515 section 5.1): [`seal_payload`] of the claims as compact JSON, which read
@@ -31,9 +31,9 @@ pub fn seal(alloc: Global, keys: &KeyPair, typ: &Text, claims: &Json) -> Result<
     seal_payload(alloc, keys, typ, payload.as_slice())
 }
 
-/// Signs a payload as a text of that type (RFC 7515 section 5.1). The header, in compact JSON, has `alg`, the signer's
-/// thumbprint as `kid`, and `typ`. A text of at most 262,144 bytes is taken apart into these, and is sealed by each set in
-/// which the signer's key has its thumbprint.
+/// Signs a payload as a text of that type (RFC 7515 section 5.1). The header, in compact JSON, has the key's algorithm as
+/// `alg`, the signer's thumbprint as `kid`, and `typ`. A text of at most 262,144 bytes is taken apart into these, and is
+/// sealed by each set in which the signer's key has its thumbprint.
 pub fn seal_payload(
     alloc: Global,
     keys: &KeyPair,
@@ -45,25 +45,27 @@ pub fn seal_payload(
     ensures sealed { IfOk result (IsSealedFor keys.now) }
     ensures splits { IfOk result (λ text. length text ≤ max_bytes → HasParts keys.now typ.now payload.now text) }
 {
-    let kid = thumbprint(alloc, &keys.public())?;
-    let header = header(alloc, &kid, typ)?;
+    let alg = keys.alg();
+    let kid = thumbprint(alloc, alg, &keys.public())?;
+    let header = header(alloc, alg, &kid, typ)?;
     let signed = signing_input(alloc, &header, payload)?;
-    let mut signature = [0; SIGNATURE_BYTES];
-    sign(keys, signed.as_slice(), &mut signature);
-    join(alloc, &signed, &signature)
+    let mut buffer = [0; MOST_SIGNATURE_BYTES];
+    let signature = &mut buffer[..signature_bytes(alg)];
+    sign(keys, signed.as_slice(), signature);
+    join(alloc, &signed, signature)
 }
 
 // The header of a text that the key of that name signs: `alg`, `kid` and `typ`.
-fn header(alloc: Global, kid: &Text, typ: &Text) -> Result<Json, Memory>
+fn header(alloc: Global, alg: Alg, kid: &Text, typ: &Text) -> Result<Json, Memory>
     requires kid { IsUtf8 kid.now }
     requires typ { IsUtf8 typ.now }
-    ensures tree { IfOk result (λ tree. tree ≡ header_of kid.now typ.now) }
+    ensures tree { IfOk result (λ tree. tree ≡ header_of alg kid.now typ.now) }
     ensures whole { IfOk result IsWhole }
-    ensures names { IfOk result (λ tree. IsHeader tree (Some typ.now) (Some kid.now)) }
+    ensures names { IfOk result (λ tree. IsHeader tree alg (Some typ.now) (Some kid.now)) }
     ensures shallow { IfOk result (λ tree. nesting tree ≤ 127) }
 {
     let mut members = Seq::new(alloc);
-    members.push(text_member(alloc, b"alg", ALGORITHM)?)?;
+    members.push(text_member(alloc, b"alg", algorithm_name(alg))?)?;
     members.push(text_member(alloc, b"kid", kid.as_slice())?)?;
     members.push(text_member(alloc, b"typ", typ.as_slice())?)?;
     Ok(Json::Object(members))

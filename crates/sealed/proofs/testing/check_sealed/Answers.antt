@@ -1,5 +1,6 @@
 use Rattle.std.proofs.Common.{◌≡◌, ℕ, List, Option, Some, None, Ok, Err, refl, sym, ap, ◌∙◌, subst}
 use Rattle.std.specs.Option.{option_and_then}
+use Rattle.fed_base.specs.declared.algorithm.Alg.{Alg}
 use Rattle.jws_form.specs.declared.compact.Compact.{Compact}
 use Rattle.jwk_set.specs.declared.jwk.Jwk.{Jwk}
 use Rattle.jwk_set.specs.KeySets.{key_named}
@@ -11,11 +12,11 @@ use Rattle.sealed.proofs.Sealings.{decided}
 use Rattle.sealed.proofs.testing.check_sealed.Goals as goal
 
 -- the header names one key
-keyed : (kid other public : List ℕ) (given found : Option (List ℕ)) (keys : List Jwk) → given ≡ Some kid → found ≡ key_named kid keys → found ≡ Some public
-    → given ≡ Some other → key_named other keys ≡ None → ⊥
-keyed kid other public given found keys is exact some at none =
+keyed : (alg : Alg) (kid other public : List ℕ) (given found : Option (List ℕ)) (keys : List Jwk) → given ≡ Some kid → found ≡ key_named kid alg keys → found ≡ Some public
+    → given ≡ Some other → key_named other alg keys ≡ None → ⊥
+keyed alg kid other public given found keys is exact some at none =
     let same : kid ≡ other = let both = sym is ∙ at in cc both in
-    let bad = sym some ∙ exact ∙ ap (λ k. key_named k keys) same ∙ none in
+    let bad = sym some ∙ exact ∙ ap (λ k. key_named k alg keys) same ∙ none in
     cc bad
 
 -- a test that passed, under the key that the header names
@@ -38,7 +39,7 @@ pub returns-in_default-key_of-clause-checked : goal.returns-in_default-key_of-cl
 returns-in_default-key_of-clause-checked g c = (
   c.in-Some.kid,
   c.in-Some.is,
-  ap (option_and_then (λ kid. key_named kid c.args.set.now.keys)) c.in-Some.is ∙ sym c.key_of.ensures.exact ∙ c.in_default-key_of.is,
+  ap (option_and_then (λ kid. key_named kid c.args.compact.now.alg c.args.set.now.keys)) c.in-Some.is ∙ sym c.key_of.ensures.exact ∙ c.in_default-key_of.is,
 )
 
 pub returns-in_default-key_of-clause-decides : goal.returns-in_default-key_of-clause-decides
@@ -49,7 +50,7 @@ pub returns-clause-checked : goal.returns-clause-checked
 returns-clause-checked g c =
     let tested : IsTested c.args.compact.now c.in-Some-key_of.public (No c.in-No.field-0) = rw c.in-No.is at c.in_ok-seal.ensures.tested in (
       c.in-Some-key_of.public,
-      ap (option_and_then (λ kid. key_named kid c.args.set.now.keys)) c.in-Some.is ∙ sym c.key_of.ensures.exact ∙ c.in-Some-key_of.is,
+      ap (option_and_then (λ kid. key_named kid c.args.compact.now.alg c.args.set.now.keys)) c.in-Some.is ∙ sym c.key_of.ensures.exact ∙ c.in-Some-key_of.is,
       tested.1,
     )
 
@@ -60,19 +61,19 @@ pub returns-in-Yes-clause-checked : goal.returns-in-Yes-clause-checked
 returns-in-Yes-clause-checked g c =
     let tested : IsTested c.args.compact.now c.in-Some-key_of.public (Yes c.in-Yes.seal) = rw c.in-Yes.is at c.in_ok-seal.ensures.tested in
     sealed_checked c.args.compact.now c.args.set.now.keys c.in-Some-key_of.public c.in-Yes.seal
-    (ap (option_and_then (λ kid. key_named kid c.args.set.now.keys)) c.in-Some.is ∙ sym c.key_of.ensures.exact ∙ c.in-Some-key_of.is) tested
+    (ap (option_and_then (λ kid. key_named kid c.args.compact.now.alg c.args.set.now.keys)) c.in-Some.is ∙ sym c.key_of.ensures.exact ∙ c.in-Some-key_of.is) tested
 
 pub returns-in-Yes-clause-decides : goal.returns-in-Yes-clause-decides
 returns-in-Yes-clause-decides g c = decided c.args.compact.now c.args.set.now.keys (Ok c.in-Yes.seal) c.requires (returns-in-Yes-clause-checked g c)
 
 pub returns-in-Yes-clause-keyless : goal.returns-in-Yes-clause-keyless
 returns-in-Yes-clause-keyless g c = λ kid at none.
-    absurd (keyed c.in-Some.kid kid c.in-Some-key_of.public c.args.compact.now.kid c.key_of.result c.args.set.now.keys c.in-Some.is c.key_of.ensures.exact c.in-Some-key_of.is at none)
+    absurd (keyed c.args.compact.now.alg c.in-Some.kid kid c.in-Some-key_of.public c.args.compact.now.kid c.key_of.result c.args.set.now.keys c.in-Some.is c.key_of.ensures.exact c.in-Some-key_of.is at none)
 
 pub returns-in_err-seal-clause-keyless : goal.returns-in_err-seal-clause-keyless
 returns-in_err-seal-clause-keyless g c = λ kid at none.
-    absurd (keyed c.in-Some.kid kid c.in-Some-key_of.public c.args.compact.now.kid c.key_of.result c.args.set.now.keys c.in-Some.is c.key_of.ensures.exact c.in-Some-key_of.is at none)
+    absurd (keyed c.args.compact.now.alg c.in-Some.kid kid c.in-Some-key_of.public c.args.compact.now.kid c.key_of.result c.args.set.now.keys c.in-Some.is c.key_of.ensures.exact c.in-Some-key_of.is at none)
 
 pub returns-clause-keyless : goal.returns-clause-keyless
 returns-clause-keyless g c = λ kid at none.
-    absurd (keyed c.in-Some.kid kid c.in-Some-key_of.public c.args.compact.now.kid c.key_of.result c.args.set.now.keys c.in-Some.is c.key_of.ensures.exact c.in-Some-key_of.is at none)
+    absurd (keyed c.args.compact.now.alg c.in-Some.kid kid c.in-Some-key_of.public c.args.compact.now.kid c.key_of.result c.args.set.now.keys c.in-Some.is c.key_of.ensures.exact c.in-Some-key_of.is at none)
