@@ -1,20 +1,30 @@
 //! Layer 7, the program: `fed`, an authority and trust chain resolver of OpenID Federation 1.0.
 //!
-//! `main` makes the real outside, calls [`fed_run::run_with_notes`], which does all that the program does and carries what is proved of
-//! it, and ends with its status. What a person reads goes to standard error, unless the environment has `FED_QUIET=1`. A service listens
-//! on 127.0.0.1, or on the IPv4 address in `FED_LISTEN`, and each connection leaves a line on standard error, unless the environment has
-//! `FED_LOG=off`. Behind its version `main` writes the commit and the target that the script `fed` wrote behind the program's bytes.
+//! [`run`] does what the words ask for, over any source, sink, store, network and clock: a service answers others over the network, and any
+//! other command is done by `fed_commands`. It carries what is proved of the program. [`run_with_notes`] does the same, and hands what a
+//! person is to read of it to one more sink.
+//!
+//! `main` makes the real outside, calls [`run_with_notes`], and ends with its status. What a person reads goes to standard error, unless
+//! the environment has `FED_QUIET=1`. A service listens on 127.0.0.1, or on the IPv4 address in `FED_LISTEN`, and each connection leaves a
+//! line on standard error, unless the environment has `FED_LOG=off`. Behind its version `main` writes the commit and the target that the
+//! script `fed` wrote behind the program's bytes.
 #![tactic(auto)]
 
+mod authority;
 mod build;
 mod named_file;
+mod performing;
+mod ports;
+mod rehearsing;
+mod resolver;
+mod resolving;
+mod top;
 
 use build::{is_version, tell_of_build};
 use fed_net::RealNetwork;
 use fed_ports::{
     Memory, RealClock, RealSink, RealSource, RealStore, Seq, Sink, Text, listen_address,
 };
-use fed_run::{run, run_with_notes};
 use fed_words::{Call, Service, read_call};
 use named_file::{explain_fault, value_of, warn_of_open_file};
 use plain_notes::{Notes, Sentence, explain_sink};
@@ -24,6 +34,7 @@ use std::io::{Eprint, ErrorKind, IsTerminal};
 use std::process::ExitCode;
 use std::rt::Files;
 use std::{env, str};
+use top::{run, run_with_notes};
 use word_notes::explain_waiting;
 
 // The status of words, or of a file, that aren't of their form.

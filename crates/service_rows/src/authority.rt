@@ -1,15 +1,13 @@
 // The service of an authority over a network in memory.
 
-use crate::command::{Command, add_held, ran};
+use crate::service::{Files, add_held, authority_served};
 use fed_base::{Memory, Seq, Text};
 use fed_net::{MemoryNetwork, MemoryPeer};
 use std::alloc::Global;
 use std::sync::Wait;
-use std::thread::Threads;
 
-// What the program is asked to do. The seeds of the ring are the bytes 48 to 95.
-const COMMAND: Command = Command {
-    words: "authority --config node --port 443 --connections 1",
+// The files of the node. The seeds of its ring are the bytes 48 to 95.
+const FILES: Files = Files {
     node: b"{\"entity_id\":\"https://im.example/fed\",\"ring\":\"ring\",\"lifetime\":86400}",
     ring: b"{\"keys\":[{\"exp\":1900000000,\"iat\":1800000000,\"seeds\":\"303132333435363738393a3b3c3d3e3f404142434445464748494a4b4c4d4e4f505152535455565758595a5b5c5d5e5f\",\"state\":\"live\"}],\"version\":1}",
 };
@@ -23,11 +21,8 @@ const ROOM: usize = 1000;
 
 const CALLS: u64 = 1000;
 
-/// One caller asks for a statement: the status of the program, what it wrote, and what the caller holds that was settled.
-pub(crate) fn authority_in_memory<R: Threads + Wait + Sync>(
-    rt: &R,
-    alloc: Global,
-) -> Result<Text, Memory> {
+/// One caller asks for a statement: how the service ended, and what the caller holds that was settled.
+pub(crate) fn authority_in_memory<R: Wait>(rt: &R, alloc: Global) -> Result<Text, Memory> {
     let callers = caller(alloc)?;
     let mut net = MemoryNetwork::new(alloc, Seq::new(alloc), callers, ROOM, &[], CALLS)?;
     let told = served(rt, alloc, &mut net);
@@ -43,12 +38,8 @@ fn caller(alloc: Global) -> Result<Seq<MemoryPeer>, Memory> {
     Ok(callers)
 }
 
-fn served<R: Threads + Wait + Sync>(
-    rt: &R,
-    alloc: Global,
-    net: &mut MemoryNetwork,
-) -> Result<Text, Memory> {
-    let mut told = ran(rt, alloc, COMMAND, net)?;
+fn served<R: Wait>(rt: &R, alloc: Global, net: &mut MemoryNetwork) -> Result<Text, Memory> {
+    let mut told = authority_served(rt, alloc, FILES, 1, net)?;
     add_settled(&mut told, net)?;
     Ok(told)
 }

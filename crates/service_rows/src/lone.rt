@@ -1,18 +1,17 @@
 // The service of a resolver, whose second caller comes once the first one was answered.
 
-use crate::command::{Command, add_held, ran};
 use crate::federation::{RESOLVER, RESOLVER_RING};
 use crate::flag::Flag;
 use crate::network::TwoCallers;
 use crate::peer::Caller;
+use crate::service::{Files, add_held, resolver_served};
 use fed_base::{Memory, Text};
 use std::alloc::Global;
 use std::sync::Wait;
 use std::thread::Threads;
 
-// What the program is asked to do.
-const COMMAND: Command = Command {
-    words: "resolver --config node --port 443 --connections 2",
+// The files of the node.
+const FILES: Files = Files {
     node: RESOLVER,
     ring: RESOLVER_RING,
 };
@@ -20,8 +19,8 @@ const COMMAND: Command = Command {
 // The node's list of subordinates is asked for.
 const LIST: &[u8] = b"GET /list HTTP/1.1\r\nHost: resolver.example\r\n\r\n";
 
-/// Two callers ask for the list, the second one once the first one was answered: the status of the program, what it wrote, and what the
-/// callers hold that were settled.
+/// Two callers ask for the list, the second one once the first one was answered: how the service ended, and what the callers hold that
+/// were settled.
 pub(crate) fn lone_client<R: Threads + Wait + Sync>(rt: &R, alloc: Global) -> Result<Text, Memory> {
     let one = Flag::new();
     let two = Flag::new();
@@ -44,7 +43,7 @@ fn served<R: Threads + Wait + Sync>(
     alloc: Global,
     net: &mut TwoCallers<'_>,
 ) -> Result<Text, Memory> {
-    let mut told = ran(rt, alloc, COMMAND, net)?;
+    let mut told = resolver_served(rt, alloc, FILES, 2, net)?;
     add_settled(&mut told, net)?;
     Ok(told)
 }

@@ -6,7 +6,6 @@
 #![tactic(auto)]
 
 mod authority;
-mod command;
 mod desks;
 mod federation;
 mod flag;
@@ -15,6 +14,7 @@ mod lone;
 mod network;
 mod peer;
 mod resolver;
+mod service;
 mod words;
 
 use fed_base::{Memory, Seq, Text};

@@ -1,0 +1,13 @@
+-- What the calls are asked for, as definitions see it.
+use Rattle.fed.specs.declared.ports.Order.{Order}
+use Rattle.fed.specs.declared.resolving.Question.{Question}
+use Rattle.node_files.specs.Orders.{Order as Wanted}
+use Rattle.resolver_service.specs.Calls.{Question as Asked}
+
+-- a service: its file, its port and how many are served
+abbrev pub order_of : Order → Wanted
+order_of order = record { config = order.config.now; post = record { port = order.port; connections = order.connections } }
+
+-- a call: its file, and its request
+abbrev pub question_of : Question → Asked
+question_of question = record { config = question.config.now; request = question.request.now }

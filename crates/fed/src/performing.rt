@@ -1,0 +1,167 @@
+// What the words ask for, done.
+
+ghost use Rattle.std.specs.Prelude.{◌≡◌, IfSome, None};
+ghost use Rattle.fed_commands.specs.Runs.{views};
+ghost use Rattle.fed_words.specs.Calls.{command_of, inspection_of, service_of};
+ghost use Rattle.fed.specs.Commands.{DoesAs};
+ghost use Rattle.fed.specs.Ports.{all_views, node_views, ports_found, ports_left, world_found, world_left};
+ghost use Rattle.fed.specs.Resolving.{HoldsBy};
+ghost use Rattle.fed.specs.Services.{RunsService};
+
+use crate::authority::serve;
+use crate::ports::{Order, Passes, Ports};
+use crate::rehearsing::rehearse;
+use crate::resolver::serve_as_resolver;
+use crate::resolving::{Question, resolve};
+use fed_commands::perform_command;
+use fed_inspect::inspect;
+use fed_ports::{Clock, Network, Seq, Sink, Source, Store, Text};
+use fed_resolver::ResolveRequest;
+use fed_words::{Call, Service, read_call};
+use plain_notes::{Notes, explain_memory};
+use std::alloc::Global;
+use std::sync::Wait;
+use std::thread::Threads;
+use word_notes::explain_command;
+
+/// Does what the words ask for, adds what a person is to read of it to the notes, and gives the exit status.
+pub(crate) fn perform<
+    R: Threads + Wait + Sync,
+    S: Source,
+    K: Sink,
+    D: Store,
+    N: Network + Drop,
+    C: Clock + Drop,
+>(
+    rt: &R,
+    alloc: Global,
+    words: &Seq<Text>,
+    ports: Ports<'_, S, K, D, N, C>,
+    passes: Passes<'_>,
+    notes: &mut Notes,
+) -> u8
+where
+    N::Peer: Drop,
+    requires worn { passes.worn.now ≡ None }
+    requires joined { passes.joined.now ≡ None }
+    ensures command { service_of words.now ≡ None → (ports.exit.1.1.1.0.now ≡ ports.entry.net.now) × (passes.exit.1.0.now ≡ None)
+        × DoesAs (inspection_of words.now) (command_of words.now)
+        (world_found (views S.Source K.Sink D.Store C.Clock) ports.entry) (world_left (views S.Source K.Sink D.Store C.Clock) ports.exit) result }
+    ensures service { IfSome (service_of words.now) (λ service. (ports.exit.0.now ≡ ports.entry.input.now) × RunsService
+        (all_views N.Peer.Source N.Peer.Sink N.Network C.Clock) service
+        (ports_found (node_views K.Sink D.Store N.Network C.Clock) ports.entry) (ports_left (node_views K.Sink D.Store N.Network C.Clock) ports.exit)
+        passes.exit.1.0.now result) }
+    ensures worn { HoldsBy passes.exit.0.now result }
+{
+    match read_call(alloc, words.as_slice()) {
+        Ok(Call::Command(command)) => {
+            let Ports {
+                input,
+                out,
+                store,
+                net: _,
+                clock,
+            } = ports;
+            explain_command(alloc, words.as_slice(), &command, notes);
+            let status = perform_command(alloc, &command, input, out, store, clock, notes);
+            drop(command);
+            status
+        }
+        Ok(Call::Inspection(inspection)) => {
+            let Ports {
+                input,
+                out,
+                store,
+                net: _,
+                clock,
+            } = ports;
+            let status = inspect(alloc, &inspection, input, out, store, clock, notes);
+            drop(inspection);
+            status
+        }
+        Ok(Call::Service(service)) => serve_as(rt, alloc, service, ports, passes, notes),
+        Err(_) => {
+            explain_memory(alloc, notes);
+            5
+        }
+    }
+}
+
+// Serves, resolves or rehearses, as is asked for.
+fn serve_as<
+    R: Threads + Wait + Sync,
+    S: Source,
+    K: Sink,
+    D: Store,
+    N: Network + Drop,
+    C: Clock + Drop,
+>(
+    rt: &R,
+    alloc: Global,
+    service: Service,
+    ports: Ports<'_, S, K, D, N, C>,
+    passes: Passes<'_>,
+    notes: &mut Notes,
+) -> u8
+where
+    N::Peer: Drop,
+    requires worn { passes.worn.now ≡ None }
+    requires joined { passes.joined.now ≡ None }
+    ensures input { ports.exit.0.now ≡ ports.entry.input.now }
+    ensures runs { RunsService (all_views N.Peer.Source N.Peer.Sink N.Network C.Clock) service
+        (ports_found (node_views K.Sink D.Store N.Network C.Clock) ports.entry) (ports_left (node_views K.Sink D.Store N.Network C.Clock) ports.exit)
+        passes.exit.1.0.now result }
+    ensures worn { HoldsBy passes.exit.0.now result }
+{
+    match service {
+        Service::Authority {
+            config_file,
+            port,
+            connections,
+        } => {
+            let order = Order {
+                config: &config_file,
+                port,
+                connections,
+            };
+            serve(rt, alloc, order, ports, notes)
+        }
+        Service::Resolver {
+            config_file,
+            port,
+            connections,
+        } => {
+            let order = Order {
+                config: &config_file,
+                port,
+                connections,
+            };
+            serve_as_resolver(rt, alloc, order, ports, passes, notes)
+        }
+        Service::Resolve {
+            config_file,
+            sub,
+            anchor,
+        } => {
+            let types = Seq::new(alloc);
+            let request = ResolveRequest { sub, anchor, types };
+            let question = Question {
+                config: &config_file,
+                request: &request,
+            };
+            let Passes { worn, joined: _ } = passes;
+            resolve(rt, alloc, question, ports, worn, notes)
+        }
+        Service::Rehearse { params } => {
+            let Ports {
+                input: _,
+                out,
+                store: _,
+                net: _,
+                clock: _,
+            } = ports;
+            let Passes { worn, joined: _ } = passes;
+            rehearse(rt, alloc, params, out, worn, notes)
+        }
+    }
+}
