@@ -15,3 +15,7 @@ federation_entity metadata = option_and_then (find (codes "federation_entity")) 
 -- where statements about subordinates are asked for (section 5.1.1, `federation_fetch_endpoint`)
 unfoldable pub fetch_endpoint_in : Json → Option (List ℕ)
 fetch_endpoint_in metadata = option_and_then (text_at (codes "federation_fetch_endpoint")) (option_and_then as_object (federation_entity metadata))
+
+-- where an issuer is asked about its trust marks (section 5.1.1, `federation_trust_mark_status_endpoint`)
+unfoldable pub status_endpoint_in : Json → Option (List ℕ)
+status_endpoint_in metadata = option_and_then (text_at (codes "federation_trust_mark_status_endpoint")) (option_and_then as_object (federation_entity metadata))

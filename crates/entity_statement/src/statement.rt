@@ -1,14 +1,17 @@
 // Entity statements.
 
-ghost use Rattle.std.specs.Prelude.{◌<◌, IsTrue};
+ghost use Rattle.std.specs.Prelude.{◌≡◌, ◌<◌, IsTrue};
 ghost use Rattle.std.specs.List.{list_all};
+ghost use Rattle.std.specs.Option.{option_and_then, option_copied};
 ghost use Rattle.std.specs.Str.{is_utf8};
 ghost use Rattle.std.proofs.Props.{props};
 ghost use Rattle.fed_base.specs.Moments.{moment_limit};
 ghost use Rattle.fed_json.specs.Metadata.{IsMetadata};
+ghost use Rattle.fed_json.specs.Trees.{as_object, text_at as text_in};
 ghost use Rattle.chain_limits.specs.Reading.{HoldsUtf8};
 ghost use Rattle.entity_statement.specs.Claims.{mark_utf8 as is_mark_utf8, issuers_utf8 as are_issuers_utf8};
 ghost use Rattle.entity_statement.specs.Forms.{all_differ};
+ghost use Rattle.entity_statement.specs.Use.{federation_entity};
 
 use crate::fault::StatementFault;
 use crate::marks::{Issuers, MarkEntry, Owner};
@@ -72,7 +75,7 @@ impl Statement {
     ghost use Rattle.entity_statement.specs.Told.{told};
     ghost use Rattle.entity_statement.specs.Grammar.{IsStatement};
     ghost use Rattle.entity_statement.specs.Table.{GivesBy, claims_of, claims_of_tree};
-    ghost use Rattle.entity_statement.specs.Use.{current_at, fetch_endpoint_in};
+    ghost use Rattle.entity_statement.specs.Use.{current_at, fetch_endpoint_in, status_endpoint_in};
 
     /// What a compact text claims as an entity statement, or its first fault, in the order of [`StatementFault`]. Claims
     /// of other names are left unread.
@@ -119,16 +122,29 @@ impl Statement {
     pub fn fetch_endpoint(&self) -> Option<&Text>
         ensures { option_copied result ≡ fetch_endpoint_in self.now.metadata }
     {
-        let Json::Object(types) = &self.metadata else {
-            return None;
-        };
-        match find(types.as_slice(), b"federation_entity") {
-            Some(Json::Object(parameters)) => text_at(
-                parameters.as_slice(),
-                b"federation_fetch_endpoint",
-            ),
-            _ => None,
-        }
+        federation_text(&self.metadata, b"federation_fetch_endpoint")
+    }
+
+    /// The text `federation_trust_mark_status_endpoint` of the type `federation_entity` (section 5.1.1): where the entity
+    /// is asked about the trust marks that it issued. It takes no memory.
+    #[tactic(auto, unfolding(crate::specs::Use::status_endpoint_in))]
+    pub fn status_endpoint(&self) -> Option<&Text>
+        ensures { option_copied result ≡ status_endpoint_in self.now.metadata }
+    {
+        federation_text(&self.metadata, b"federation_trust_mark_status_endpoint")
+    }
+}
+
+// The text of that name among the parameters of the type `federation_entity`.
+fn federation_text<'a>(metadata: &'a Json, name: &[u8]) -> Option<&'a Text>
+    ensures { option_copied result ≡ option_and_then (text_in name.now) (option_and_then as_object (federation_entity metadata.now)) }
+{
+    let Json::Object(types) = metadata else {
+        return None;
+    };
+    match find(types.as_slice(), b"federation_entity") {
+        Some(Json::Object(parameters)) => text_at(parameters.as_slice(), name),
+        _ => None,
     }
 }
 
