@@ -3,9 +3,9 @@
 use crate::claims::explain_payload;
 use base64url::decode;
 use entity_statement::{STATEMENT_TYPE, Statement};
-use fed_base::{Duplicate, Text};
+use fed_base::{Alg, Duplicate, Text};
 use fed_json::{object_members, read_tree, text_at};
-use jws_form::{ALGORITHM, Compact, FormFault, split};
+use jws_form::{Compact, FormFault, algorithm_name, split};
 use plain_notes::{Notes, Sentence};
 use std::alloc::Global;
 
@@ -82,7 +82,13 @@ fn explain_algorithm(alloc: Global, about: Sentence, text: &[u8], notes: &mut No
             .and(algorithm.as_slice()),
         None => about.and(b"the header names no alg"),
     };
-    notes.say(about.and(b"; fed checks ").and(ALGORITHM));
+    notes.say(
+        about
+            .and(b"; fed checks ")
+            .and(algorithm_name(Alg::Small))
+            .and(b" or ")
+            .and(algorithm_name(Alg::Fast)),
+    );
 }
 
 // The `alg` of the text's header.
@@ -143,9 +149,9 @@ fn explain_read(about: Sentence, compact: &Compact, statement: &Statement, notes
     };
     notes.say(
         about
-            .and(
-                b"the signature doesn't verify under the key that was given; the kid of the text is ",
-            )
+            .and(b"the ")
+            .and(algorithm_name(compact.alg))
+            .and(b" signature doesn't verify under the key that was given; the kid of the text is ")
             .and(kid),
     );
 }
