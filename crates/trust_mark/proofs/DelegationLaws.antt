@@ -4,13 +4,13 @@ use Rattle.std.specs.Prelude.{◌↔◌, IfSome, Result, Ok, Err, IfOk}
 use Rattle.fed_base.specs.declared.faults.Memory.{Memory as NoMemory}
 use Rattle.sealed.specs.Seals.{IsSealedBy}
 use Rattle.sealed.specs.Tests.{tests_under}
+use Rattle.sealed.proofs.SealLaws.{CountsUnder}
 use Rattle.entity_statement.specs.Claims.{OwnerClaims}
 use Rattle.trust_mark.specs.Conditions.{is_for}
 use Rattle.trust_mark.specs.Counts.{delegation_tests}
 use Rattle.trust_mark.specs.Marks.{IsDelegated, delegation_of}
 use Rattle.trust_mark.specs.declared.mark.Mark.{Mark}
 use Rattle.trust_mark.proofs.ConditionLaws.{IsFor, for-is, for-of}
-use Rattle.trust_mark.proofs.SealLaws.{CountsUnder}
 
 module _ (mark : Mark) (t : ℕ) (owner : OwnerClaims) where
   -- the mark has none

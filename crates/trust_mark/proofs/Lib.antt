@@ -8,6 +8,5 @@ pub mod Laws
 pub mod OrderLaws
 pub mod PayloadLaws
 pub mod ReadingLaws
-pub mod SealLaws
 pub mod StatusLaws
 pub mod VerdictLaws

@@ -1,4 +1,4 @@
--- How many signatures the conditions on a trust mark reach whose `kid` names a key.
+-- How many signatures the conditions on a trust mark reach whose header names a key.
 use Rattle.std.specs.Prelude.{◌+◌, ℕ, is_some, if◌then◌else◌}
 use Rattle.std.specs.Option.{option_map_or}
 use Rattle.sealed.specs.Deciding.{is_sealed_by}

@@ -3,6 +3,7 @@ pub mod Conditions
 pub mod Counts
 pub mod Grammar
 pub mod Marks
+pub mod Signed
 pub mod Stages
 pub mod Statuses
 pub mod Verdicts

@@ -1,21 +1,18 @@
 -- What the stages of a reading and of a check answer; no public clause cites it.
-use Rattle.std.specs.Prelude.{◌≡◌, ℕ, List, codes, Option, Some, None, Bool, true, false, Result, Ok, Err}
+use Rattle.std.specs.Prelude.{◌≡◌, ℕ, List, codes, Option, Some, None, Result, Ok, Err}
 use Rattle.fed_base.specs.Answers.{◌>>=◌}
 use Rattle.fed_base.specs.declared.faults.Memory.{Memory as NoMemory}
 use Rattle.fed_json.specs.declared.tree.Member.{Member}
-use Rattle.jws_form.specs.Compact.{IsCompact}
 use Rattle.jws_form.specs.declared.compact.Compact.{Compact}
-use Rattle.sealed.specs.Seals.{Pair}
-use Rattle.sealed.specs.declared.fault.SealFault.{SealFault}
-use Rattle.sealed.specs.declared.fault.SealFault.TheVariants.{Memory}
 use Rattle.entity_statement.specs.Forms.{identifier}
 use Rattle.trust_mark.specs.Claims.{any_text, claim}
 use Rattle.trust_mark.specs.Marks.{delegation_of}
+use Rattle.trust_mark.specs.Signed.{IsReading}
 use Rattle.trust_mark.specs.declared.fault.MarkFault.{MarkFault}
 use Rattle.trust_mark.specs.declared.fault.MarkFault.TheVariants.{Memory as MarkMemory}
 use Rattle.trust_mark.specs.declared.grant.Grant.{Grant}
 use Rattle.trust_mark.specs.declared.mark.Mark.{Mark}
-use Rattle.trust_mark.specs.declared.signed.SignedMark.{SignedMark}
+use Rattle.trust_mark.specs.declared.signed.Signed.{Signed}
 
 -- ---- readings
 
@@ -41,26 +38,15 @@ abbrev pub marked : Grant → ℕ → Option ℕ → Option (List ℕ) → Mark
 marked g iat exp delegation = record { iss = g.iss; sub = g.sub; mark_type = g.mark_type; iat = iat; exp = exp; delegation = delegation }
 
 -- what was read is kept with the parts that it was read from, unless memory was wanting
-abbrev pub Keeps : Compact → Result Mark MarkFault → Result (Option SignedMark) NoMemory → Type 0
-Keeps compact (Ok mark) kept = kept ≡ Ok (Some (record { compact = compact; mark = mark }))
+abbrev pub Keeps : {X : Type 0} → Compact → Result X MarkFault → Result (Option (Signed X)) NoMemory → Type 0
+Keeps compact (Ok claims) kept = kept ≡ Ok (Some (record { compact = compact; claims = claims }))
 Keeps compact (Err MarkMemory) kept = kept ≡ Err (record {})
 Keeps compact (Err fault) kept = kept ≡ Ok None
-
--- the text is read, or reads as none
-abbrev pub IsReading : (List ℕ → Option Mark) → List ℕ → Option SignedMark → Type 0
-IsReading mark_of text (Some s) = (mark_of text ≡ Some s.mark) × (s.compact.whole ≡ text) × IsCompact s.compact.whole s.compact
-IsReading mark_of text None = mark_of text ≡ None
 
 -- ---- checks
 
 -- the mark's delegation reads as this one
-pub record Carries (mark : Mark) (delegation : SignedMark) : Type 0 where
+pub record Carries (mark : Mark) (delegation : Signed Mark) : Type 0 where
   pub text : List ℕ
   pub there : mark.delegation ≡ Some text
   pub read : IsReading delegation_of text (Some delegation)
-
--- what a check of a seal tells: whether there is one, or that memory was wanting
-abbrev pub Tells : Result Pair SealFault → Result Bool NoMemory → Type 0
-Tells (Ok pair) sealed = sealed ≡ Ok true
-Tells (Err Memory) sealed = sealed ≡ Err (record {})
-Tells (Err fault) sealed = sealed ≡ Ok false

@@ -48,9 +48,10 @@ pub(crate) fn claims_reason(
     None
 }
 
-// Those who may issue marks of the type, where the trust anchor lists it.
+/// Those who may issue marks of the type, where the trust anchor lists it (OpenID Federation 1.0 section 3.1.2,
+/// `trust_mark_issuers`).
 #[tactic(auto, unfolding(crate::specs::Marks::issuers_of))]
-fn issuers_of<'a>(anchor: &'a Statement, mark_type: &[u8]) -> Option<&'a Seq<Text>>
+pub fn issuers_of<'a>(anchor: &'a Statement, mark_type: &[u8]) -> Option<&'a Seq<Text>>
     ensures { option_copied result ≡ issuers_of (told anchor.now) mark_type.now }
 {
     let all = anchor.issuers.as_slice();
@@ -62,8 +63,8 @@ fn issuers_of<'a>(anchor: &'a Statement, mark_type: &[u8]) -> Option<&'a Seq<Tex
     None
 }
 
-// Whether the list of a type lets the entity issue marks of it: any entity, where it is empty.
-fn admits(who: &Seq<Text>, iss: &EntityId) -> bool
+/// Whether the list of a type lets the entity issue marks of it: any entity, where it is empty (section 3.1.2).
+pub fn admits(who: &Seq<Text>, iss: &EntityId) -> bool
     ensures { result ≡ admits who.now iss.now }
 {
     who.as_slice().is_empty() || contains(who.as_slice(), iss.text())

@@ -12,10 +12,10 @@ ghost use Rattle.fed_base.specs.Counts.{counted};
 
 use crate::conditions::{is_current, owner_of};
 use crate::mark::Mark;
-use crate::sealing::is_sealed;
-use crate::signed::{SignedMark, signed_delegation};
+use crate::signed::{Signed, signed_delegation};
 use entity_statement::{Owner, Statement};
 use fed_base::{Ledger, Memory, Steps};
+use sealed::is_sealed;
 use std::alloc::Global;
 
 /// Whether the mark has a delegation of its type's owner, where the type has one. A test of a signature is counted where
@@ -71,7 +71,7 @@ fn is_delegated_by<L: Ledger>(
 // Whether the mark's delegation is for it, and sealed by a key of the owner's.
 fn is_good<L: Ledger>(
     alloc: Global,
-    delegation: &SignedMark,
+    delegation: &Signed<Mark>,
     mark: &Mark,
     owner: &Owner,
     t: u64,
@@ -85,7 +85,7 @@ fn is_good<L: Ledger>(
         ≡ counted (delegation_tests mark.now t (told_owner owner.now)) (L.count steps.old.ledger))
         (λ _. L.count steps.new.ledger ≡ L.count steps.old.ledger) }
 {
-    if !is_for(&delegation.mark, mark, owner, t) {
+    if !is_for(&delegation.claims, mark, owner, t) {
         return Ok(false);
     }
     is_sealed(alloc, &delegation.compact, &owner.jwks, steps)

@@ -13,14 +13,15 @@ mod fault;
 mod grant;
 mod mark;
 mod payload;
-mod sealing;
 mod signed;
 mod status;
 mod verdict;
 mod verifying;
 
+pub use conditions::{admits, issuers_of};
 pub use fault::MarkFault;
 pub use mark::{DELEGATION_TYPE, MARK_TYPE, Mark, delegation_of_claims, read_delegation};
+pub use signed::{Signed, mark_of, signed_answer};
 pub use status::{MarkStatus, STATUS_TYPE, StatusAnswer};
 pub use verdict::{MarkReason, MarkVerdict};
 pub use verifying::verify_mark;

@@ -5,7 +5,7 @@ ghost use Rattle.entity_statement.specs.Told.{told};
 ghost use Rattle.entity_statement.specs.Claims.{OwnerClaims};
 ghost use Rattle.trust_mark.specs.Counts.{mark_tests};
 ghost use Rattle.trust_mark.specs.Marks.{Case, HasDelegation, IsGood, IsListed, case_of, mark_of, owner_of};
-ghost use Rattle.trust_mark.specs.Stages.{IsReading};
+ghost use Rattle.trust_mark.specs.Signed.{IsReading};
 ghost use Rattle.trust_mark.specs.Verdicts.{HasEnded, IfGood, IsVerdictOn, NeverEnds, is_good};
 ghost use Rattle.trust_mark.specs.declared.mark.Mark.{Mark as Claimed};
 ghost use Rattle.trust_mark.specs.declared.verdict.MarkVerdict.{MarkVerdict as Answer};
@@ -14,13 +14,14 @@ ghost use Rattle.fed_base.specs.Counts.{CountsAtMost, counted};
 
 use crate::conditions::claims_reason;
 use crate::delegation::is_delegated;
-use crate::sealing::is_sealed;
-use crate::signed::{SignedMark, signed_mark};
+use crate::mark::Mark;
+use crate::signed::{Signed, signed_mark};
 use crate::verdict::{MarkReason, MarkVerdict};
 use entity_id::EntityId;
 use entity_statement::{MarkEntry, Statement};
 use fed_base::{Ledger, Memory, Steps};
 use jwk_set::JwkSet;
+use sealed::is_sealed;
 use std::alloc::Global;
 
 /// Whether the mark of an entry is good for the leaf (OpenID Federation 1.0 section 7.3), by the trust anchor's
@@ -90,7 +91,7 @@ fn verified<L: Ledger>(
 // The verdict on the mark that the entry's text reads as.
 fn verdict_on<L: Ledger>(
     alloc: Global,
-    signed: &SignedMark,
+    signed: &Signed<Mark>,
     entry: &MarkEntry,
     leaf: &EntityId,
     anchor: &Statement,
@@ -104,14 +105,14 @@ fn verdict_on<L: Ledger>(
         (λ _. L.count steps.new.ledger ≡ counted (mark_tests (case_of entry.now leaf.now (told anchor.now) issuer_keys.now.keys t)) (L.count steps.old.ledger))
         (λ _. CountsAtMost (mark_tests (case_of entry.now leaf.now (told anchor.now) issuer_keys.now.keys t)) (L.count steps.old.ledger) (L.count steps.new.ledger)) }
 {
-    if let Some(reason) = claims_reason(&signed.mark, entry, leaf, anchor, t) {
+    if let Some(reason) = claims_reason(&signed.claims, entry, leaf, anchor, t) {
         return Ok(MarkVerdict::Bad(reason));
     }
     if !is_sealed(alloc, &signed.compact, issuer_keys, steps)? {
         return Ok(MarkVerdict::Bad(MarkReason::Signature));
     }
-    if !is_delegated(alloc, &signed.mark, anchor, t, steps)? {
+    if !is_delegated(alloc, &signed.claims, anchor, t, steps)? {
         return Ok(MarkVerdict::Bad(MarkReason::Delegation));
     }
-    Ok(MarkVerdict::Good(signed.mark.exp))
+    Ok(MarkVerdict::Good(signed.claims.exp))
 }

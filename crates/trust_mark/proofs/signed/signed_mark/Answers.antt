@@ -11,4 +11,4 @@ unfolding mark_of
 returns-in-Some c =
     let splits = sym c.in-Some.is ∙ c.in_ok-compact.ensures.exact in
     let is = subst (λ o. IfSome o (IsCompact c.args.text.now)) c.in-Some.is c.in_ok-compact.ensures.found in
-    kept-reading mark_claims c.args.text.now c.in-Some.compact splits is c.read-read.result c.signed.result c.read-read.ensures.exact c.signed.ensures
+    kept-reading mark_claims c.args.text.now c.in-Some.compact splits is c.read-read.result c.kept.result c.read-read.ensures.exact c.kept.ensures
