@@ -7,7 +7,7 @@ use fed_base::{Seq, Text};
 use jwk_set::JwkSet;
 use sealed::Sealed;
 
-/// A signed text, and keys under which it verifies (RFC 7515 section 5.2).
+/// A signed text, and keys under which it verifies by the algorithm of its header (RFC 7515 section 5.2).
 #[derive(Drop)]
 pub struct Proven {
     /// The text.
