@@ -6,5 +6,5 @@ mod MemberLaws
 mod OpenLaws
 mod RingForms
 mod RingLaws
-mod SetLaws
+pub mod SetLaws
 pub mod FileLaws

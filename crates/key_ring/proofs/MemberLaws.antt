@@ -2,6 +2,7 @@
 use Rattle.std.proofs.Common.{◌≡◌, ℕ, List, [], ◌∷◌, ◌++◌, codes, Result, Ok, Err, OnOk, ap, ◌∙◌, append_assoc}
 use Rattle.hex.specs.Hex.{encode_lower}
 use Rattle.base64url.specs.Base64url.{base64url}
+use Rattle.fed_base.specs.declared.algorithm.Alg.{Alg}
 use Rattle.fed_json.specs.declared.tree.Json.{Json, Object}
 use Rattle.fed_json.specs.declared.tree.Member.{Member}
 use Rattle.fed_json.specs.Members.{number_member, text_member}
@@ -28,12 +29,12 @@ behind : (start next rest : List Member) (m : Member) → next ≡ start ++ m �
 behind start next rest m added = ap (λ ms. ms ++ rest) added ∙ append_assoc start (m ∷ []) rest
 
 -- those that each historical key has
-pub plain-added : {X E : Type 0} (r : Result X E) (start one two three four all : List Member) (kid_text kid : List ℕ) (exp : ℕ) (public_text public : List ℕ)
-    → one ≡ start ++ text_member (codes "alg") algorithm ∷ [] → two ≡ one ++ number_member (codes "exp") exp ∷ [] → three ≡ two ++ text_member (codes "kid") kid_text ∷ []
-    → four ≡ three ++ text_member (codes "kty") key_type ∷ [] → kid_text ≡ kid → public_text ≡ base64url public → OnOk r (all ≡ four ++ text_member (codes "pub") public_text ∷ [])
-    → OnOk r (all ≡ start ++ plain_members kid exp public)
-plain-added (Ok x) start one two three four all kid_text kid exp public_text public first second third fourth named keyed last =
+pub plain-added : {X E : Type 0} (r : Result X E) (start one two three four all : List Member) (alg : Alg) (alg_text kid_text kid : List ℕ) (exp : ℕ) (public_text public : List ℕ)
+    → one ≡ start ++ text_member (codes "alg") alg_text ∷ [] → two ≡ one ++ number_member (codes "exp") exp ∷ [] → three ≡ two ++ text_member (codes "kid") kid_text ∷ []
+    → four ≡ three ++ text_member (codes "kty") key_type ∷ [] → alg_text ≡ algorithm alg → kid_text ≡ kid → public_text ≡ base64url public → OnOk r (all ≡ four ++ text_member (codes "pub") public_text ∷ [])
+    → OnOk r (all ≡ start ++ plain_members alg exp kid public)
+plain-added (Ok x) start one two three four all alg alg_text kid_text kid exp public_text public first second third fourth algorithmic named keyed last =
     last ∙ behind three four _ _ fourth ∙ behind two three _ _ third ∙ behind one two _ _ second ∙ behind start one _ _ first
-    ∙ (λ i. start ++ text_member (codes "alg") algorithm ∷ number_member (codes "exp") exp ∷ text_member (codes "kid") (named i) ∷ text_member (codes "kty") key_type
+    ∙ (λ i. start ++ text_member (codes "alg") (algorithmic i) ∷ number_member (codes "exp") exp ∷ text_member (codes "kid") (named i) ∷ text_member (codes "kty") key_type
     ∷ text_member (codes "pub") (keyed i) ∷ [])
-plain-added (Err e) start one two three four all kid_text kid exp public_text public first second third fourth named keyed last = tt
+plain-added (Err e) start one two three four all alg alg_text kid_text kid exp public_text public first second third fourth algorithmic named keyed last = tt

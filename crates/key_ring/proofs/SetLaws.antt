@@ -11,8 +11,10 @@ use Rattle.std.specs.Str.{is_utf8}
 use Rattle.sha2.proofs.Facts256.{length-sha256}
 use Rattle.base64url.specs.Base64url.{base64url}
 use Rattle.base64url.proofs.Canonical.{is_utf8-base64url, length-base64url}
+use Rattle.fed_base.specs.declared.algorithm.Alg.{Alg}
 use Rattle.fed_base.specs.declared.faults.Memory.{Memory}
 use Rattle.fed_json.specs.declared.tree.Json.{Json, List as ListOf, Object}
+use Rattle.fed_json.specs.declared.tree.Member.{Member}
 use Rattle.fed_json.specs.Forms.{IsWhole, whole}
 use Rattle.fed_json.proofs.Booleans.{both_true}
 use Rattle.fed_json.proofs.Layers.{whole-List, whole-Object}
@@ -23,32 +25,32 @@ use Rattle.jwk_set.specs.declared.jwk.Jwk.TheVariants.{Own}
 use Rattle.jwk_set.specs.Keys.{is_key, key_type}
 use Rattle.jwk_set.specs.KeySets.{are_distinct, distinct_after, key_named, repeats_kid}
 use Rattle.jwk_set.specs.Thumbprints.{thumbprint_of}
-use Rattle.slh_hash.specs.declared.params.TheConstants.{P128S}
-use Rattle.slh_dsa.specs.Keys.{public_key}
-use Rattle.sealed.specs.Sealing.{signer_name}
+use Rattle.slh_dsa.specs.Keys.{Keys}
+use Rattle.sealed.specs.Sealing.{signer_key, signer_name}
+use Rattle.sealed.proofs.Headers.{is_utf8-algorithm}
 use Rattle.key_ring.specs.declared.key.KeyState.{KeyState}
 use Rattle.key_ring.specs.declared.key.KeyState.TheVariants.{Live, Retired, Revoked}
 use Rattle.key_ring.specs.declared.key.RingKey.{RingKey}
-use Rattle.key_ring.specs.Rings.{IsRing, IsRingKey, IsTimelyState, Ring, is_live, kid_of, live_state, public_of}
-use Rattle.key_ring.specs.Sets.{IsNamedIn, historical_key, historical_keys, is_historical, is_published, own_key, own_set, plain_members, revoked_members, signer_seeds}
+use Rattle.key_ring.specs.Rings.{IsRing, IsRingKey, IsTimelyState, Ring, is_live, kid_of, live_state, pair_in, public_of}
+use Rattle.key_ring.specs.Sets.{IsNamedIn, historical_key, historical_keys, is_historical, is_published, own_key, own_set, plain_members, revoked_members, signer_keys}
 use Rattle.key_ring.proofs.RingForms.{revocation_whole, whole_int}
 
 -- ---- names
 
 -- a name is a text that isn't empty
-pub name_utf8 : (seeds : List ℕ) → is_utf8 (signer_name seeds) ≡ true
+pub name_utf8 : (keys : Keys) → is_utf8 (signer_name keys) ≡ true
 unfolding signer_name thumbprint_of
-name_utf8 seeds = is_utf8-base64url _
+name_utf8 keys = is_utf8-base64url _
 
-name_there : (seeds : List ℕ) → nat_lt 0 (length (signer_name seeds)) ≡ true
+name_there : (keys : Keys) → nat_lt 0 (length (signer_name keys)) ≡ true
 unfolding signer_name thumbprint_of
-name_there seeds = ap (nat_lt 0) (length-base64url _ ∙ ap (λ n. (4 * n + 2) / 3) (length-sha256 _))
+name_there keys = ap (nat_lt 0) (length-base64url _ ∙ ap (λ n. (4 * n + 2) / 3) (length-sha256 _))
 
 -- ---- the form of the keys
 
 all_keys : (keys : Ring) → list_all is_key (map own_key keys) ≡ true
 all_keys [] = refl
-all_keys (key ∷ keys) = both_true (both_true (name_there key.seeds) (name_utf8 key.seeds)) (all_keys keys)
+all_keys (key ∷ keys) = both_true (both_true (name_there (pair_in key)) (name_utf8 (pair_in key))) (all_keys keys)
 
 pub own_formed : (retired : Bool) (ring : Ring) → list_all is_key (own_set retired ring) ≡ true
 unfolding own_set
@@ -88,10 +90,10 @@ distinct_left p (key ∷ ring) once =
 abbrev named_among : List ℕ → Ring → Bool
 named_among kid keys = list_any (λ key. bytes_eq (kid_of key) kid) keys
 
-repeats_is : (earlier : Ring) (kid public : List ℕ) → repeats_kid (map own_key earlier) (Own kid public) ≡ named_among kid earlier
+repeats_is : (earlier : Ring) (kid : List ℕ) (alg : Alg) (public : List ℕ) → repeats_kid (map own_key earlier) (Own kid alg public) ≡ named_among kid earlier
 unfolding repeats_kid
-repeats_is [] kid public = refl
-repeats_is (key ∷ earlier) kid public = ap (λ b. bytes_eq (kid_of key) kid || b) (repeats_is earlier kid public)
+repeats_is [] kid alg public = refl
+repeats_is (key ∷ earlier) kid alg public = ap (λ b. bytes_eq (kid_of key) kid || b) (repeats_is earlier kid alg public)
 
 apart_more : (earlier : Ring) (key : RingKey) (kids : List (List ℕ)) → AllByRecursion (λ y. named_among y earlier ≡ false) kids → AllByRecursion (λ y. bytes_eq (kid_of key) y ≡ false) kids
     → AllByRecursion (λ y. named_among y (earlier ++ key ∷ []) ≡ false) kids
@@ -107,7 +109,7 @@ distinct_behind earlier [] apart once = refl
 distinct_behind earlier (key ∷ keys) apart once =
     let head = IsDistinct-head bytes_eq (kid_of key) (map kid_of keys) once in
     let rest = distinct_behind (earlier ++ key ∷ []) keys (apart_more earlier key (map kid_of keys) apart.1 head) (IsDistinct-tail bytes_eq (kid_of key) (map kid_of keys) once) in
-    both_true (ap not (repeats_is earlier (kid_of key) (public_of key) ∙ apart.0))
+    both_true (ap not (repeats_is earlier (kid_of key) (pair_in key).alg (public_of key) ∙ apart.0))
     (subst (λ ks. distinct_after ks (map own_key keys) ≡ true) (map-append own_key earlier (key ∷ [])) rest)
 
 none_before : (kids : List (List ℕ)) → AllByRecursion (λ y. named_among y [] ≡ false) kids
@@ -127,31 +129,37 @@ published_live Live = refl
 published_live Retired = refl
 published_live (Revoked at reason) = refl
 
-same_seeds : (a b : List ℕ) → Some a ≡ Some b → a ≡ b
-same_seeds a b e = cc e
+same_keys : (a b : Keys) → Some a ≡ Some b → a ≡ b
+same_keys a b e = cc e
 
 itself : (text : List ℕ) → bytes_eq text text ≡ true
 itself text = (bytes_eq-Decides text text).1 refl
 
-named_case : (b : Bool) (key : RingKey) (found : Option RingKey) (live : Ring) (seeds : List ℕ) → option_map (λ k. k.seeds) (cond b (Some key) found) ≡ Some seeds
-    → (option_map (λ k. k.seeds) found ≡ Some seeds → key_named (signer_name seeds) (map own_key live) ≡ Some (public_key P128S seeds))
-    → key_named (signer_name seeds) (map own_key (cond b (key ∷ live) live)) ≡ Some (public_key P128S seeds)
+-- the key of the signer is found under its name and its algorithm
+abbrev IsFound : Keys → List Jwk → Type 0
+IsFound keys set = key_named (signer_name keys) keys.alg set ≡ Some (signer_key keys)
+
+-- the first key is found under its name
+first_found : (key : RingKey) (rest : List Jwk) → IsFound (pair_in key) (own_key key ∷ rest)
 unfolding key_named
-named_case true key found live seeds e rest =
-    let same = same_seeds key.seeds seeds e in
-    subst (λ s. cond (bytes_eq (signer_name key.seeds) (signer_name s)) (Some (public_key P128S key.seeds)) (key_named (signer_name s) (map own_key live)) ≡ Some (public_key P128S s)) same
-    (ap (λ b. cond b (Some (public_key P128S key.seeds)) (key_named (signer_name key.seeds) (map own_key live))) (itself (signer_name key.seeds)))
-named_case false key found live seeds e rest = rest e
+first_found key rest =
+    ap (λ b. cond b (Some (public_of key)) (key_named (kid_of key) (pair_in key).alg rest)) (both_true (itself (kid_of key)) refl)
 
-live_named : (ring : Ring) (seeds : List ℕ) → option_map (λ k. k.seeds) (find is_live ring) ≡ Some seeds → key_named (signer_name seeds) (map own_key (filter is_live ring)) ≡ Some (public_key P128S seeds)
-live_named [] seeds e = cc e
-live_named (key ∷ ring) seeds e = named_case (is_live key) key (find is_live ring) (filter is_live ring) seeds e (live_named ring seeds)
+named_case : (b : Bool) (key : RingKey) (found : Option RingKey) (live : Ring) (keys : Keys) → option_map pair_in (cond b (Some key) found) ≡ Some keys
+    → (option_map pair_in found ≡ Some keys → IsFound keys (map own_key live)) → IsFound keys (map own_key (cond b (key ∷ live) live))
+named_case true key found live keys e rest =
+    subst (λ k. IsFound k (own_key key ∷ map own_key live)) (same_keys (pair_in key) keys e) (first_found key (map own_key live))
+named_case false key found live keys e rest = rest e
 
-pub signer_named : (ring : Ring) → IsNamedIn (signer_seeds ring) (own_set false ring)
+live_named : (ring : Ring) (keys : Keys) → option_map pair_in (find is_live ring) ≡ Some keys → IsFound keys (map own_key (filter is_live ring))
+live_named [] keys e = cc e
+live_named (key ∷ ring) keys e = named_case (is_live key) key (find is_live ring) (filter is_live ring) keys e (live_named ring keys)
+
+pub signer_named : (ring : Ring) → IsNamedIn (signer_keys ring) (own_set false ring)
 unfolding own_set
-signer_named ring = λ seeds e.
-    ap (λ keys. key_named (signer_name seeds) (map own_key keys)) (filter_agree (λ (key : RingKey). is_published false key.state) is_live (λ key. published_live key.state) ring)
-    ∙ live_named ring seeds e
+signer_named ring = λ keys e.
+    ap (λ ks. key_named (signer_name keys) keys.alg (map own_key ks)) (filter_agree (λ (key : RingKey). is_published false key.state) is_live (λ key. published_live key.state) ring)
+    ∙ live_named ring keys e
 
 -- a ring has a signer
 pub never_silent : (ring : Ring) → list_any is_live ring ≡ true → find is_live ring ≡ None → ⊥
@@ -186,43 +194,47 @@ failing_more f test ring i key made so_far within is fails =
 
 -- ---- historical keys have a text
 
-historical_whole : (exp : ℕ) (seeds : List ℕ) (state : KeyState) → exp < 2 ^ 64 → IsTimelyState state → whole (Object (plain_members (signer_name seeds) exp (public_key P128S seeds) ++ revoked_members state)) ≡ true
-historical_whole exp seeds Live small timely =
-    whole-Object (plain_members (signer_name seeds) exp (public_key P128S seeds))
+-- what each historical key has
+abbrev plain_of : Keys → ℕ → List Member
+plain_of keys exp = plain_members keys.alg exp (signer_name keys) (signer_key keys)
+
+historical_whole : (exp : ℕ) (keys : Keys) (state : KeyState) → exp < 2 ^ 64 → IsTimelyState state → whole (Object (plain_of keys exp ++ revoked_members state)) ≡ true
+historical_whole exp keys Live small timely =
+    whole-Object (plain_of keys exp)
     ∙ rw (
-      whole_text algorithm (ascii algorithm refl),
+      whole_text (algorithm keys.alg) (is_utf8-algorithm keys.alg),
       whole_int exp small,
-      whole_text (signer_name seeds) (name_utf8 seeds),
+      whole_text (signer_name keys) (name_utf8 keys),
       whole_text key_type (ascii key_type refl),
-      whole_text (base64url (public_key P128S seeds)) (is_utf8-base64url (public_key P128S seeds)),
+      whole_text (base64url (signer_key keys)) (is_utf8-base64url (signer_key keys)),
       ascii (codes "alg") refl,
       ascii (codes "exp") refl,
       ascii (codes "kid") refl,
       ascii (codes "kty") refl,
       ascii (codes "pub") refl,
     ) refl
-historical_whole exp seeds Retired small timely =
-    whole-Object (plain_members (signer_name seeds) exp (public_key P128S seeds))
+historical_whole exp keys Retired small timely =
+    whole-Object (plain_of keys exp)
     ∙ rw (
-      whole_text algorithm (ascii algorithm refl),
+      whole_text (algorithm keys.alg) (is_utf8-algorithm keys.alg),
       whole_int exp small,
-      whole_text (signer_name seeds) (name_utf8 seeds),
+      whole_text (signer_name keys) (name_utf8 keys),
       whole_text key_type (ascii key_type refl),
-      whole_text (base64url (public_key P128S seeds)) (is_utf8-base64url (public_key P128S seeds)),
+      whole_text (base64url (signer_key keys)) (is_utf8-base64url (signer_key keys)),
       ascii (codes "alg") refl,
       ascii (codes "exp") refl,
       ascii (codes "kid") refl,
       ascii (codes "kty") refl,
       ascii (codes "pub") refl,
     ) refl
-historical_whole exp seeds (Revoked at reason) small timely =
-    whole-Object (plain_members (signer_name seeds) exp (public_key P128S seeds) ++ revoked_members (Revoked at reason))
+historical_whole exp keys (Revoked at reason) small timely =
+    whole-Object (plain_of keys exp ++ revoked_members (Revoked at reason))
     ∙ rw (
-      whole_text algorithm (ascii algorithm refl),
+      whole_text (algorithm keys.alg) (is_utf8-algorithm keys.alg),
       whole_int exp small,
-      whole_text (signer_name seeds) (name_utf8 seeds),
+      whole_text (signer_name keys) (name_utf8 keys),
       whole_text key_type (ascii key_type refl),
-      whole_text (base64url (public_key P128S seeds)) (is_utf8-base64url (public_key P128S seeds)),
+      whole_text (base64url (signer_key keys)) (is_utf8-base64url (signer_key keys)),
       revocation_whole at reason (omega arith),
       ascii (codes "alg") refl,
       ascii (codes "exp") refl,
@@ -239,7 +251,7 @@ each_whole (key ∷ ring) all =
     let small = (all.0).small in
     let old = λ (k : RingKey). is_historical k.state in
     cond_both (old key) (key ∷ filter old ring) (filter old ring) (λ keys. list_all whole (map historical_key keys) ≡ true)
-    (λ _. both_true (historical_whole key.exp key.seeds key.state (omega (arith, small)) (all.0).state) rest) (λ _. rest)
+    (λ _. both_true (historical_whole key.exp (pair_in key) key.state (omega (arith, small)) (all.0).state) rest) (λ _. rest)
 
 pub list_whole : (ring : Ring) → AllByRecursion IsRingKey ring → whole (ListOf (historical_keys ring)) ≡ true
 unfolding historical_keys
@@ -261,5 +273,5 @@ set-form retired ring slice keys is same made =
     subst SetForm (sym (made ∙ ap (own_set retired) same))
     (record { few = own_few retired ring is.form.few; formed = own_formed retired ring; distinct = own_distinct retired ring is.distinct })
 
-pub signer-in : (ring slice view : Ring) (keys : List Jwk) → slice ≡ ring → ring ≡ view → keys ≡ own_set false slice → IsNamedIn (signer_seeds view) keys
-signer-in ring slice view keys same seen made = subst (λ ks. IsNamedIn (signer_seeds view) ks) (sym (made ∙ ap (own_set false) (same ∙ seen))) (signer_named view)
+pub signer-in : (ring slice view : Ring) (keys : List Jwk) → slice ≡ ring → ring ≡ view → keys ≡ own_set false slice → IsNamedIn (signer_keys view) keys
+signer-in ring slice view keys same seen made = subst (λ ks. IsNamedIn (signer_keys view) ks) (sym (made ∙ ap (own_set false) (same ∙ seen))) (signer_named view)

@@ -11,7 +11,7 @@ use Rattle.key_ring.specs.declared.key.RevokeReason.{RevokeReason}
 use Rattle.key_ring.specs.declared.fault.RingFault.{RingFault}
 use Rattle.key_ring.specs.declared.fault.RingFault.TheVariants.{Known, Unknown, Order, StoreFault, Memory}
 use Rattle.key_ring.specs.declared.key.RingKey.{RingKey}
-use Rattle.key_ring.specs.Rings.{IsTimelyState, Ring, has_key, has_live, is_named, key_at, live_state, most_keys, revoked_state}
+use Rattle.key_ring.specs.Rings.{IsTimelyState, Ring, has_key, has_live, is_named, key_at, live_state, most_keys, revoked_state, ring_pair}
 
 -- a change of a ring: a new key of these seeds for these moments, or the key of that name in another state
 pub data Change : Type 0 where
@@ -37,7 +37,7 @@ fresh_key seeds at exp = record { seeds = seeds; iat = at; exp = exp; state = Li
 
 -- the name of the new key (RFC 7638)
 abbrev pub kid_added : List ℕ → List ℕ
-kid_added seeds = signer_name seeds
+kid_added seeds = signer_name (ring_pair seeds)
 
 -- the key, in that state where it has that name
 abbrev pub with_state : List ℕ → KeyState → RingKey → RingKey

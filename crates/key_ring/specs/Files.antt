@@ -4,7 +4,7 @@ use Rattle.hex.specs.Hex.{encode_lower}
 use Rattle.fed_json.specs.declared.tree.Json.{Json, Int, Text, List as ListOf, Object}
 use Rattle.fed_json.specs.declared.tree.Member.{Member}
 use Rattle.fed_json.specs.Compact.{compact}
-use Rattle.fed_json.specs.Members.{text_member}
+use Rattle.fed_json.specs.Members.{number_member, text_member}
 use Rattle.fed_json.specs.Reading.{member_of, tree_in}
 use Rattle.key_ring.specs.declared.key.KeyState.{KeyState}
 use Rattle.key_ring.specs.declared.key.KeyState.TheVariants.{Live, Retired, Revoked}

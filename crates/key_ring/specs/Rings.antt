@@ -2,10 +2,10 @@
 use Rattle.std.specs.Prelude.{◌≡◌, ◌≤◌, ◌<◌, ℕ, List, map, find, length, bytes_eq, Bool, true, false, IsTrue, Option}
 use Rattle.std.specs.List.{AllByRecursion, IsDistinct, list_any}
 use Rattle.hex.specs.Hex.{IsBytes}
+use Rattle.fed_base.specs.declared.algorithm.Alg.TheVariants.{Small}
 use Rattle.fed_base.specs.Moments.{moment_limit}
-use Rattle.slh_hash.specs.declared.params.TheConstants.{P128S}
-use Rattle.slh_dsa.specs.Keys.{public_key}
-use Rattle.sealed.specs.Sealing.{signer_name}
+use Rattle.slh_dsa.specs.Keys.{Keys, keys_of}
+use Rattle.sealed.specs.Sealing.{signer_key, signer_name}
 use Rattle.key_ring.specs.declared.key.KeyState.{KeyState}
 use Rattle.key_ring.specs.declared.key.KeyState.TheVariants.{Live, Retired, Revoked}
 use Rattle.key_ring.specs.declared.key.RingKey.{RingKey}
@@ -18,13 +18,21 @@ Ring = List RingKey
 abbrev pub most_keys : ℕ
 most_keys = 16
 
+-- the key pair of these seeds, in the algorithm of every key of a ring (FIPS 205 Algorithm 18)
+abbrev pub ring_pair : List ℕ → Keys
+ring_pair seeds = keys_of Small seeds
+
+-- the key pair of a key
+abbrev pub pair_in : RingKey → Keys
+pair_in key = ring_pair key.seeds
+
 -- the name of a key: the thumbprint of its public key (RFC 7638)
 abbrev pub kid_of : RingKey → List ℕ
-kid_of key = signer_name key.seeds
+kid_of key = signer_name (pair_in key)
 
 -- its public key (FIPS 205 section 9.1)
 abbrev pub public_of : RingKey → List ℕ
-public_of key = public_key P128S key.seeds
+public_of key = signer_key (pair_in key)
 
 -- the key has that name
 abbrev pub is_named : List ℕ → RingKey → Bool

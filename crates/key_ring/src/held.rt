@@ -3,10 +3,10 @@
 ghost use Rattle.std.specs.Prelude.{◌≡◌, IfOk, find, map, ◌∷◌, if◌then◌else◌};
 ghost use Rattle.std.specs.Option.{option_copied};
 ghost use Rattle.key_ring.specs.Changes.{with_state};
-ghost use Rattle.key_ring.specs.Rings.{has_key, has_live, is_live, is_named, key_at, kid_of, public_of};
+ghost use Rattle.key_ring.specs.Rings.{has_key, has_live, is_live, is_named, key_at, kid_of, pair_in, public_of};
 
 use crate::key::{KeyState, RingKey, is_live_state};
-use fed_base::{Duplicate, Memory, Seq, Text};
+use fed_base::{Alg, Duplicate, Memory, Seq, Text};
 use jwk_set::thumbprint;
 use slh_dsa::KeyPair;
 use std::alloc::Global;
@@ -22,14 +22,14 @@ pub struct HeldKey {
 
 impl Model for HeldKey {
     ghost use Rattle.std.specs.Prelude.{◌≡◌};
-    ghost use Rattle.sealed.specs.Sealing.{signer_name};
     ghost use Rattle.key_ring.specs.declared.key.RingKey.{RingKey as Plain};
+    ghost use Rattle.key_ring.specs.Rings.{kid_of, pair_in};
 
     ghost Value = { Plain };
 
     ghost view = { λ held. held.key };
 
-    ghost invariant = { λ held. (held.pair ≡ held.key.seeds) × (held.kid ≡ signer_name held.key.seeds) };
+    ghost invariant = { λ held. (held.pair ≡ pair_in held.key) × (held.kid ≡ kid_of held.key) };
 }
 
 impl HeldKey {
@@ -38,8 +38,8 @@ impl HeldKey {
     pub fn new(alloc: Global, key: &RingKey) -> Result<HeldKey, Memory>
         ensures { IfOk result (λ held. held ≡ key.now) }
     {
-        let pair = KeyPair::from_seeds(&key.seeds);
-        let kid = thumbprint(alloc, &pair.public())?;
+        let pair = KeyPair::from_seeds(Alg::Small, &key.seeds);
+        let kid = thumbprint(alloc, pair.alg(), &pair.public())?;
         Ok(HeldKey {
             key: *key,
             pair,
@@ -56,7 +56,7 @@ impl HeldKey {
 
     /// The key pair.
     pub fn pair(&self) -> &KeyPair
-        ensures { result.now ≡ self.now.seeds }
+        ensures { result.now ≡ pair_in self.now }
     {
         &self.pair
     }

@@ -5,7 +5,7 @@ ghost use Rattle.fed_json.specs.Forms.{IsWhole};
 ghost use Rattle.fed_json.specs.declared.tree.Json.{List as ListOf};
 ghost use Rattle.key_ring.specs.Files.{Joins, Opens, OpensKeys};
 ghost use Rattle.key_ring.specs.Rings.{HasForm};
-ghost use Rattle.key_ring.specs.Sets.{IsNamedIn, historical_keys, kept_set, live_set, signer_seeds};
+ghost use Rattle.key_ring.specs.Sets.{IsNamedIn, historical_keys, kept_set, live_set, signer_keys};
 ghost use Rattle.key_ring.specs.Terms.{term_of};
 
 use crate::fault::RingFault;
@@ -51,7 +51,7 @@ impl KeyRing {
 
     /// The newest live key, which signs. Each ring has one.
     pub fn signer(&self) -> &KeyPair
-        ensures { signer_seeds self.now ≡ Some result.now }
+        ensures { signer_keys self.now ≡ Some result.now }
     {
         match first_live(self.keys.as_slice()) {
             Some(held) => held.pair(),
@@ -59,10 +59,11 @@ impl KeyRing {
         }
     }
 
-    /// The live keys, in ring order, by their names. The signer is one of them, so each text that it seals is sealed by this set.
+    /// The live keys, in ring order, by their names and algorithms. The signer is one of them, so each text that it seals is sealed by
+    /// this set.
     pub fn live_set(&self, alloc: Global) -> Result<JwkSet, Memory>
         ensures keys { IfOk result (λ set. set.keys ≡ live_set self.now) }
-        ensures signer { IfOk result (λ set. IsNamedIn (signer_seeds self.now) set.keys) }
+        ensures signer { IfOk result (λ set. IsNamedIn (signer_keys self.now) set.keys) }
     {
         let keys = own_keys(alloc, self.keys.as_slice(), false)?;
         Ok(JwkSet { keys })

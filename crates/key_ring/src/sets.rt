@@ -8,10 +8,10 @@ use crate::held::HeldKey;
 use crate::key::{KeyState, is_live_state, is_revoked_state};
 use crate::writing::{add_number, add_text, add_tree, revocation_tree};
 use base64url::encode_32;
-use fed_base::{Duplicate, Memory, Seq, Text};
+use fed_base::{Alg, Duplicate, Memory, Seq, Text};
 use fed_json::{Json, Member};
 use jwk_set::Jwk;
-use jws_form::ALGORITHM;
+use jws_form::algorithm_name;
 use std::alloc::Global;
 
 /// The keys that are published: the live ones, and the retired ones too where that is asked.
@@ -42,6 +42,7 @@ fn add_own(alloc: Global, own: &mut Seq<Jwk>, held: &HeldKey) -> Result<(), Memo
     let kid = held.kid().copy(alloc)?;
     own.push(Jwk::Own {
         kid,
+        alg: held.pair().alg(),
         public: held.public(),
     })
 }
@@ -71,9 +72,16 @@ fn is_historical(state: KeyState) -> bool
 fn historical_key(alloc: Global, held: &HeldKey) -> Result<Json, Memory>
     ensures { IfOk result (λ tree. tree ≡ historical_key held.now) }
 {
-    let key = held.key();
+    let (key, alg) = (held.key(), held.pair().alg());
     let mut members = Seq::new(alloc);
-    add_plain(alloc, &mut members, held.kid(), key.exp, &held.public())?;
+    add_plain(
+        alloc,
+        &mut members,
+        alg,
+        key.exp,
+        held.kid(),
+        &held.public(),
+    )?;
     add_revocation(alloc, &mut members, key.state)?;
     Ok(Json::Object(members))
 }
@@ -82,13 +90,14 @@ fn historical_key(alloc: Global, held: &HeldKey) -> Result<Json, Memory>
 fn add_plain(
     alloc: Global,
     members: &mut Seq<Member>,
-    kid: &Text,
+    alg: Alg,
     exp: u64,
+    kid: &Text,
     public: &[u8; 32],
 ) -> Result<(), Memory>
-    ensures { OnOk result (members.new ≡ members.old ++ plain_members kid.now exp public.now) }
+    ensures { OnOk result (members.new ≡ members.old ++ plain_members alg exp kid.now public.now) }
 {
-    add_text(alloc, members, b"alg", ALGORITHM)?;
+    add_text(alloc, members, b"alg", algorithm_name(alg))?;
     add_number(alloc, members, b"exp", exp)?;
     add_text(alloc, members, b"kid", kid.as_slice())?;
     add_text(alloc, members, b"kty", b"AKP")?;

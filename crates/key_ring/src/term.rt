@@ -5,7 +5,7 @@ ghost use Rattle.key_ring.specs.Terms.{term_of};
 
 use crate::held::HeldKey;
 use crate::key::KeyState;
-use fed_base::{Duplicate, Memory, Seq, Text};
+use fed_base::{Alg, Duplicate, Memory, Seq, Text};
 use std::alloc::Global;
 
 /// A key of a ring without its seeds.
@@ -13,6 +13,8 @@ use std::alloc::Global;
 pub struct KeyTerm {
     /// The name: the thumbprint of the public key, 43 characters of base64url.
     pub kid: Text,
+    /// The algorithm of its signatures.
+    pub alg: Alg,
     /// When it was made, in seconds since 1970.
     pub iat: u64,
     /// When it ends, in seconds since 1970.
@@ -37,6 +39,7 @@ fn term_of(alloc: Global, held: &HeldKey) -> Result<KeyTerm, Memory>
     let key = held.key();
     Ok(KeyTerm {
         kid: held.kid().copy(alloc)?,
+        alg: held.pair().alg(),
         iat: key.iat,
         exp: key.exp,
         state: key.state,

@@ -1,5 +1,5 @@
 -- What is sealed verifies under the signer's key.
-use Rattle.std.proofs.Common.{◌≡◌, ◌≤◌, ℕ, List, length, Option, Some, None, Result, Ok, Err, IfOk, refl, sym, ap, ap₂, ◌∙◌, subst}
+use Rattle.std.proofs.Common.{◌≡◌, ◌≤◌, ℕ, List, length, Some, None, Result, Ok, Err, IfOk, refl, sym, ap, ap₂, ◌∙◌, subst}
 use Rattle.std.specs.Option.{option_and_then}
 use Rattle.fed_base.specs.declared.algorithm.Alg.{Alg}
 use Rattle.fed_base.specs.declared.faults.Memory.{Memory as NoMemory}
