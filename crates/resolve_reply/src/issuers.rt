@@ -2,20 +2,16 @@
 
 ghost use Rattle.std.specs.Prelude.{◌≡◌, [], IfOk, OnOk, bytes_eq};
 ghost use Rattle.std.specs.List.{list_any};
-ghost use Rattle.std.specs.Option.{option_copied};
 ghost use Rattle.entity_statement.specs.Told.{told};
-ghost use Rattle.trust_mark.specs.Conditions.{admits};
-ghost use Rattle.trust_mark.specs.Marks.{issuers_of, mark_of};
 ghost use Rattle.resolve_reply.specs.Marks.{each_named, is_admitted, is_searched, issuers_by_mark, looked_at, searched_for};
 ghost use Rattle.resolve_reply.specs.Looking.{added_once};
 
 use entity_id::EntityId;
 use entity_statement::{MarkEntry, Statement};
-use fed_base::{Duplicate, Memory, Seq, Text};
+use fed_base::{Duplicate, Memory, Seq};
 use jwk_set::JwkSet;
-use jws_form::{FormFault, split};
 use std::alloc::Global;
-use trust_mark::{Mark, MarkFault};
+use trust_mark::{Mark, admits, issuers_of, mark_of};
 
 /// How many marks of a leaf are looked at.
 const MAX_MARKS: usize = 16;
@@ -120,23 +116,6 @@ fn searched_for(
     }
 }
 
-// The mark that the text is, and `None` where it is none.
-#[tactic(auto, unfolding(trust_mark::specs::Marks::mark_of))]
-fn mark_of(alloc: Global, text: &[u8]) -> Result<Option<Mark>, Memory>
-    ensures { IfOk result (λ mark. mark ≡ mark_of text.now) }
-{
-    let compact = match split(alloc, text) {
-        Ok(compact) => compact,
-        Err(FormFault::Memory) => return Err(Memory),
-        Err(_) => return Ok(None),
-    };
-    match Mark::read(alloc, &compact) {
-        Ok(mark) => Ok(Some(mark)),
-        Err(MarkFault::Memory) => Err(Memory),
-        Err(_) => Ok(None),
-    }
-}
-
 // Whether the mark is of its entry's type, and the trust anchor lets its issuer issue marks of the type.
 fn is_searched(mark: &Mark, entry: &MarkEntry, anchor: &Statement) -> bool
     ensures { result ≡ is_searched (told anchor.now) entry.now mark.now }
@@ -152,31 +131,4 @@ fn is_admitted(mark: &Mark, anchor: &Statement) -> bool
         Some(who) => admits(who, &mark.iss),
         None => false,
     }
-}
-
-// Whether the list of a type lets the entity issue marks of it: any entity, where it is empty.
-fn admits(who: &Seq<Text>, iss: &EntityId) -> bool
-    ensures { result ≡ admits who.now iss.now }
-{
-    who.as_slice().is_empty() || names(who.as_slice(), iss.text())
-}
-
-// Those who may issue marks of the type, where the trust anchor lists it.
-#[tactic(auto, unfolding(trust_mark::specs::Marks::issuers_of))]
-fn issuers_of<'a>(anchor: &'a Statement, mark_type: &[u8]) -> Option<&'a Seq<Text>>
-    ensures { option_copied result ≡ issuers_of (told anchor.now) mark_type.now }
-{
-    let all = anchor.issuers.as_slice();
-    for issuers in all {
-        if issuers.mark_type.as_slice() == mark_type {
-            return Some(&issuers.who);
-        }
-    }
-    None
-}
-
-fn names(texts: &[Text], text: &[u8]) -> bool
-    ensures { result ≡ list_any (bytes_eq text.now) texts.now }
-{
-    texts.iter().any(|other| text == other.as_slice())
 }
