@@ -116,6 +116,6 @@ pub fn explain_length(alloc: Global, bytes: usize, notes: &mut Notes) {
     notes.say(
         Sentence::of(alloc, b"standard input: the claims have ")
             .and_number(alloc, bytes as u64)
-            .and(b" bytes as compact JSON; 180,000 are sealed at most"),
+            .and(b" bytes as compact JSON; 179,000 are sealed at most"),
     );
 }
