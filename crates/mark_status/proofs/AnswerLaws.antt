@@ -1,56 +1,23 @@
 -- What a text tells of a mark, and how many tests that takes.
 use Rattle.std.proofs.Common.{◌≡◌, ◌≤◌, ◌+◌, ℕ, List, Bool, true, false, cond, Option, Some, None, refl, sym, ap, ◌∙◌, subst, bytes_eq}
 use Rattle.std.specs.Prelude.{◌↔◌, Result, Ok, Err, IfOk}
-use Rattle.std.specs.Option.{option_and_then}
-use Rattle.std.specs.Result.{result_ok}
 use Rattle.std.proofs.lemmas.Bool.{le-leb, leb-true}
 use Rattle.fed_base.specs.declared.faults.Memory.{Memory as NoMemory}
 use Rattle.fed_json.proofs.Booleans.{both_true, left_true, right_true}
-use Rattle.jws_form.specs.Compact.{IsCompact}
-use Rattle.jws_form.specs.Splitting.{splitting}
-use Rattle.jws_form.specs.declared.compact.Compact.{Compact}
 use Rattle.sealed.specs.Deciding.{is_sealed_by}
 use Rattle.sealed.specs.Tests.{tests_under}
-use Rattle.trust_mark.specs.Claims.{Gives, status_claims}
-use Rattle.trust_mark.specs.declared.fault.MarkFault.{MarkFault}
-use Rattle.trust_mark.specs.declared.fault.MarkFault.TheVariants.{Typ, Tree, Missing, Shape, Memory}
+use Rattle.trust_mark.specs.Signed.{status_answer_of}
 use Rattle.trust_mark.specs.declared.status.MarkStatus.{MarkStatus}
 use Rattle.trust_mark.specs.declared.status.StatusAnswer.{StatusAnswer}
 use Rattle.trust_mark.proofs.ConditionLaws.{same-exactly}
 use Rattle.entity_statement.specs.Signed.{statement_of}
 use Rattle.entity_statement.specs.Told.{told}
+use Rattle.entity_statement.specs.Use.{status_endpoint_in}
 use Rattle.entity_statement.specs.declared.signed.SignedStatement.{SignedStatement}
 use Rattle.jwk_set.specs.declared.set.JwkSet.{JwkSet}
-use Rattle.mark_status.specs.Answers.{Asking, IsAnswer, is_about, status_answer_of, status_endpoint_in, tests_of_text, told_by}
-use Rattle.mark_status.specs.Stages.{IsConfigured, IsReading, Keeps}
+use Rattle.mark_status.specs.Answers.{Asking, IsAnswer, is_about, tests_of_text, told_by}
+use Rattle.mark_status.specs.Stages.{IsConfigured}
 use Rattle.mark_status.specs.declared.issuer.Configured.{Configured}
-use Rattle.mark_status.specs.declared.answer.SignedAnswer.{SignedAnswer}
-
--- ---- what was read and kept is what the text reads as
-
-module _ (text : List ℕ) (c : Compact) (splits : Some c ≡ result_ok (splitting text)) (compact : IsCompact text c) where
-  is_said : (r : Result StatusAnswer MarkFault) → status_claims c ≡ r → status_answer_of text ≡ result_ok r
-  unfolding status_answer_of
-  is_said r is = ap (option_and_then (λ parts. result_ok (status_claims parts))) (sym splits) ∙ ap result_ok is
-
-  unread : (fault : MarkFault) (kept : Result (Option SignedAnswer) NoMemory) → status_claims c ≡ Err fault → kept ≡ Ok None → IfOk kept (IsReading text)
-  unread fault kept is keeps = subst (λ k. IfOk k (IsReading text)) (sym keeps) (is_said (Err fault) is)
-
-  pub kept-reading : (read : Result StatusAnswer MarkFault) (kept : Result (Option SignedAnswer) NoMemory) → Gives read (status_claims c) → Keeps c read kept → IfOk kept (IsReading text)
-  kept-reading (Ok answer) kept is keeps =
-      subst (λ k. IfOk k (IsReading text)) (sym keeps) (is_said (Ok answer) is, compact.whole_is, subst (λ x. IsCompact x c) (sym compact.whole_is) compact)
-  kept-reading (Err Memory) kept is keeps = subst (λ k. IfOk k (IsReading text)) (sym keeps) tt
-  kept-reading (Err Typ) kept is keeps = unread Typ kept is keeps
-  kept-reading (Err Tree) kept is keeps = unread Tree kept is keeps
-  kept-reading (Err (Missing name)) kept is keeps = unread (Missing name) kept is keeps
-  kept-reading (Err (Shape name)) kept is keeps = unread (Shape name) kept is keeps
-
--- the text is an answer, or is none
-pub read-some : (text slice : List ℕ) (o : Option SignedAnswer) (s : SignedAnswer) → slice ≡ text → o ≡ Some s → IsReading slice o → IsReading text (Some s)
-read-some text slice o s same is reading = subst (λ x. IsReading x (Some s)) same (subst (IsReading slice) is reading)
-
-pub read-none : (text slice : List ℕ) (o : Option SignedAnswer) → slice ≡ text → o ≡ None → IsReading slice o → status_answer_of text ≡ None
-read-none text slice o same is reading = let read = subst (IsReading slice) is reading in ap status_answer_of (sym same) ∙ read
 
 -- ---- what it tells
 

@@ -9,12 +9,13 @@ use Rattle.fed_ports.specs.declared.link.LinkFault.TheVariants.{Failed}
 use Rattle.fed_ports.specs.declared.page.Page.{Page}
 use Rattle.fed_ports.specs.declared.page.Page.TheVariants.{Document, Refusal, Garbled, TooLong, NoRoute}
 use Rattle.jwk_set.specs.declared.jwk.Jwk.{Jwk}
+use Rattle.trust_mark.specs.Signed.{status_answer_of}
 use Rattle.trust_mark.specs.declared.status.MarkStatus.{MarkStatus}
 use Rattle.trust_mark.specs.declared.status.MarkStatus.TheVariants as status
 use Rattle.trust_mark.specs.declared.status.StatusAnswer.{StatusAnswer}
 use Rattle.mark_status.specs.declared.tell.Tell.{Tell}
 use Rattle.mark_status.specs.declared.tell.Tell.TheVariants.{Unasked, Fault}
-use Rattle.mark_status.specs.Answers.{Asking, form_of, is_about, status_answer_of, tests_of_text, told_by}
+use Rattle.mark_status.specs.Answers.{Asking, form_of, is_about, tests_of_text, told_by}
 use Rattle.mark_status.specs.Heeding.{Around}
 use Rattle.mark_status.specs.Posts.{Asks, BreaksOff, Makes, Views, failures, post_of}
 use Rattle.mark_status.specs.Stages.{Hears}

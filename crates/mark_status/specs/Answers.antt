@@ -1,29 +1,21 @@
 -- Where an issuer is asked about its trust marks, and what it answers (OpenID Federation 1.0 section 8.4).
 use Rattle.std.specs.Prelude.{◌≡◌, ◌≤◌, ◌+◌, ℕ, List, ◌++◌, codes, bytes_eq, nat_le, Bool, IsTrue, ◌&&◌, Option, Some, None, if◌then◌else◌}
 use Rattle.std.specs.Option.{option_and_then, option_map_or}
-use Rattle.std.specs.Result.{result_ok}
 use Rattle.fed_base.specs.Values.{◌>>=◌}
 use Rattle.form_urlencoded.specs.Form.{byte_serialize}
-use Rattle.fed_json.specs.declared.tree.Json.{Json}
-use Rattle.fed_json.specs.Trees.{as_object, text_at}
-use Rattle.jws_form.specs.Splitting.{splitting}
 use Rattle.jwk_set.specs.declared.jwk.Jwk.{Jwk}
 use Rattle.sealed.specs.Deciding.{is_sealed_by}
 use Rattle.sealed.specs.Tests.{tests_under}
 use Rattle.entity_statement.specs.Claims.{Identifier}
 use Rattle.entity_statement.specs.Signed.{statement_of}
-use Rattle.entity_statement.specs.Use.{federation_entity}
+use Rattle.entity_statement.specs.Use.{status_endpoint_in}
 use Rattle.entity_statement.specs.declared.marks.MarkEntry.{MarkEntry}
-use Rattle.trust_mark.specs.Claims.{status_claims}
 use Rattle.trust_mark.specs.Marks.{mark_of}
+use Rattle.trust_mark.specs.Signed.{status_answer_of}
 use Rattle.trust_mark.specs.declared.status.MarkStatus.{MarkStatus}
 use Rattle.trust_mark.specs.declared.status.StatusAnswer.{StatusAnswer}
 
 -- ---- questions
-
--- where the issuer is asked about its marks (section 5.1.1, `federation_trust_mark_status_endpoint`)
-unfoldable pub status_endpoint_in : Json → Option (List ℕ)
-status_endpoint_in metadata = option_and_then (text_at (codes "federation_trust_mark_status_endpoint")) (option_and_then as_object (federation_entity metadata))
 
 -- the form that asks about a mark (section 8.4.1, `trust_mark`)
 unfoldable pub form_of : List ℕ → List ℕ
@@ -45,10 +37,6 @@ asking_of entry config t = do
   Some (record { mark = entry.text; issuer = mark.iss; endpoint = status_endpoint_in claims.metadata; keys = claims.keys; moment = t })
 
 -- ---- answers
-
--- the answer on a status that a text reads as, where it reads as one (section 8.4.2)
-unfoldable pub status_answer_of : List ℕ → Option StatusAnswer
-status_answer_of text = option_and_then (λ compact. result_ok (status_claims compact)) (result_ok (splitting text))
 
 -- the text is the issuer's answer on this mark, and of no later moment than a minute from now: it says this (section 8.4.2)
 pub record IsAnswer (here : Asking) (text : List ℕ) (status : MarkStatus) : Type 0 where

@@ -1,22 +1,16 @@
 -- What the stages of a call answer; no public clause cites it.
-use Rattle.std.specs.Prelude.{◌≡◌, ℕ, min, List, [], ◌∷◌, ◌++◌, Option, Some, None, Result, Ok, Err, if◌then◌else◌}
-use Rattle.fed_base.specs.declared.faults.Memory.{Memory as NoMemory}
+use Rattle.std.specs.Prelude.{◌≡◌, ℕ, min, List, [], ◌∷◌, ◌++◌, Option, Some, None, if◌then◌else◌}
 use Rattle.fed_base.specs.Counts.{counted}
-use Rattle.jws_form.specs.Compact.{IsCompact}
-use Rattle.jws_form.specs.declared.compact.Compact.{Compact}
 use Rattle.entity_statement.specs.Claims.{Claims}
 use Rattle.entity_statement.specs.Signed.{statement_of}
+use Rattle.entity_statement.specs.Use.{status_endpoint_in}
 use Rattle.entity_statement.specs.declared.marks.MarkEntry.{MarkEntry}
 use Rattle.trust_mark.specs.Marks.{mark_of}
-use Rattle.trust_mark.specs.declared.fault.MarkFault.{MarkFault}
-use Rattle.trust_mark.specs.declared.fault.MarkFault.TheVariants.{Memory}
 use Rattle.trust_mark.specs.declared.mark.Mark.{Mark}
-use Rattle.trust_mark.specs.declared.status.StatusAnswer.{StatusAnswer}
-use Rattle.mark_status.specs.Answers.{Asking, status_answer_of, status_endpoint_in}
+use Rattle.mark_status.specs.Answers.{Asking}
 use Rattle.mark_status.specs.Heeding.{Around, end_of}
 use Rattle.mark_status.specs.Posts.{Makes, Views}
 use Rattle.mark_status.specs.Tells.{Tells, Told, keeps}
-use Rattle.mark_status.specs.declared.answer.SignedAnswer.{SignedAnswer}
 use Rattle.mark_status.specs.declared.heeded.Heeded.{Heeded}
 use Rattle.mark_status.specs.declared.issuer.Configured.{Configured}
 use Rattle.mark_status.specs.declared.issuer.Named.{Named}
@@ -42,17 +36,6 @@ pub record IsConfigured (text : List ℕ) (configured : Configured) : Type 0 whe
 -- what is asked about a mark
 abbrev pub asking_by : List ℕ → Question → Asking
 asking_by mark q = record { mark = mark; issuer = q.issuer; endpoint = q.endpoint; keys = q.keys.keys; moment = q.moment }
-
--- what was read is kept with the parts that it was read from, unless memory was wanting
-abbrev pub Keeps : Compact → Result StatusAnswer MarkFault → Result (Option SignedAnswer) NoMemory → Type 0
-Keeps compact (Ok answer) kept = kept ≡ Ok (Some (record { compact = compact; answer = answer }))
-Keeps compact (Err Memory) kept = kept ≡ Err (record {})
-Keeps compact (Err fault) kept = kept ≡ Ok None
-
--- the text is read, or reads as no answer
-abbrev pub IsReading : List ℕ → Option SignedAnswer → Type 0
-IsReading text (Some s) = (status_answer_of text ≡ Some s.answer) × (s.compact.whole ≡ text) × IsCompact s.compact.whole s.compact
-IsReading text None = status_answer_of text ≡ None
 
 -- ---- one mark
 

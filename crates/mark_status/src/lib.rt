@@ -5,7 +5,6 @@
 //! nobody can be asked about ([`heed`]).
 #![tactic(auto)]
 
-mod answer;
 mod asker;
 mod form;
 mod heeded;

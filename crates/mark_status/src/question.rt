@@ -3,14 +3,14 @@
 ghost use Rattle.std.specs.Prelude.{◌≡◌, IfOk, IsSome, MatchResult, OnErr, Some};
 ghost use Rattle.entity_statement.specs.Signed.{statement_of};
 ghost use Rattle.trust_mark.specs.Marks.{mark_of};
+ghost use Rattle.trust_mark.specs.Signed.{IsReading, status_answer_of};
 ghost use Rattle.mark_status.specs.Answers.{asking_of, is_about, tests_of_text, told_by};
 ghost use Rattle.mark_status.specs.Heeding.{around, end_of};
 ghost use Rattle.mark_status.specs.Posts.{BreaksOff, views_of};
-ghost use Rattle.mark_status.specs.Stages.{Hears, IsReading, asking_by};
+ghost use Rattle.mark_status.specs.Stages.{Hears, asking_by};
 ghost use Rattle.mark_status.specs.Tells.{tell_of, tell_of_status, tests_of};
 ghost use Rattle.fed_base.specs.Counts.{counted};
 
-use crate::answer::{SignedAnswer, is_sealed};
 use crate::asker::Asker;
 use crate::form::form;
 use crate::issuer::{Configured, Named};
@@ -20,8 +20,9 @@ use entity_statement::MarkEntry;
 use fed_base::{Ledger, Memory, Steps, Text};
 use fed_ports::{LinkFault, Page};
 use jwk_set::JwkSet;
+use sealed::is_sealed;
 use std::alloc::Global;
-use trust_mark::StatusAnswer;
+use trust_mark::{Signed, StatusAnswer, signed_answer};
 
 // How many seconds an answer may be given after the moment at which it is looked at.
 const LEEWAY: u64 = 60;
@@ -123,7 +124,7 @@ impl Question {
             (λ _. L.count steps.new.ledger ≡ counted (tests_of_text (asking_by mark.now self.now) text.now) (L.count steps.old.ledger))
             (λ _. L.count steps.new.ledger ≡ L.count steps.old.ledger) }
     {
-        match SignedAnswer::read(alloc, text.as_slice())? {
+        match signed_answer(alloc, text.as_slice())? {
             Some(signed) => {
                 let tell = self.tell_by(alloc, mark, &signed, steps);
                 // as one value, so that the proof doesn't follow each of its parts
@@ -139,22 +140,22 @@ impl Question {
         &self,
         alloc: Global,
         mark: &Text,
-        signed: &SignedAnswer,
+        signed: &Signed<StatusAnswer>,
         steps: &mut Steps<L>,
     ) -> Result<Tell, Memory>
-        requires { IsReading signed.now.compact.whole (Some signed.now) }
+        requires { IsReading status_answer_of signed.now.compact.whole (Some signed.now) }
         ensures tell { IfOk result (λ tell. tell ≡ tell_of_status (told_by (asking_by mark.now self.now) signed.now.compact.whole)) }
         ensures counted { MatchResult result
             (λ _. L.count steps.new.ledger ≡ counted (tests_of_text (asking_by mark.now self.now) signed.now.compact.whole) (L.count steps.old.ledger))
             (λ _. L.count steps.new.ledger ≡ L.count steps.old.ledger) }
     {
-        if !self.is_answered(mark, &signed.answer) {
+        if !self.is_answered(mark, &signed.claims) {
             return Ok(Tell::Useless);
         }
         if !is_sealed(alloc, &signed.compact, &self.keys, steps)? {
             return Ok(Tell::Useless);
         }
-        Ok(Tell::of(signed.answer.status))
+        Ok(Tell::of(signed.claims.status))
     }
 
     // Whether the answer is the issuer's, about the mark, and given at the latest a minute after the moment.
