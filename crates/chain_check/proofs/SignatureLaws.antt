@@ -11,20 +11,15 @@ use Rattle.jws_form.specs.declared.compact.Compact.{Compact}
 use Rattle.jws_form.specs.Compact.{IsCompact}
 use Rattle.jws_form.proofs.Laws.{IsCompact-unique, only}
 use Rattle.jwk_set.specs.declared.jwk.Jwk.{Jwk}
-use Rattle.jwk_set.specs.KeySets.{key_named}
-use Rattle.sealed.specs.Answers.{Decides, IsChecked, was_checked}
-use Rattle.sealed.specs.Seals.{IsSealedBy, Pair, named_key}
-use Rattle.sealed.specs.declared.fault.SealFault.{SealFault}
-use Rattle.sealed.specs.declared.fault.SealFault.TheVariants.{NoKid, NoKey, BadSignature, Memory}
-use Rattle.sealed.specs.Tests.{key_in}
+use Rattle.sealed.specs.Seals.{IsSealedBy, named_key}
+use Rattle.sealed.specs.Tests.{key_in, tests_under}
 use Rattle.entity_statement.specs.Claims.{Claims}
 use Rattle.entity_statement.specs.Use.{current_at}
 use Rattle.entity_statement.specs.declared.signed.SignedStatement.{SignedStatement}
 use Rattle.chain_check.specs.Chains.{Texts}
-use Rattle.chain_check.specs.Counts.{CountsBoth, CountsChecks, CountsLeaf, CountsSigned, CountsTest, CountsUnsigned, NamesBoth, checks_under}
-use Rattle.chain_check.specs.Signatures.{CurrentAt, NamesOneKey, keys_at, superior_keys}
+use Rattle.chain_check.specs.Counts.{CountsBoth, CountsChecks, CountsLeaf, CountsSigned, CountsTest, CountsUnsigned, NamesBoth}
+use Rattle.chain_check.specs.Signatures.{CurrentAt, NamesOneKey, SignedAt, keys_at, superior_keys}
 use Rattle.chain_check.specs.Reading.{claims_in, entry_claims, entry_text, texts_in}
-use Rattle.chain_check.specs.Stages.{Tells}
 use Rattle.chain_check.proofs.NameLaws.{claims-there}
 
 -- ---- times
@@ -61,10 +56,8 @@ sealed-same c own superior is same seal =
     }
 
 -- the text names a key of a set that it is sealed by
-pub sealed-named : (c : Compact) (keys : List Jwk) → IsCompact c.whole c → IsSealedBy c.whole keys → is_some (named_key c keys) ≡ true
-sealed-named c keys is seal =
-    let one = IsCompact-unique c.whole seal.compact c seal.splits is in
-    ap is_some (ap (λ x. named_key x keys) (sym one) ∙ seal.named)
+pub sealed-named : (keys : List Jwk) (text : List ℕ) → IsSealedBy text keys → is_some (key_in keys text) ≡ true
+sealed-named keys text seal = ap is_some (key_in-compact keys text seal.compact seal.splits ∙ seal.named)
 
 -- ---- counts
 
@@ -85,64 +78,43 @@ AtMost-within most' high one = record { steps = one.steps; within = omega (arith
 pub AtMost-is : (steps before now : ℕ) → now ≡ counted steps before → CountsAtMost steps before now
 AtMost-is steps before now count = record { steps = steps; within = omega arith; counts = count }
 
--- the test of a text under one set
-abbrev checks_by : Option (List ℕ) → ℕ
-checks_by key = option_map_or (λ _. 1) key 0
-
-some-one : (key : Option (List ℕ)) → is_some key ≡ true → checks_by key ≡ 1
-some-one (Some public) is = refl
-some-one None is = absurd (true≢false (sym is))
-
-pub checks-named : (keys : List Jwk) (text : List ℕ) → is_some (key_in keys text) ≡ true → checks_under keys text ≡ 1
-checks-named keys text named = some-one (key_in keys text) named
-
-checks-key : (keys : List Jwk) (c : Compact) (key : Option (List ℕ)) → IsCompact c.whole c → named_key c keys ≡ key → checks_under keys c.whole ≡ checks_by key
-checks-key keys c key is named = ap checks_by (key_in-compact keys c.whole c is ∙ named)
-
-pub tells-counted : (keys : List Jwk) (c : Compact) (r : Result Pair SealFault) (out : Result Bool NoMemory) (before now : ℕ) → IsCompact c.whole c → Tells r out → IsChecked c keys r
-    → now ≡ cond (was_checked r) (next_count before) before → CountsTest keys c.whole out before now
-tells-counted keys c (Ok seal) out before now is tells checked count = subst (λ o. CountsTest keys c.whole o before now) (sym tells) count
-tells-counted keys c (Err BadSignature) out before now is tells checked count =
-    subst (λ o. CountsTest keys c.whole o before now) (sym tells) (count ∙ ap (λ n. counted n before) (sym (checks-key keys c (Some checked.0) is checked.1)))
-tells-counted keys c (Err NoKid) out before now is tells checked count =
-    subst (λ o. CountsTest keys c.whole o before now) (sym tells)
-    (count ∙ ap (λ n. counted n before) (sym (checks-key keys c None is (ap (option_and_then (λ kid. key_named kid keys)) checked))))
-tells-counted keys c (Err NoKey) out before now is tells checked count =
-    subst (λ o. CountsTest keys c.whole o before now) (sym tells) (count ∙ ap (λ n. counted n before) (sym (checks-key keys c None is checked.2)))
-tells-counted keys c (Err Memory) out before now is tells checked count = subst (λ o. CountsTest keys c.whole o before now) (sym tells) count
-
-pub tells-sealed : (r : Result Pair SealFault) (out : Result Bool NoMemory) (P : Type 0) → Tells r out → Decides r P → IfOk out (λ sealed. (sealed ≡ true) ↔ P)
-tells-sealed (Ok seal) out P tells decides = subst (λ o. IfOk o (λ sealed. (sealed ≡ true) ↔ P)) (sym tells) ((λ _. decides, λ _. refl))
-tells-sealed (Err BadSignature) out P tells decides = subst (λ o. IfOk o (λ sealed. (sealed ≡ true) ↔ P)) (sym tells) ((λ bad. cc bad, λ p. absurd (decides p)))
-tells-sealed (Err NoKid) out P tells decides = subst (λ o. IfOk o (λ sealed. (sealed ≡ true) ↔ P)) (sym tells) ((λ bad. cc bad, λ p. absurd (decides p)))
-tells-sealed (Err NoKey) out P tells decides = subst (λ o. IfOk o (λ sealed. (sealed ≡ true) ↔ P)) (sym tells) ((λ bad. cc bad, λ p. absurd (decides p)))
-tells-sealed (Err Memory) out P tells decides = subst (λ o. IfOk o (λ sealed. (sealed ≡ true) ↔ P)) (sym tells) tt
+-- the test of a text that names a key of a set
+pub tests-named : (keys : List Jwk) (text : List ℕ) → is_some (key_in keys text) ≡ true → tests_under keys text ≡ 1
+unfolding tests_under
+tests-named keys text named = ap (λ b. cond b 1 0) named
 
 -- the tests of the leaf's text under two sets
 module _ (text : List ℕ) (own superior : List Jwk) (before now : ℕ) where
   pub leaf-none : (NamesBoth text own superior → ⊥) → now ≡ before → CountsLeaf text own superior before now
   leaf-none unnamed same = record { none = λ _. same; first = λ named. absurd (unnamed named); both = λ named. absurd (unnamed named) }
 
-  pub leaf-first : NamesBoth text own superior → ¬ IsSealedBy text own → now ≡ counted (checks_under own text) before → CountsLeaf text own superior before now
+  pub leaf-first : NamesBoth text own superior → ¬ IsSealedBy text own → now ≡ counted (tests_under own text) before → CountsLeaf text own superior before now
   leaf-first named unsealed count = record {
     none = λ unnamed. absurd (unnamed named);
-    first = λ _ _. count ∙ ap (λ n. counted n before) (checks-named own text named.0);
+    first = λ _ _. count ∙ ap (λ n. counted n before) (tests-named own text named.0);
     both = λ _ sealed. absurd (unsealed sealed);
   }
 
-  pub leaf-one : key_in own text ≡ key_in superior text → now ≡ counted 1 before → CountsBoth text own superior (Ok true) before now
-  leaf-one same count = ((λ _. count, λ apart. absurd (apart same)), AtMost-within 2 (omega arith) (AtMost-is 1 before now count))
+  first-test : is_some (key_in own text) ≡ true → now ≡ counted (tests_under own text) before → now ≡ counted 1 before
+  first-test named count = count ∙ ap (λ n. counted n before) (tests-named own text named)
 
-  pub leaf-both : (r : Result Bool NoMemory) (then : ℕ) → NamesBoth text own superior → IsSealedBy text own → ¬ (key_in own text ≡ key_in superior text) → now ≡ counted 1 before
+  pub leaf-one : IsSealedBy text own → key_in own text ≡ key_in superior text → now ≡ counted (tests_under own text) before → CountsBoth text own superior (Ok true) before now
+  leaf-one sealed same count =
+      let one = first-test (sealed-named own text sealed) count in ((λ _. one, λ apart. absurd (apart same)), AtMost-within 2 (omega arith) (AtMost-is 1 before now one))
+
+  second-test : (then : ℕ) → NamesBoth text own superior → now ≡ counted (tests_under own text) before → then ≡ counted (tests_under superior text) now → then ≡ counted 2 before
+  second-test then named first second = second ∙ ap (λ n. counted n now) (tests-named superior text named.1) ∙ ap next_count (first-test named.0 first)
+
+  pub leaf-both : (r : Result Bool NoMemory) (then : ℕ) → NamesBoth text own superior → IsSealedBy text own → ¬ (key_in own text ≡ key_in superior text) → now ≡ counted (tests_under own text) before
       → CountsTest superior text r now then → CountsBoth text own superior r before then
   leaf-both (Ok true) then named sealed apart first second =
-      let two : then ≡ counted 2 before = second ∙ ap next_count first in ((λ same. absurd (apart same), λ _. two), AtMost-is 2 before then two)
+      let two = second-test then named first second in ((λ same. absurd (apart same), λ _. two), AtMost-is 2 before then two)
   leaf-both (Ok false) then named sealed apart first second = record {
     none = λ unnamed. absurd (unnamed named);
     first = λ _ unsealed. absurd (unsealed sealed);
-    both = λ _ _. second ∙ ap (λ n. counted n now) (checks-named superior text named.1) ∙ ap next_count first;
+    both = λ _ _. second-test then named first second;
   }
-  leaf-both (Err e) then named sealed apart first second = AtMost-is 1 before then (second ∙ first)
+  leaf-both (Err e) then named sealed apart first second = AtMost-is 1 before then (second ∙ first-test named.0 first)
 
 -- how many checks the first j places cost at most
 abbrev pub most_at : ℕ → ℕ
@@ -164,17 +136,22 @@ module _ (texts : Texts) (chain : List Claims) (keys : List Jwk) where
   abbrev Above : ℕ → Result Bool NoMemory → ℕ → ℕ → Type 0
   Above j r now then = CountsTest (superior_keys chain keys j) (slice_index_or texts j []) r now then
 
-  pub place-signed : (j before now then : ℕ) → CountsSigned j One before now → (j ≡ 0 → AtLeaf (Ok true) now then) → (0 < j → Above j (Ok true) now then) → CountsSigned (j + 1) One before then
-  place-signed zero before now then first leaf above = subst (λ n. CountsSigned 1 One n then) first (leaf refl).0
-  place-signed (suc j) before now then first leaf above =
-      let more : then ≡ counted 1 now = above (omega arith) in
+  one-above : (j now then : ℕ) → SignedAt texts chain keys j → Above j (Ok true) now then → then ≡ counted 1 now
+  one-above j now then signed count = count ∙ ap (λ n. counted n now) (tests-named (superior_keys chain keys j) (slice_index_or texts j []) (sealed-named (superior_keys chain keys j) (slice_index_or texts j []) signed.by_superior))
+
+  pub place-signed : (j before now then : ℕ) → SignedAt texts chain keys j → CountsSigned j One before now → (j ≡ 0 → AtLeaf (Ok true) now then) → (0 < j → Above j (Ok true) now then)
+      → CountsSigned (j + 1) One before then
+  place-signed zero before now then signed first leaf above = subst (λ n. CountsSigned 1 One n then) first (leaf refl).0
+  place-signed (suc j) before now then signed first leaf above =
+      let more = one-above (suc j) now then signed (above (omega arith)) in
       subst (λ n. CountsSigned n One before then) (sym (add-one (suc j))) ((λ is. more ∙ ap next_count (first.0 is), λ apart. more ∙ ap next_count (first.1 apart)))
 
-  pub place-most : (j before now then : ℕ) → CountsAtMost (most_at j) before now → (j ≡ 0 → AtLeaf (Ok true) now then) → (0 < j → Above j (Ok true) now then)
+  pub place-most : (j before now then : ℕ) → SignedAt texts chain keys j → CountsAtMost (most_at j) before now → (j ≡ 0 → AtLeaf (Ok true) now then) → (0 < j → Above j (Ok true) now then)
       → CountsAtMost (most_at (j + 1)) before then
-  place-most zero before now then first leaf above = AtMost-within 2 (omega arith) (AtMost-plus first (leaf refl).1)
-  place-most (suc j) before now then first leaf above =
-      subst (λ n. CountsAtMost (most_at n) before then) (sym (add-one (suc j))) (AtMost-within (suc (suc (suc j))) (omega arith) (AtMost-plus first (AtMost-is 1 now then (above (omega arith)))))
+  place-most zero before now then signed first leaf above = AtMost-within 2 (omega arith) (AtMost-plus first (leaf refl).1)
+  place-most (suc j) before now then signed first leaf above =
+      let more = one-above (suc j) now then signed (above (omega arith)) in
+      subst (λ n. CountsAtMost (most_at n) before then) (sym (add-one (suc j))) (AtMost-within (suc (suc (suc j))) (omega arith) (AtMost-plus first (AtMost-is 1 now then more)))
 
   pub place-unsigned : (j before now then : ℕ) → CountsSigned j One before now → (j ≡ 0 → AtLeaf (Ok false) now then) → (0 < j → Above j (Ok false) now then)
       → CountsUnsigned texts chain keys j before then

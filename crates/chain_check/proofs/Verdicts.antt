@@ -260,9 +260,10 @@ sealed-more text keys more extends seal = record {
   verifies = seal.verifies;
 }
   where
-    named-more : (kid : Option (List ℕ)) → option_and_then (λ k. key_named k keys) kid ≡ Some seal.public → option_and_then (λ k. key_named k more) kid ≡ Some seal.public
+    named-more : (kid : Option (List ℕ)) → option_and_then (λ k. key_named k seal.compact.alg keys) kid ≡ Some seal.public
+        → option_and_then (λ k. key_named k seal.compact.alg more) kid ≡ Some seal.public
     named-more None e = cc e
-    named-more (Some kid) e = extends kid seal.public e
+    named-more (Some kid) e = extends kid seal.compact.alg seal.public e
 
 above-more : (text : List ℕ) (next : Option Claims) (keys more : List Jwk) → Extends keys more → IsSealedBy text (option_map_or (λ s. s.keys) next keys) → IsSealedBy text (option_map_or (λ s. s.keys) next more)
 above-more text (Some s) keys more extends seal = seal

@@ -13,9 +13,9 @@ Texts = List (List ℕ)
 unfoldable pub statements_of : Texts → List Claims
 statements_of texts = filter_map statement_of texts
 
--- how many statements a chain has at most: two configurations and eight subordinate statements
+-- how many statements a chain has at most: two configurations and twelve subordinate statements
 abbrev pub max_statements : ℕ
-max_statements = 10
+max_statements = 14
 
 -- the place is one of a chain, and the text there reads as a statement
 pub record ReadsAt (texts : Texts) (j : ℕ) : Type 0 where
@@ -28,11 +28,11 @@ pub record ReadsAt (texts : Texts) (j : ℕ) : Type 0 where
 abbrev pub places_of : Texts → ℕ
 places_of texts = max 1 (length texts)
 
--- from 1 to 10 texts, each of which reads as a statement
+-- from 1 to 14 texts, each of which reads as a statement
 abbrev pub HasForm : Texts → Type 0
 HasForm texts = HoldsBelow (ReadsAt texts) (places_of texts)
 
--- the first place at which there is no statement; the empty chain has none at place 0, and a longer one than 10 none at place 10
+-- the first place at which there is no statement; the empty chain has none at place 0, and a longer one than 14 none at place 14
 abbrev pub LosesForm : Texts → ℕ → Type 0
 LosesForm texts place = FailsFirst (ReadsAt texts) (places_of texts) place
 

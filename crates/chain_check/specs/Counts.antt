@@ -1,11 +1,10 @@
 -- How many signatures a check of a chain checks: each pair of a text and a key that it needs once, up to the first that fails.
-use Rattle.std.specs.Prelude.{◌≡◌, ◌+◌, ℕ, zero, suc, List, [], length, Bool, true, false, Result, Ok, Err, IsSome, slice_index_or}
-use Rattle.std.specs.Option.{option_map_or}
+use Rattle.std.specs.Prelude.{◌≡◌, ◌+◌, ℕ, zero, suc, List, [], length, Bool, true, false, Result, Ok, Err, MatchResult, IsSome, slice_index_or}
 use Rattle.fed_base.specs.Counts.{CountsAtMost, counted}
 use Rattle.fed_base.specs.declared.faults.Memory.{Memory as NoMemory}
 use Rattle.jwk_set.specs.declared.jwk.Jwk.{Jwk}
 use Rattle.sealed.specs.Seals.{IsSealedBy}
-use Rattle.sealed.specs.Tests.{key_in}
+use Rattle.sealed.specs.Tests.{key_in, tests_under}
 use Rattle.entity_statement.specs.Claims.{Claims}
 use Rattle.chain_check.specs.declared.reason.Reason.TheVariants.{Form, Names, Times, Signature}
 use Rattle.chain_check.specs.declared.stop.Stop.{Stop}
@@ -33,16 +32,12 @@ pub record CountsLeaf (text : List ℕ) (own superior : List Jwk) (before now : 
   pub first : NamesBoth text own superior → ¬ IsSealedBy text own → now ≡ counted 1 before
   pub both : NamesBoth text own superior → IsSealedBy text own → now ≡ counted 2 before
 
--- one check of a text under the keys of its superior, where its header names one of them
-abbrev pub checks_under : List Jwk → List ℕ → ℕ
-checks_under keys text = option_map_or (λ _. 1) (key_in keys text) 0
-
 -- the checks up to the first text that isn't signed, which stands at the place
 abbrev pub CountsUnsigned : Texts → List Claims → List Jwk → ℕ → ℕ → ℕ → Type 0
 CountsUnsigned texts chain keys zero before now = CountsLeaf (slice_index_or texts 0 []) (keys_at chain 0 []) (superior_keys chain keys 0) before now
 CountsUnsigned texts chain keys (suc j) before now =
     (below : ℕ) × CountsSigned (suc j) (NamesOneKey texts chain keys) before below
-    × (now ≡ counted (checks_under (superior_keys chain keys (suc j)) (slice_index_or texts (suc j) [])) below)
+    × (now ≡ counted (tests_under (superior_keys chain keys (suc j)) (slice_index_or texts (suc j) [])) below)
 
 -- what a check of a chain counts by its verdict: nothing where a class before Signature fails; for want of memory it may end early
 abbrev pub CountsVerdict : Case → Result Verdict NoMemory → ℕ → ℕ → Type 0
@@ -55,9 +50,7 @@ CountsVerdict case (Err _) before now = CountsAtMost (length case.texts + 1) bef
 
 -- what the stages count: the check of one text under one set of keys,
 abbrev pub CountsTest : List Jwk → List ℕ → Result Bool NoMemory → ℕ → ℕ → Type 0
-CountsTest keys text (Ok true) before now = now ≡ counted 1 before
-CountsTest keys text (Ok false) before now = now ≡ counted (checks_under keys text) before
-CountsTest keys text (Err _) before now = now ≡ before
+CountsTest keys text result before now = MatchResult result (λ _. now ≡ counted (tests_under keys text) before) (λ _. now ≡ before)
 
 -- those of the leaf's text,
 abbrev pub CountsBoth : List ℕ → List Jwk → List Jwk → Result Bool NoMemory → ℕ → ℕ → Type 0

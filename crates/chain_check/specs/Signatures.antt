@@ -1,6 +1,7 @@
 -- Under which keys each text of a chain is signed, and that its statements are current (OpenID Federation 1.0 section 10.2).
 use Rattle.std.specs.Prelude.{◌≡◌, ◌≤◌, ◌+◌, ℕ, List, [], length, IsTrue, Option, Some, slice_get, slice_index_or}
 use Rattle.std.specs.Option.{option_map_or}
+use Rattle.fed_base.specs.declared.algorithm.Alg.{Alg}
 use Rattle.jwk_set.specs.declared.jwk.Jwk.{Jwk}
 use Rattle.jwk_set.specs.KeySets.{key_named}
 use Rattle.sealed.specs.Seals.{IsSealedBy}
@@ -35,13 +36,13 @@ pub record SignedAt (texts : Texts) (chain : List Claims) (keys : List Jwk) (j :
 abbrev pub AreSigned : Texts → List Claims → List Jwk → Type 0
 AreSigned texts chain keys = HoldsBelow (SignedAt texts chain keys) (length chain)
 
--- the leaf's text names one key in its own set and in its superior's
+-- the leaf's text names one key in its own set and in its superior's, each of the text's algorithm
 abbrev pub NamesOneKey : Texts → List Claims → List Jwk → Type 0
 NamesOneKey texts chain keys = key_in (keys_at chain 0 []) (slice_index_or texts 0 []) ≡ key_in (superior_keys chain keys 0) (slice_index_or texts 0 [])
 
--- each key of the first has its name among the others too
+-- each own key of the first stands among the others too, by its name and its algorithm
 abbrev pub Extends : List Jwk → List Jwk → Type 0
-Extends keys more = (kid public : List ℕ) → key_named kid keys ≡ Some public → key_named kid more ≡ Some public
+Extends keys more = (kid : List ℕ) (alg : Alg) (public : List ℕ) → key_named kid alg keys ≡ Some public → key_named kid alg more ≡ Some public
 
 -- a statement of the chain has expired at the moment
 pub record HasExpired (chain : List Claims) (t : ℕ) : Type 0 where

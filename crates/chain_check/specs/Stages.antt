@@ -13,8 +13,6 @@ use Rattle.chain_check.specs.declared.verdict.Verdict.TheVariants as verdict
 use Rattle.chain_check.specs.declared.stop.Stop.{Stop}
 use Rattle.chain_check.specs.declared.stop.Stop.TheVariants.{Refused, Memory}
 use Rattle.jwk_set.specs.declared.jwk.Jwk.{Jwk}
-use Rattle.sealed.specs.declared.fault.SealFault.{SealFault}
-use Rattle.sealed.specs.declared.fault.SealFault.TheVariants as seal
 use Rattle.sealed.specs.Seals.{IsSealedBy, Pair}
 use Rattle.chain_check.specs.declared.tried.Tried.{Tried}
 use Rattle.chain_check.specs.declared.known.Known.{Known}
@@ -30,12 +28,6 @@ abbrev pub Passes : {X : Type 0} → Result X Stop → (X → Type 0) → (ℕ �
 Passes (Ok x) passed failed = passed x
 Passes (Err (Refused place reason)) passed failed = failed place reason
 Passes (Err Memory) passed failed = Unit {0}
-
--- what a check of a seal tells: whether there is one, or that memory was wanting
-abbrev pub Tells : Result Pair SealFault → Result Bool NoMemory → Type 0
-Tells (Ok pair) sealed = sealed ≡ Ok true
-Tells (Err seal.Memory) sealed = sealed ≡ Err (record {})
-Tells (Err fault) sealed = sealed ≡ Ok false
 
 -- the verdict that a check comes to
 abbrev pub verdict_in : Result Resolved Stop → Result Verdict NoMemory

@@ -9,7 +9,7 @@ ghost use Rattle.chain_check.specs.Reading.{claims_in, texts_in};
 ghost use Rattle.chain_check.specs.Stages.{FailsUntried, IsKnown, Passes, TestsFirst};
 
 use crate::reason::Reason;
-use crate::signatures::superior_keys;
+use crate::signatures::{signing_key, superior_keys};
 use crate::stop::Stop;
 use crate::tried::Tried;
 use entity_statement::SignedStatement;
@@ -86,10 +86,7 @@ fn known_by(compact: &Compact, tried: &Tried, set: &JwkSet) -> Known
     requires own { IsOfItsText tried.now }
     ensures { IsKnown set.now.keys tried.now result }
 {
-    let Some(kid) = &compact.kid else {
-        return Known::Unsealed;
-    };
-    let Some(public) = set.key_of(kid) else {
+    let Some(public) = signing_key(compact, set) else {
         return Known::Unsealed;
     };
     if has_seal(tried, &public) {

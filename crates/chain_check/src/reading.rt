@@ -14,7 +14,7 @@ use fed_base::Seq;
 use std::alloc::Global;
 
 // How many statements a chain has at most.
-const MAX_STATEMENTS: usize = 10;
+const MAX_STATEMENTS: usize = 14;
 
 /// The statements of the texts, or the first place at which there is none.
 pub(crate) fn read_chain<T: HoldsText>(

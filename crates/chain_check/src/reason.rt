@@ -9,7 +9,7 @@ use std::alloc::Global;
 /// from the anchor down fails first, its highest.
 #[derive(Drop)]
 pub enum Reason {
-    /// The text doesn't read as a statement, the chain is empty (at place 0) or has more than ten texts (at place 10).
+    /// The text doesn't read as a statement, the chain is empty (at place 0) or has more than fourteen texts (at place 14).
     Form,
     /// Issuer or subject isn't the one that the place asks for.
     Names,

@@ -9,7 +9,7 @@ ghost use Rattle.chain_check.specs.Counts.{CountsBoth, CountsChecks, CountsTest}
 ghost use Rattle.chain_check.specs.Signatures.{AreCurrent, AreSigned, CurrentAt, SignedAt, keys_at, superior_keys as keys_above};
 ghost use Rattle.entity_statement.specs.Signed.{IsSplit};
 ghost use Rattle.chain_check.specs.Reading.{claims_in, texts_in};
-ghost use Rattle.chain_check.specs.Stages.{Passes, Tells};
+ghost use Rattle.chain_check.specs.Stages.{Passes};
 
 use crate::reason::Reason;
 use crate::stop::Stop;
@@ -17,7 +17,7 @@ use entity_statement::SignedStatement;
 use fed_base::{Ledger, Memory, Steps};
 use jwk_set::JwkSet;
 use jws_form::Compact;
-use sealed::{SealFault, Sealed, check_sealed};
+use sealed::is_sealed;
 use std::alloc::Global;
 
 /// Looks whether each statement is current at the moment.
@@ -112,30 +112,6 @@ pub(crate) fn superior_keys<'a>(
     }
 }
 
-fn is_sealed<L: Ledger>(
-    alloc: Global,
-    compact: &Compact,
-    set: &JwkSet,
-    steps: &mut Steps<L>,
-) -> Result<bool, Memory>
-    requires { IsCompact compact.now.whole compact.now }
-    ensures sealed { IfOk result (λ sealed. IsTrue sealed ↔ IsSealedBy compact.now.whole set.now.keys) }
-    ensures counted { CountsTest set.now.keys compact.now.whole result (L.count steps.old.ledger) (L.count steps.new.ledger) }
-{
-    was_sealed(check_sealed(alloc, compact, set, steps))
-}
-
-// Whether a check found a seal, unless memory was wanting.
-fn was_sealed(checked: Result<Sealed, SealFault>) -> Result<bool, Memory>
-    ensures { Tells checked result }
-{
-    match checked {
-        Ok(_) => Ok(true),
-        Err(SealFault::Memory) => Err(Memory),
-        Err(_) => Ok(false),
-    }
-}
-
 // Whether the text is sealed by a key of each of two sets. No check is made where its header names none in one of them,
 // and one does where it names the same in both.
 fn is_sealed_by_both<L: Ledger>(
@@ -163,23 +139,27 @@ fn is_sealed_by_both<L: Ledger>(
     is_sealed(alloc, compact, superior, steps)
 }
 
+/// The own key of the set that the text's header names, of the text's algorithm.
+pub(crate) fn signing_key(compact: &Compact, set: &JwkSet) -> Option<[u8; 32]>
+    ensures { result ≡ named_key compact.now set.now.keys }
+{
+    match &compact.kid {
+        Some(kid) => set.key_of(kid, compact.alg),
+        None => None,
+    }
+}
+
 // Whether the text's header names a key in each of two sets.
 fn names_both(compact: &Compact, own: &JwkSet, superior: &JwkSet) -> bool
     ensures { IsTrue result
         ↔ (IsSome (named_key compact.now own.now.keys) × IsSome (named_key compact.now superior.now.keys)) }
 {
-    match &compact.kid {
-        Some(kid) => own.key_of(kid).is_some() && superior.key_of(kid).is_some(),
-        None => false,
-    }
+    signing_key(compact, own).is_some() && signing_key(compact, superior).is_some()
 }
 
 // Whether the text's header names the same key in both sets, or none in either.
 fn name_one_key(compact: &Compact, own: &JwkSet, superior: &JwkSet) -> bool
     ensures { IsTrue result ↔ (named_key compact.now own.now.keys ≡ named_key compact.now superior.now.keys) }
 {
-    match &compact.kid {
-        Some(kid) => own.key_of(kid) == superior.key_of(kid),
-        None => true,
-    }
+    signing_key(compact, own) == signing_key(compact, superior)
 }

@@ -12,15 +12,15 @@ returns-in_err-is_signed-clause-counted g c =
 
 pub returns-then-not-branch-clause-counted : goal.returns-then-not-branch-clause-counted
 returns-then-not-branch-clause-counted g c =
-    place-unsigned (texts_in c.args.entries.now) (claims_in c.args.entries.now) c.args.keys.now.keys c.loop-j.j _ _ _ c.loop-j.invariant.2 (rw c.if-not-branch.true at c.in_ok-is_signed.ensures.leaf) (rw c.if-not-branch.true at c.in_ok-is_signed.ensures.others)
+    place-unsigned (texts_in c.args.entries.now) (claims_in c.args.entries.now) c.args.keys.now.keys c.loop-j.j _ _ _ c.loop-j.invariant.2 (rw c.if-not-branch.true at c.in_ok-is_signed.ensures.leaf) c.in_ok-is_signed.ensures.others
 
 pub loop-j-preserved : goal.loop-j-preserved
 loop-j-preserved g c = (
   below_more _ _ c.loop-j.invariant.0 (c.in_ok-is_signed.ensures.signed.0 c.if-not-branch.false),
-  place-most (texts_in c.args.entries.now) (claims_in c.args.entries.now) c.args.keys.now.keys c.loop-j.j _ _ _ c.loop-j.invariant.1
-      (rw c.if-not-branch.false at c.in_ok-is_signed.ensures.leaf) (rw c.if-not-branch.false at c.in_ok-is_signed.ensures.others),
-  place-signed (texts_in c.args.entries.now) (claims_in c.args.entries.now) c.args.keys.now.keys c.loop-j.j _ _ _ c.loop-j.invariant.2
-      (rw c.if-not-branch.false at c.in_ok-is_signed.ensures.leaf) (rw c.if-not-branch.false at c.in_ok-is_signed.ensures.others),
+  place-most (texts_in c.args.entries.now) (claims_in c.args.entries.now) c.args.keys.now.keys c.loop-j.j _ _ _ (c.in_ok-is_signed.ensures.signed.0 c.if-not-branch.false) c.loop-j.invariant.1
+      (rw c.if-not-branch.false at c.in_ok-is_signed.ensures.leaf) c.in_ok-is_signed.ensures.others,
+  place-signed (texts_in c.args.entries.now) (claims_in c.args.entries.now) c.args.keys.now.keys c.loop-j.j _ _ _ (c.in_ok-is_signed.ensures.signed.0 c.if-not-branch.false) c.loop-j.invariant.2
+      (rw c.if-not-branch.false at c.in_ok-is_signed.ensures.leaf) c.in_ok-is_signed.ensures.others,
 )
 
 pub returns-clause-counted : goal.returns-clause-counted

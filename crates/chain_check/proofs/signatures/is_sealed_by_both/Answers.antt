@@ -6,7 +6,9 @@ use Rattle.chain_check.proofs.signatures.is_sealed_by_both.Goals as goal
 
 pub returns-then-not-names_both-clause-sealed : goal.returns-then-not-names_both-clause-sealed
 returns-then-not-names_both-clause-sealed g c =
-    (λ bad. cc bad, λ both. let bad = sym c.if-not-names_both.true ∙ c.names_both.ensures.1 ((sealed-named c.args.compact.now _ c.requires both.0, sealed-named c.args.compact.now _ c.requires both.1)) in cc bad)
+    let own = key_in-compact c.args.own.now.keys c.args.compact.now.whole c.args.compact.now c.requires in
+    let superior = key_in-compact c.args.superior.now.keys c.args.compact.now.whole c.args.compact.now c.requires in
+    (λ bad. cc bad, λ both. let bad = sym c.if-not-names_both.true ∙ c.names_both.ensures.1 ((sym (ap is_some own) ∙ sealed-named _ _ both.0, sym (ap is_some superior) ∙ sealed-named _ _ both.1)) in cc bad)
 
 pub returns-then-not-names_both-clause-counted : goal.returns-then-not-names_both-clause-counted
 returns-then-not-names_both-clause-counted g c =
@@ -24,7 +26,7 @@ returns-then-not-branch-clause-counted g c =
     let superior = key_in-compact c.args.superior.now.keys c.args.compact.now.whole c.args.compact.now c.requires in
     let named = c.names_both.ensures.0 c.if-not-names_both.false in
     leaf-first c.args.compact.now.whole c.args.own.now.keys c.args.superior.now.keys _ _ (ap is_some own ∙ named.0, ap is_some superior ∙ named.1)
-    (λ sealed. let bad = sym c.if-not-branch.true ∙ c.in_ok-is_sealed.ensures.sealed.1 sealed in cc bad) (rw c.if-not-branch.true at c.in_ok-is_sealed.ensures.counted)
+    (λ sealed. let bad = sym c.if-not-branch.true ∙ c.in_ok-is_sealed.ensures.sealed.1 sealed in cc bad) c.in_ok-is_sealed.ensures.counted
 
 pub returns-then-name_one_key-clause-sealed : goal.returns-then-name_one_key-clause-sealed
 returns-then-name_one_key-clause-sealed g c =
@@ -35,7 +37,7 @@ pub returns-then-name_one_key-clause-counted : goal.returns-then-name_one_key-cl
 returns-then-name_one_key-clause-counted g c =
     let own = key_in-compact c.args.own.now.keys c.args.compact.now.whole c.args.compact.now c.requires in
     let superior = key_in-compact c.args.superior.now.keys c.args.compact.now.whole c.args.compact.now c.requires in
-    leaf-one c.args.compact.now.whole c.args.own.now.keys c.args.superior.now.keys _ _ (own ∙ c.name_one_key.ensures.0 c.if-name_one_key.true ∙ sym superior) (rw c.if-not-branch.false at c.in_ok-is_sealed.ensures.counted)
+    leaf-one c.args.compact.now.whole c.args.own.now.keys c.args.superior.now.keys _ _ (c.in_ok-is_sealed.ensures.sealed.0 c.if-not-branch.false) (own ∙ c.name_one_key.ensures.0 c.if-name_one_key.true ∙ sym superior) c.in_ok-is_sealed.ensures.counted
 
 pub returns-clause-counted : goal.returns-clause-counted
 returns-clause-counted g c =
@@ -44,4 +46,4 @@ returns-clause-counted g c =
     let named = c.names_both.ensures.0 c.if-not-names_both.false in
     leaf-both c.args.compact.now.whole c.args.own.now.keys c.args.superior.now.keys _ _ c.is_sealed-2.result _ (ap is_some own ∙ named.0, ap is_some superior ∙ named.1) (c.in_ok-is_sealed.ensures.sealed.0 c.if-not-branch.false)
     (λ one. let bad = sym c.if-name_one_key.false ∙ c.name_one_key.ensures.1 (sym own ∙ one ∙ superior) in cc bad)
-    (rw c.if-not-branch.false at c.in_ok-is_sealed.ensures.counted) c.is_sealed-2.ensures.counted
+    c.in_ok-is_sealed.ensures.counted c.is_sealed-2.ensures.counted
