@@ -10,6 +10,7 @@ use Rattle.fed_words.specs.declared.text_type.TextType.{TextType}
 use Rattle.key_ring.specs.Changes.{Change, add_key, after, fault_of, kid_added}
 use Rattle.key_ring.specs.Files.{first_text}
 use Rattle.key_ring.specs.Rings.{Ring}
+use Rattle.slh_dsa.specs.Keys.{Keys}
 use Rattle.key_ring.specs.declared.fault.RingFault.{RingFault}
 use Rattle.key_ring.specs.declared.fault.RingFault.TheVariants.{Shape, Known, Unknown, Order, StoreFault, Memory}
 use Rattle.ring_commands.specs.Issues.{issue_reply, of_tree, of_object, sealed_reply}
@@ -51,7 +52,7 @@ add_small ring at exp text = of_digits (result_ok (decode_sized text 48))
     of_digits None = lit≤ tt
     of_digits (Some seeds) = change_small ring (add_key seeds at exp) (kid_added seeds)
 
-pub issue_small : (keys : List ℕ) (typ : TextType) (text : List ℕ) → (issue_reply keys typ text).status ≤ 2
+pub issue_small : (keys : Keys) (typ : TextType) (text : List ℕ) → (issue_reply keys typ text).status ≤ 2
 unfolding issue_reply of_tree of_object sealed_reply
 issue_small keys typ text = of_reading (tree_in text)
   where

@@ -3,22 +3,22 @@ use Rattle.std.specs.Prelude.{ℕ, List, [], ◌∷◌, ◌++◌, codes, Option,
 use Rattle.std.specs.Result.{result_ok}
 use Rattle.hex.specs.Hex.{decode_sized}
 use Rattle.fed_json.specs.Compact.{compact}
-use Rattle.jwk_set.specs.Thumbprints.{thumbprint_of}
 use Rattle.jwk_set.specs.Trees.{own_tree}
-use Rattle.slh_hash.specs.declared.params.TheConstants.{P128S}
-use Rattle.slh_dsa.specs.Keys.{public_key}
+use Rattle.sealed.specs.Sealing.{signer_key, signer_name}
+use Rattle.slh_dsa.specs.Keys.{Keys}
 use Rattle.ring_commands.specs.Replies.{bad_input, refused}
 use Rattle.key_ring.specs.Files.{first_text}
+use Rattle.key_ring.specs.Rings.{ring_pair}
 use Rattle.key_ring.specs.declared.fault.RingFault.{RingFault}
 use Rattle.ring_commands.specs.declared.reply.Reply.{Reply}
 
 -- the public key as a JWK whose name is its thumbprint (RFC 7517 section 4, RFC 7638), on its own line
-unfoldable pub public_line : List ℕ → List ℕ
-public_line seeds = compact (own_tree (thumbprint_of (public_key P128S seeds)) (public_key P128S seeds)) ++ 10 ∷ []
+unfoldable pub public_line : Keys → List ℕ
+public_line keys = compact (own_tree (signer_name keys) keys.alg (signer_key keys)) ++ 10 ∷ []
 
 -- the key is kept in a ring of its own, where its moments are in their order
 abbrev pub made : List ℕ → Result (List ℕ) RingFault → Reply
-made seeds (Ok file) = record { status = 0; text = public_line seeds; kept = Some file }
+made seeds (Ok file) = record { status = 0; text = public_line (ring_pair seeds); kept = Some file }
 made seeds (Err fault) = refused (codes "Order")
 
 -- the same of the seeds, where the input has them

@@ -6,7 +6,7 @@ ghost use Rattle.ring_commands.specs.Keygens.{keygen_reply, public_line};
 use crate::reply::{Reply, plain};
 use fed_json::write_tree;
 use fed_notes::{explain_order, explain_seeds};
-use fed_ports::{Memory, Text};
+use fed_ports::{Alg, Memory, Text};
 use fed_words::Moment;
 use hex::FromHex;
 use jwk_set::{Jwk, thumbprint, write_key};
@@ -33,7 +33,7 @@ pub fn keygen(
     match first_file(alloc, &seeds, at.seconds(), exp.seconds()) {
         Ok(file) => Ok(Reply {
             status: 0,
-            text: public_line(alloc, &seeds)?,
+            text: public_line(alloc, &KeyPair::from_seeds(Alg::Small, &seeds))?,
             kept: Some(file),
         }),
         Err(RingFault::Memory) => Err(Memory),
@@ -44,13 +44,13 @@ pub fn keygen(
     }
 }
 
-// The public key of these seeds as a JWK in compact JSON, on its own line.
-fn public_line(alloc: Global, seeds: &[u8; 48]) -> Result<Text, Memory>
-    ensures { IfOk result (λ line. line ≡ public_line seeds.now) }
+// The public key of a pair as a JWK in compact JSON, on its own line.
+fn public_line(alloc: Global, keys: &KeyPair) -> Result<Text, Memory>
+    ensures { IfOk result (λ line. line ≡ public_line keys.now) }
 {
-    let public = KeyPair::from_seeds(seeds).public();
-    let kid = thumbprint(alloc, &public)?;
-    let mut line = write_tree(alloc, &write_key(alloc, &Jwk::Own { kid, public })?)?;
+    let (alg, public) = (keys.alg(), keys.public());
+    let kid = thumbprint(alloc, alg, &public)?;
+    let mut line = write_tree(alloc, &write_key(alloc, &Jwk::Own { kid, alg, public })?)?;
     line.push(b'\n')?;
     Ok(line)
 }

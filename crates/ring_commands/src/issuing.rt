@@ -28,7 +28,7 @@ use std::alloc::Global;
 use trust_mark::{Mark, MarkFault, delegation_of_claims};
 
 // The most bytes that claims may have as compact JSON.
-const MOST_CLAIMS: usize = 180_000;
+const MOST_CLAIMS: usize = 179_000;
 
 /// The text of that type that the signer seals the claims in the input as, on its own line. A text of at most 262,144 bytes is sealed by
 /// each set in which the signer's key has its thumbprint.
@@ -120,7 +120,7 @@ fn warn_of_sealing(
 ) {
     warn_of_claims(alloc, claims, notes);
     match typ {
-        TextType::Statement => if let Ok(kid) = thumbprint(alloc, &signer.public()) {
+        TextType::Statement => if let Ok(kid) = thumbprint(alloc, signer.alg(), &signer.public()) {
             warn_of_statement(alloc, claims, &kid, notes);
         },
         TextType::Mark | TextType::Delegation => {},
