@@ -6,6 +6,7 @@ use Rattle.fed_json.specs.Members.{number_member, text_member}
 use Rattle.fed_json.specs.Reading.{member_of}
 use Rattle.fed_json.specs.Trees.{find, object_members}
 use Rattle.jwk_set.specs.declared.jwk.Jwk.{Jwk}
+use Rattle.slh_dsa.specs.Keys.{Keys}
 use Rattle.entity_statement.specs.Claims.{Claims, Identifier}
 use Rattle.chain_check.specs.Chains.{Texts, statements_of}
 use Rattle.chain_check.specs.Names.{subject_at}
@@ -22,13 +23,13 @@ use Rattle.client_register.specs.Requests.{posted_in}
 -- moment
 pub record Registrar : Type 0 where
   pub iss : Identifier
-  pub signer : List ℕ
+  pub signer : Keys
   pub anchor : Identifier
   pub keys : List Jwk
   pub lifetime : ℕ
   pub moment : ℕ
 
-abbrev pub registrar : Identifier → List ℕ → Identifier → List Jwk → ℕ → ℕ → Registrar
+abbrev pub registrar : Identifier → Keys → Identifier → List Jwk → ℕ → ℕ → Registrar
 registrar iss signer anchor keys lifetime moment =
     record { iss = iss; signer = signer; anchor = anchor; keys = keys; lifetime = lifetime; moment = moment }
 
