@@ -8,6 +8,7 @@ use Rattle.std.proofs.lemmas.Bool.{cond_both}
 use Rattle.serde_json.proofs.Nesting.{depth-read}
 use Rattle.serde_json.specs.Data.{Data}
 use Rattle.serde_json.specs.Read.{read}
+use Rattle.fed_base.specs.declared.algorithm.Alg.{Alg}
 use Rattle.base64url.specs.Base64url.{base64url}
 use Rattle.fed_json.specs.declared.tree.Json.{Json, Int, Text, List as ListOf, Object}
 use Rattle.fed_json.specs.declared.tree.Member.{Member}
@@ -22,7 +23,7 @@ use Rattle.fed_json.proofs.Readings.{nesting-tree_of}
 use Rattle.jws_form.specs.Header.{algorithm}
 use Rattle.jwk_set.specs.declared.jwk.Jwk.{Jwk}
 use Rattle.jwk_set.specs.declared.jwk.Jwk.TheVariants.{Own, Foreign}
-use Rattle.jwk_set.specs.Keys.{is_own, key_in, key_of, key_type, name_at, own_key, public_at}
+use Rattle.jwk_set.specs.Keys.{algorithm_at, is_own, key_in, key_of, key_type, name_at, own_key, public_at}
 use Rattle.jwk_set.specs.KeySets.{key_set_in}
 use Rattle.jwk_set.specs.Listed.{listed_in, unless_many}
 use Rattle.jwk_set.specs.Trees.{key_tree, own_tree, set_tree}
@@ -124,18 +125,19 @@ over-within us ls n upper lower = all-picked us ls _ n upper lower
 
 -- ---- keys
 
-pub own-within : (kid public : List ℕ) → nesting (own_tree kid public) ≤ 1
-own-within kid public =
-    object-within (text_member (codes "alg") algorithm ∷ text_member (codes "kid") kid ∷ text_member (codes "kty") key_type ∷ text_member (codes "pub") (base64url public) ∷ []) 0
-    (text-within algorithm 0, (text-within kid 0, (text-within key_type 0, (text-within (base64url public) 0, tt))))
+pub own-within : (kid : List ℕ) (alg : Alg) (public : List ℕ) → nesting (own_tree kid alg public) ≤ 1
+own-within kid alg public =
+    object-within (text_member (codes "alg") (algorithm alg) ∷ text_member (codes "kid") kid ∷ text_member (codes "kty") key_type ∷ text_member (codes "pub") (base64url public) ∷ []) 0
+    (text-within (algorithm alg) 0, (text-within kid 0, (text-within key_type 0, (text-within (base64url public) 0, tt))))
 
 -- what isn't an own key is kept as it is
-own-only : (hidden : Bool) (a b : Option (List ℕ)) (tree : Json)
-    → cond hidden None (option_and_then (λ kid. option_and_then (λ public. Some (Own kid public)) b) a) ≡ Some (Foreign tree) → ⊥
-own-only true a b tree e = cc e
-own-only false None b tree e = cc e
-own-only false (Some kid) None tree e = cc e
-own-only false (Some kid) (Some public) tree e = cc e
+own-only : (hidden : Bool) (a : Option (List ℕ)) (b : Option Alg) (c : Option (List ℕ)) (tree : Json)
+    → cond hidden None (option_and_then (λ kid. option_and_then (λ alg. option_and_then (λ public. Some (Own kid alg public)) c) b) a) ≡ Some (Foreign tree) → ⊥
+own-only true a b c tree e = cc e
+own-only false None b c tree e = cc e
+own-only false (Some kid) None c tree e = cc e
+own-only false (Some kid) (Some alg) None tree e = cc e
+own-only false (Some kid) (Some alg) (Some public) tree e = cc e
 
 foreign-by : (item tree : Json) (untyped own : Bool) (key : Option Jwk) → (key ≡ Some (Foreign tree) → ⊥) → cond untyped None (cond own key (Some (Foreign item))) ≡ Some (Foreign tree) → item ≡ tree
 foreign-by item tree true own key other e = cc e
@@ -146,7 +148,7 @@ foreign-in : (item tree : Json) (o : Option (List Member)) (odd : Bool) → cond
 unfolding key_of own_key
 foreign-in item tree o true e = cc e
 foreign-in item tree None false e = cc e
-foreign-in item tree (Some ms) false e = foreign-by item tree _ (is_own ms) _ (λ own. own-only _ (name_at ms) (public_at ms) tree own) e
+foreign-in item tree (Some ms) false e = foreign-by item tree _ (is_own ms) _ (λ own. own-only _ (name_at ms) (algorithm_at ms) (public_at ms) tree own) e
 
 foreign-is : (item tree : Json) → key_in item ≡ Some (Foreign tree) → item ≡ tree
 unfolding key_in
@@ -154,7 +156,7 @@ foreign-is item tree e = foreign-in item tree (as_object item) (has_odd item) e
 
 key-within : (item : Json) (key : Jwk) (n : ℕ) → key_in item ≡ Some key → nesting item ≤ suc n → nesting (key_tree key) ≤ suc n
 unfolding key_tree
-key-within item (Own kid public) n read all = omega (arith, own-within kid public)
+key-within item (Own kid alg public) n read all = omega (arith, own-within kid alg public)
 key-within item (Foreign tree) n read all = subst (λ t. nesting t ≤ suc n) (foreign-is item tree read) all
 
 first_equal : {X : Type 0} (x y : X) (xs ys : List X) → x ∷ xs ≡ y ∷ ys → (x ≡ y) × (xs ≡ ys)

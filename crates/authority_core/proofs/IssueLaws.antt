@@ -1,5 +1,5 @@
 -- What is issued, read and checked as a chain.
-use Rattle.std.proofs.Common.{◌≡◌, ◌<◌, ◌≤◌, ◌+◌, ◌⊎◌, inl, inr, ℕ, zero, suc, List, [], ◌∷◌, length, map, Some, Ok, refl, sym, ap, ap₂, ◌∙◌, subst, arith}
+use Rattle.std.proofs.Common.{◌≡◌, ◌<◌, ◌≤◌, ◌⊎◌, inl, inr, ℕ, zero, suc, List, [], ◌∷◌, length, Some, refl, sym, ap, ◌∙◌, subst, arith}
 use Rattle.std.specs.Prelude.{Option, is_some, option_map, slice_get, slice_index_or}
 use Rattle.std.specs.Option.{option_map_or}
 use Rattle.std.proofs.lemmas.Bool.{cases_lt}
@@ -9,7 +9,6 @@ use Rattle.fed_base.specs.Places.{FailsFirst}
 use Rattle.jwk_set.specs.declared.jwk.Jwk.{Jwk}
 use Rattle.sealed.specs.Seals.{IsSealedBy}
 use Rattle.entity_statement.specs.Claims.{Claims}
-use Rattle.entity_statement.specs.Signed.{statement_of}
 use Rattle.chain_check.specs.declared.reason.Reason.{Reason}
 use Rattle.chain_check.specs.declared.reason.Reason.TheVariants.{Form, Names, Times, Signature, PathLength, Name, Conflict, Policy}
 use Rattle.chain_check.specs.declared.verdict.Verdict.TheVariants.{Refused}
@@ -56,7 +55,7 @@ reads-at issues j are near short =
     let there = issue-there issues j short in
     record { near = near; text = there.0.text; there = text-there issues j there.0 there.1; reads = ap is_some (issue-at issues j there.0 are there.1).reads }
 
--- the place is that after ten, or there is none at all
+-- the place is that after 14, or there is none at all
 module _ (issues : List Issue) (place : ℕ) (are : AreIssues issues) (loses : LosesForm (texts_of issues) place) where
   form-within : place < length issues → (place < max_statements) ⊎ (max_statements ≤ place) → (max_statements < place) ⊎ (place ≤ max_statements) → IsNoLength (length issues) place
   form-within short (inl near) at = absurd (loses.here (reads-at issues place are near short))
@@ -88,7 +87,7 @@ index-there : (texts : List (List ℕ)) (j : ℕ) (text : List ℕ) → slice_ge
 index-there texts j text e = get_or_from_slice_get texts j text [] e
 
 signed-named : (issues : List Issue) (anchor : List ℕ) (keys : List Jwk) (j : ℕ) (issue : Issue) → AreIssues issues → HasNames (said_by issues) anchor
-    → slice_get issues j ≡ Some issue → NamesSigner issue.seeds (superior_keys (said_by issues) keys j) → SignedAt (texts_of issues) (said_by issues) keys j
+    → slice_get issues j ≡ Some issue → NamesSigner issue.signer (superior_keys (said_by issues) keys j) → SignedAt (texts_of issues) (said_by issues) keys j
 signed-named issues anchor keys j issue are names there named =
     let is = issue-at issues j issue are there in
     let text = index-there (texts_of issues) j issue.text (text-there issues j issue there) in
@@ -97,7 +96,7 @@ signed-named issues anchor keys j issue are names there named =
           let leaf = subst (λ i. slice_get issues i ≡ Some issue) first there in
           let own = is.own (leaf-own issues issue anchor names leaf) in
           subst (λ t. IsSealedBy t (keys_at (said_by issues) 0 [])) (sym text)
-          (is.seals (keys_at (said_by issues) 0 []) (subst (NamesSigner issue.seeds) (sym (keys-there issues issue leaf)) own));
+          (is.seals (keys_at (said_by issues) 0 []) (subst (NamesSigner issue.signer) (sym (keys-there issues issue leaf)) own));
       by_superior = subst (λ t. IsSealedBy t (superior_keys (said_by issues) keys j)) (sym text) (is.seals _ named);
     }
 

@@ -1,49 +1,17 @@
 -- A tree's text isn't longer than what is counted for it.
 use Rattle.std.specs.Prelude.{IfSome, SomeIff}
-use Rattle.std.proofs.Common.{◌≡◌, ◌≤◌, ◌<◌, ◌+◌, ◌-◌, ◌*◌, ◌/◌, ◌%◌, ◌^◌, ◌==◌, ◌||◌, ℕ, suc, ℤ, pos, negsuc, List, [], ◌∷◌, ◌++◌, length, map, take, get_or, flat_map, Bool, true, false, cond, nat_lt, Option, Some, None, length-append, refl, sym, ap, ◌∙◌, subst, arith, lit<, lit≤, rules}
-use Rattle.std.specs.Char.{digit_char}
+use Rattle.std.proofs.Common.{◌≡◌, ◌≤◌, ◌<◌, ◌+◌, ◌-◌, ◌*◌, ◌^◌, ℕ, suc, ℤ, pos, negsuc, List, [], ◌∷◌, ◌++◌, length, map, take, get_or, true, Option, Some, None, length-append, sym, ap, ◌∙◌, subst, arith, lit<, lit≤, rules}
 use Rattle.std.specs.Fmt.{signed_decimal}
 use Rattle.std.proofs.lemmas.Bool.Decides.{nat_tests}
 use Rattle.std.proofs.lemmas.Fmt.{length-decimal-le_wide}
 use Rattle.std.proofs.lemmas.List.{map-append, map_push, take_more}
-use Rattle.serde_json.proofs.OnLiterals.{serde_json_on_literals}
 use Rattle.fed_json.specs.declared.tree.Json.{Json, Int, Text, List as ListOf, Object, the_lemmas}
 use Rattle.fed_json.specs.declared.tree.Member.{Member}
 use Rattle.fed_json.specs.Compact.{compact, listed, quoted}
 use Rattle.fed_json.specs.Forms.{IsWhole, in_bounds}
 use Rattle.fed_json.specs.Members.{text_member}
 use Rattle.authority_core.specs.Lengths.{items_length, member_text, members_length, pieces_length}
-
--- ---- what is quoted
-
--- the letter of a byte's short escape, or 0 where it has none, and what stands for the byte (RFC 8259 section 7)
-abbrev letter : ℕ → ℕ
-letter x = cond ((x == 34) || (x == 92)) x (cond (x == 8) 98 (cond (x == 12) 102 (cond (x == 10) 110 (cond (x == 13) 114 (cond (x == 9) 116 0)))))
-
-abbrev escaped : ℕ → List ℕ
-escaped x =
-    cond (nat_lt 0 (letter x)) (92 ∷ letter x ∷ [])
-    (cond (nat_lt x 32) (92 ∷ 117 ∷ 48 ∷ 48 ∷ digit_char (x / 16) ∷ digit_char (x % 16) ∷ []) (x ∷ []))
-
-quoted-is : (s : List ℕ) → quoted s ≡ 34 ∷ (flat_map escaped s ++ 34 ∷ [])
-unfolding serde_json_on_literals
-quoted-is s = refl
-
-of_three : (a b : Bool) (p q r : List ℕ) → length p ≤ 6 → length q ≤ 6 → length r ≤ 6 → length (cond a p (cond b q r)) ≤ 6
-of_three true b p q r P Q R = P
-of_three false true p q r P Q R = Q
-of_three false false p q r P Q R = R
-
-escaped-short : (x : ℕ) → length (escaped x) ≤ 6
-escaped-short x = of_three (nat_lt 0 (letter x)) (nat_lt x 32) _ _ _ (lit≤ tt) (lit≤ tt) (lit≤ tt)
-
-all-short : (s : List ℕ) → length (flat_map escaped s) ≤ 6 * length s
-all-short [] = lit≤ tt
-all-short (x ∷ s) = omega (arith, length-append (escaped x) (flat_map escaped s), escaped-short x, all-short s)
-
--- an escape has six bytes at most
-pub quoted-short : (s : List ℕ) → length (quoted s) ≤ 6 * length s + 2
-quoted-short s = omega (arith, ap length (quoted-is s), length-append (flat_map escaped s) (34 ∷ []), all-short s)
+use Rattle.authority_core.proofs.Quoted.{quoted-short}
 
 -- ---- pieces with commas
 

@@ -7,6 +7,7 @@ mod ListLaws
 mod Members
 mod MetadataLaws
 mod NestingLaws
+mod Quoted
 mod ReadLaws
 mod Responses
 mod StatementLengths

@@ -19,7 +19,7 @@ use Rattle.jwk_set.specs.Trees.{key_tree, set_tree}
 use Rattle.policy_merge.specs.Shapes.{policy_shape}
 use Rattle.chain_limits.specs.Reading.{constraints_of}
 use Rattle.key_ring.specs.declared.key.RingKey.{RingKey}
-use Rattle.key_ring.specs.Rings.{Ring, kid_of, public_of}
+use Rattle.key_ring.specs.Rings.{Ring, kid_of, pair_in, public_of}
 use Rattle.key_ring.specs.Sets.{is_published, live_set, own_key, own_set}
 use Rattle.entity_statement.specs.Claims.{Identifier}
 use Rattle.entity_statement.specs.Forms.{hints_of, identifier, issuers_of, marks_of, owners_of}
@@ -312,7 +312,7 @@ metadata-within settings all =
 published-within : (keys : List RingKey) → ItemsWithin 1 (map key_tree (map own_key keys))
 unfolding key_tree
 published-within [] = tt
-published-within (key ∷ keys) = (own-within (kid_of key) (public_of key), published-within keys)
+published-within (key ∷ keys) = (own-within (kid_of key) (pair_in key).alg (public_of key), published-within keys)
 
 live-within : (ring : Ring) → nesting (set_tree (live_set ring)) ≤ 3
 unfolding own_set

@@ -12,7 +12,8 @@ use Rattle.jws_form.specs.declared.compact.Compact.{Compact}
 use Rattle.jws_form.specs.declared.fault.FormFault.{FormFault}
 use Rattle.jws_form.specs.Compact.{max_bytes}
 use Rattle.jws_form.proofs.Laws.{IsCompact-unique, only}
-use Rattle.key_ring.specs.Rings.{Ring}
+use Rattle.slh_dsa.specs.Keys.{Keys}
+use Rattle.key_ring.specs.Rings.{Ring, ring_pair}
 use Rattle.key_ring.specs.Sets.{IsNamedIn, live_set}
 use Rattle.sealed.specs.Sealing.{HasParts, IsSealedFor}
 use Rattle.sealed.specs.Seals.{IsSealedBy}
@@ -22,37 +23,40 @@ use Rattle.http_messages.specs.declared.response.Media.TheVariants.{Statement, J
 use Rattle.entity_statement.specs.Claims.{Claims}
 use Rattle.entity_statement.specs.Signed.{statement_of}
 use Rattle.entity_statement.specs.Table.{claims_of, statement_type}
-use Rattle.key_ring.specs.Sets.{historical_keys, signer_seeds}
+use Rattle.key_ring.specs.Sets.{historical_keys, signer_keys}
 use Rattle.sealed.specs.Sealing.{sealed_text}
 use Rattle.node_config.specs.Nodes.{Subordinate}
 use Rattle.trust_mark.specs.Claims.{status_type_name}
 use Rattle.authority_core.specs.Answers.{configuration_response, fetch_response, good, historical_response, not_found, statement_response, status_response}
 use Rattle.authority_core.specs.Issued.{configuration_claims, historical_claims, historical_tree, historical_type, signed_by, statement_claims}
 use Rattle.authority_core.specs.Issues.{IsIssue, Issue, NamesSigner, SaysAs, issue_by}
-use Rattle.authority_core.specs.Nodes.{Node, registered}
+use Rattle.authority_core.specs.Nodes.{Node, node_signer, registered}
 use Rattle.authority_core.specs.ReadBack.{ReadsAs, claims_about}
 use Rattle.authority_core.specs.Statuses.{status_claims, status_of}
 use Rattle.trust_mark.specs.Statuses.{answer_of, status_tree}
 use Rattle.trust_mark.specs.declared.status.MarkStatus.{MarkStatus}
 use Rattle.authority_core.proofs.BelowLaws.{found-below}
 
-signed-by : (node : Node) (typ keys : List ℕ) (claims : Json) → signer_seeds node.ring ≡ Some keys → sealed_text keys typ claims ≡ signed_by node typ claims
-signed-by node typ keys claims signs = ap (λ o. sealed_text (unwrap_or o []) typ claims) (sym signs)
+signer-is : (node : Node) (keys : Keys) → signer_keys node.ring ≡ Some keys → keys ≡ node_signer node
+signer-is node keys signs = sym (ap (λ o. unwrap_or o (ring_pair [])) signs)
 
-pub configuration-is : (node : Node) (t : ℕ) (keys : List ℕ) (claims : Json) → signer_seeds node.ring ≡ Some keys → claims ≡ configuration_claims node t
+signed-by : (node : Node) (typ : List ℕ) (keys : Keys) (claims : Json) → signer_keys node.ring ≡ Some keys → sealed_text keys typ claims ≡ signed_by node typ claims
+signed-by node typ keys claims signs = ap (λ k. sealed_text k typ claims) (signer-is node keys signs)
+
+pub configuration-is : (node : Node) (t : ℕ) (keys : Keys) (claims : Json) → signer_keys node.ring ≡ Some keys → claims ≡ configuration_claims node t
     → good Statement (sealed_text keys statement_type claims) ≡ configuration_response node t
 unfolding configuration_response
 configuration-is node t keys claims signs made =
     ap (λ c. good Statement (sealed_text keys statement_type c)) made ∙ ap (good Statement) (signed-by node statement_type keys (configuration_claims node t) signs)
 
-pub historical-is : (node : Node) (t : ℕ) (keys : List ℕ) (set claims : Json) → signer_seeds node.ring ≡ Some keys → set ≡ ListOf (historical_keys node.ring)
+pub historical-is : (node : Node) (t : ℕ) (keys : Keys) (set claims : Json) → signer_keys node.ring ≡ Some keys → set ≡ ListOf (historical_keys node.ring)
     → claims ≡ historical_tree node.settings.id set t → good JwkSet (sealed_text keys historical_type claims) ≡ historical_response node t
 unfolding historical_response historical_claims
 historical-is node t keys set claims signs listed made =
     ap (λ c. good JwkSet (sealed_text keys historical_type c)) (made ∙ ap (λ s. historical_tree node.settings.id s t) listed)
     ∙ ap (good JwkSet) (signed-by node historical_type keys (historical_claims node t) signs)
 
-pub statement-is : (node : Node) (t : ℕ) (sub keys : List ℕ) (s : Subordinate) (claims : Json) → signer_seeds node.ring ≡ Some keys → registered sub node.settings ≡ Some s
+pub statement-is : (node : Node) (t : ℕ) (sub : List ℕ) (keys : Keys) (s : Subordinate) (claims : Json) → signer_keys node.ring ≡ Some keys → registered sub node.settings ≡ Some s
     → claims ≡ statement_claims node.settings s t → good Statement (sealed_text keys statement_type claims) ≡ fetch_response node t sub
 unfolding fetch_response
 statement-is node t sub keys s claims signs found made =
@@ -63,7 +67,7 @@ pub stranger-is : (node : Node) (t : ℕ) (sub : List ℕ) → registered sub no
 unfolding fetch_response
 stranger-is node t sub none = sym (ap (statement_response node t) none)
 
-pub status-is : (node : Node) (t : ℕ) (mark keys : List ℕ) (status : MarkStatus) (claims : Json) → signer_seeds node.ring ≡ Some keys → status ≡ status_of node t mark
+pub status-is : (node : Node) (t : ℕ) (mark : List ℕ) (keys : Keys) (status : MarkStatus) (claims : Json) → signer_keys node.ring ≡ Some keys → status ≡ status_of node t mark
     → claims ≡ status_tree (answer_of node.settings.id t mark status) → good Status (sealed_text keys status_type_name claims) ≡ status_response node t mark
 unfolding status_response status_claims
 status-is node t mark keys status claims signs is made =
@@ -76,7 +80,7 @@ abbrev pub Answer : Type 0
 Answer = Result Response Memory
 
 -- what is signed is sealed by the live keys, where the text is short enough to be read
-pub answer-live : (r : Answer) (ring : Ring) (keys : List ℕ) → signer_seeds ring ≡ Some keys → IsNamedIn (signer_seeds ring) (live_set ring) → IfOk r (λ x. IsSealedFor keys x.body)
+pub answer-live : (r : Answer) (ring : Ring) (keys : Keys) → signer_keys ring ≡ Some keys → IsNamedIn (signer_keys ring) (live_set ring) → IfOk r (λ x. IsSealedFor keys x.body)
     → IfOk r (λ x. length x.body ≤ max_bytes → IsSealedBy x.body (live_set ring))
 answer-live (Err e) ring keys signs named sealed = tt
 answer-live (Ok x) ring keys signs named sealed = λ short. sealed (live_set ring) (record { short = short; named = named keys signs })
@@ -90,12 +94,12 @@ short-live (Ok x) ring sealed short = sealed short
 -- ---- what it is
 
 -- the parts of a sealed text say what is stated
-issued : (issue : Issue) (tree : Json) → HasParts issue.seeds statement_type (compact tree) issue.text → tree_in (compact tree) ≡ Some tree → ReadsAs tree issue.claims
-    → IsSealedFor issue.seeds issue.text → length issue.text ≤ max_bytes → (issue.claims.iss ≡ issue.claims.sub → NamesSigner issue.seeds issue.claims.keys) → IsIssue issue
+issued : (issue : Issue) (tree : Json) → HasParts issue.signer statement_type (compact tree) issue.text → tree_in (compact tree) ≡ Some tree → ReadsAs tree issue.claims
+    → IsSealedFor issue.signer issue.text → length issue.text ≤ max_bytes → (issue.claims.iss ≡ issue.claims.sub → NamesSigner issue.signer issue.claims.keys) → IsIssue issue
 unfolding statement_of
 issued issue tree has back reads sealed short own =
     let says : claims_of has.parts ≡ Ok issue.claims = reads has.parts has.typed (ap tree_in has.says ∙ back) in
-    let here : SaysAs issue has.parts = record { claims = says; signer = has.named } in
+    let here : SaysAs issue has.parts = record { claims = says; algorithm = has.signed_in; named = has.named } in
     record {
       reads = ap (λ (r : Result Compact FormFault). option_and_then (λ compact. result_ok (claims_of compact)) (result_ok r)) (only issue.text has.parts has.splits) ∙ ap result_ok says;
       parts = λ other is. subst (SaysAs issue) (IsCompact-unique issue.text has.parts other has.splits is) here;
@@ -103,15 +107,15 @@ issued issue tree has back reads sealed short own =
       own = own;
     }
 
-pub answer-issued : (r : Answer) (node : Node) (keys : List ℕ) (tree stated : Json) (claims : Claims) (small : Type 0) → signer_seeds node.ring ≡ Some keys → tree ≡ stated
+pub answer-issued : (r : Answer) (node : Node) (keys : Keys) (tree stated : Json) (claims : Claims) (small : Type 0) → signer_keys node.ring ≡ Some keys → tree ≡ stated
     → (small → ReadsAs tree claims) → (claims.iss ≡ claims.sub → NamesSigner keys claims.keys) → IfOk r (λ x. IsSealedFor keys x.body)
     → IfOk r (λ x. length x.body ≤ max_bytes → HasParts keys statement_type (compact tree) x.body) → IfOk r (λ _. nesting tree ≤ 127 → tree_in (compact tree) ≡ Some tree)
     → IfOk r (λ x. length x.body ≤ max_bytes) → IfOk r (λ x. small → nesting stated ≤ 127 → IsIssue (issue_by node x.body claims))
 answer-issued (Err e) node keys tree stated claims small signs made reads own sealed splits back short = tt
 answer-issued (Ok x) node keys tree stated claims small signs made reads own sealed splits back short = λ now nested.
     let shallow : nesting tree ≤ 127 = subst (λ y. nesting y ≤ 127) (sym made) nested in
-    let issue : Issue = record { seeds = keys; text = x.body; claims = claims } in
-    subst (λ seeds. IsIssue (record { seeds = seeds; text = x.body; claims = claims })) (sym (ap (λ o. unwrap_or o []) signs))
+    let issue : Issue = record { signer = keys; text = x.body; claims = claims } in
+    subst (λ k. IsIssue (record { signer = k; text = x.body; claims = claims })) (signer-is node keys signs)
     (issued issue tree (splits short) (back shallow) (reads now) sealed short own)
 
 -- ---- subjects that are registered, and those that aren't
@@ -153,7 +157,7 @@ pub stranger-issues : (r : Answer) (node : Node) (t : ℕ) (sub : List ℕ) → 
     → IsIssue (issue_by node x.body (claims_about node.settings s t)))
 stranger-issues r node t sub none = always r _ (λ x s found. let bad = sym none ∙ found in cc bad)
 
-pub subordinate-issues : (r : Answer) (node : Node) (t : ℕ) (sub keys : List ℕ) (s : Subordinate) (claims : Json) → signer_seeds node.ring ≡ Some keys
+pub subordinate-issues : (r : Answer) (node : Node) (t : ℕ) (sub : List ℕ) (keys : Keys) (s : Subordinate) (claims : Json) → signer_keys node.ring ≡ Some keys
     → are_below node.settings.id node.settings.subordinates ≡ true → registered sub node.settings ≡ Some s → claims ≡ statement_claims node.settings s t
     → (t < moment_limit → node.settings.id ≢ s.entity.id → ReadsAs claims (claims_about node.settings s t)) → IfOk r (λ x. IsSealedFor keys x.body)
     → IfOk r (λ x. length x.body ≤ max_bytes → HasParts keys statement_type (compact claims) x.body) → IfOk r (λ _. nesting claims ≤ 127 → tree_in (compact claims) ≡ Some claims)

@@ -3,6 +3,8 @@ use Rattle.std.specs.Prelude.{IfSome}
 use Rattle.std.specs.List.{list_all}
 use Rattle.std.proofs.Common.{◌≡◌, ◌≤◌, ◌<◌, ◌+◌, ◌-◌, ◌^◌, ℕ, List, [], ◌∷◌, ◌++◌, length, map, codes, find, Bool, true, false, cond, ◌&&◌, Option, Some, Result, Ok, Err, refl, sym, ap, ◌∙◌, arith}
 use Rattle.std.proofs.lemmas.Bool.Decides.{nat_tests}
+use Rattle.fed_base.specs.declared.algorithm.Alg.{Alg}
+use Rattle.fed_base.specs.declared.algorithm.Alg.TheVariants.{Small, Fast}
 use Rattle.base64url.specs.Base64url.{base64url}
 use Rattle.base64url.proofs.Canonical.{length-base64url}
 use Rattle.fed_json.specs.declared.tree.Json.{Json, List as ListOf}
@@ -24,26 +26,33 @@ use Rattle.authority_core.specs.Endpoints.{own_metadata}
 use Rattle.authority_core.specs.Issued.{claim, configuration_claims, configuration_members, end_of, is_short, issue_members, last_moment, statement_claims, statement_members, states_all_shortly, states_itself_shortly, states_shortly}
 use Rattle.authority_core.specs.Nodes.{Node, is_for, registered}
 use Rattle.authority_core.specs.Lengths.{items_length, keys_length, members_length}
-use Rattle.authority_core.proofs.LengthLaws.{list-short, member-length, members-append, number-length, object-long, object-short, quoted-short, text_member-length, then-fits}
+use Rattle.authority_core.proofs.LengthLaws.{list-short, member-length, members-append, number-length, object-long, object-short, text_member-length, then-fits}
+use Rattle.authority_core.proofs.Quoted.{quoted-short}
 
 -- ---- keys
 
-abbrev own_members : List ℕ → List ℕ → List Member
-own_members kid public =
-    text_member (codes "alg") algorithm ∷ text_member (codes "kid") kid ∷ text_member (codes "kty") key_type
+abbrev own_members : List ℕ → Alg → List ℕ → List Member
+own_members kid alg public =
+    text_member (codes "alg") (algorithm alg) ∷ text_member (codes "kid") kid ∷ text_member (codes "kty") key_type
     ∷ text_member (codes "pub") (base64url public) ∷ []
 
-pub own-length : (kid public : List ℕ) → length public ≡ 32 → length (compact (own_tree kid public)) ≤ length (quoted kid) + 500
-own-length kid public size =
+-- the names of both algorithms have one length
+pub algorithm-length : (alg : Alg) → length (algorithm alg) ≡ 17
+algorithm-length Small = refl
+algorithm-length Fast = refl
+
+pub own-length : (kid : List ℕ) (alg : Alg) (public : List ℕ) → length public ≡ 32 → length (compact (own_tree kid alg public)) ≤ length (quoted kid) + 500
+own-length kid alg public size =
     omega (
       arith,
-      object-short (own_members kid public),
-      text_member-length (codes "alg") algorithm,
+      object-short (own_members kid alg public),
+      text_member-length (codes "alg") (algorithm alg),
       text_member-length (codes "kid") kid,
       text_member-length (codes "kty") key_type,
       text_member-length (codes "pub") (base64url public),
       quoted-short (codes "alg"),
-      quoted-short algorithm,
+      quoted-short (algorithm alg),
+      algorithm-length alg,
       quoted-short (codes "kid"),
       quoted-short (codes "kty"),
       quoted-short key_type,
@@ -122,8 +131,8 @@ unfolding statement_claims
 statement-least settings s t = object-long (statement_members settings s t)
 
 -- short at the last moment, and so at each
-statement-short : (settings : Settings) (s : Subordinate) (t : ℕ) → t < 2 ^ 64 → length (compact (statement_claims settings s last_moment)) ≤ 180000
-    → length (compact (statement_claims settings s t)) ≤ 187000
+statement-short : (settings : Settings) (s : Subordinate) (t : ℕ) → t < 2 ^ 64 → length (compact (statement_claims settings s last_moment)) ≤ 179000
+    → length (compact (statement_claims settings s t)) ≤ 179100
 statement-short settings s t small last =
     omega (
       arith,
@@ -161,7 +170,7 @@ configuration-least : (node : Node) (t : ℕ) → members_length (configuration_
 unfolding configuration_claims
 configuration-least node t = object-long (configuration_members node.settings (live_set node.ring) t)
 
-configuration-short : (node : Node) (t : ℕ) → t < 2 ^ 64 → length (compact (configuration_claims node last_moment)) ≤ 180000 → length (compact (configuration_claims node t)) ≤ 187000
+configuration-short : (node : Node) (t : ℕ) → t < 2 ^ 64 → length (compact (configuration_claims node last_moment)) ≤ 179000 → length (compact (configuration_claims node t)) ≤ 179100
 configuration-short node t small last =
     let keys = live_set node.ring in
     omega (
@@ -177,7 +186,7 @@ configuration-short node t small last =
 
 -- ---- what was looked at
 
-short-most : (claims : Json) → is_short claims ≡ true → length (compact claims) ≤ 180000
+pub short-most : (claims : Json) → is_short claims ≡ true → length (compact claims) ≤ 179000
 short-most claims e = grind (arith, nat_tests, e)
 
 -- what the looks at them answer
@@ -202,11 +211,11 @@ found-short : (test : Subordinate → Bool) (sub : List ℕ) (l : List Subordina
 found-short test sub [] s all e = cc e
 found-short test sub (x ∷ rest) s all e = found-by test sub (is_for sub x) x s rest all (λ a f. found-short test sub rest s a f) e
 
-pub stated-itself : (node : Node) (t : ℕ) → t < 2 ^ 64 → sizes_of node ≡ Ok tt → length (compact (configuration_claims node t)) ≤ 187000
+pub stated-itself : (node : Node) (t : ℕ) → t < 2 ^ 64 → sizes_of node ≡ Ok tt → length (compact (configuration_claims node t)) ≤ 179100
 stated-itself node t small good = configuration-short node t small (short-most (configuration_claims node last_moment) (looked_at node good).0)
 
 pub stated-about : (node : Node) (t : ℕ) (sub : List ℕ) (s : Subordinate) → t < 2 ^ 64 → sizes_of node ≡ Ok tt → registered sub node.settings ≡ Some s
-    → length (compact (statement_claims node.settings s t)) ≤ 187000
+    → length (compact (statement_claims node.settings s t)) ≤ 179100
 stated-about node t sub s small good found =
     statement-short node.settings s t small
     (short-most (statement_claims node.settings s last_moment) (found-short (states_shortly node.settings) sub node.settings.subordinates s (looked_at node good).1 found))

@@ -1,5 +1,5 @@
 -- What a node states: its configuration, statements about its subordinates, their list, and its historical keys.
-use Rattle.std.specs.Prelude.{ℕ, ◌+◌, ◌-◌, ◌&&◌, ◌||◌, min, List, [], ◌∷◌, ◌++◌, map, filter, codes, bytes_eq, nat_le, length, Bool, true, not, Option, Some, None, unwrap_or}
+use Rattle.std.specs.Prelude.{◌≡◌, ◌≤◌, ◌⊎◌, ℕ, ◌+◌, ◌-◌, ◌&&◌, ◌||◌, min, List, [], ◌∷◌, ◌++◌, map, filter, codes, bytes_eq, nat_le, length, Bool, true, not, IsTrue, Option, Some, None}
 use Rattle.std.specs.List.{list_all, list_any}
 use Rattle.std.specs.Option.{option_map_or}
 use Rattle.fed_base.specs.Moments.{moment_limit}
@@ -8,16 +8,20 @@ use Rattle.fed_json.specs.declared.tree.Member.{Member}
 use Rattle.fed_json.specs.Compact.{compact}
 use Rattle.fed_json.specs.Members.{number_member, text_member}
 use Rattle.fed_json.specs.Reading.{member_of}
+use Rattle.jws_form.specs.Compact.{max_bytes}
 use Rattle.jwk_set.specs.Trees.{set_tree}
 use Rattle.jwk_set.specs.declared.jwk.Jwk.{Jwk}
+use Rattle.slh_dsa.specs.Keys.{Keys}
 use Rattle.sealed.specs.Sealing.{sealed_text}
-use Rattle.key_ring.specs.Sets.{historical_keys, live_set, signer_seeds}
+use Rattle.key_ring.specs.Sets.{historical_keys, live_set}
 use Rattle.policy_merge.specs.Scope.{is_empty}
 use Rattle.entity_statement.specs.Claims.{Identifier}
+use Rattle.entity_statement.specs.Table.{statement_type}
+use Rattle.trust_mark.specs.Claims.{delegation_type_name, mark_type_name}
 use Rattle.node_config.specs.Nodes.{Settings, Subordinate, subordinate_id}
 use Rattle.authority_core.specs.declared.query.ListQuery.{ListQuery}
 use Rattle.authority_core.specs.Endpoints.{own_metadata}
-use Rattle.authority_core.specs.Nodes.{Node}
+use Rattle.authority_core.specs.Nodes.{Node, node_signer}
 
 -- the last moment
 abbrev pub last_moment : ℕ
@@ -67,9 +71,9 @@ statement_claims settings s t = Object (statement_members settings s t)
 
 -- ---- sizes
 
--- the claims have at most 180,000 bytes
+-- the claims have at most 179,000 bytes
 abbrev pub is_short : Json → Bool
-is_short claims = nat_le (length (compact claims)) 180000
+is_short claims = nat_le (length (compact claims)) 179000
 
 -- whatever the moment at which they are stated: those at the last one are the longest
 abbrev pub states_itself_shortly : Node → Bool
@@ -117,4 +121,12 @@ historical_type = codes "jwk-set+jwt"
 
 -- claims of that type, signed by the node
 abbrev pub signed_by : Node → List ℕ → Json → List ℕ
-signed_by node typ claims = sealed_text (unwrap_or (signer_seeds node.ring) []) typ claims
+signed_by node typ claims = sealed_text (node_signer node) typ claims
+
+-- the types of statements, trust marks and their delegations (OpenID Federation 1.0 sections 3, 7.1 and 7.2.1)
+abbrev pub IsIssuedType : List ℕ → Type 0
+IsIssuedType typ = (typ ≡ statement_type) ⊎ ((typ ≡ mark_type_name) ⊎ (typ ≡ delegation_type_name))
+
+-- claims that are short make a text of such a type that is short enough to be read, whichever key pair signs it (RFC 7515 section 7.1)
+abbrev pub ShortClaimsFit : Type 0
+ShortClaimsFit = (keys : Keys) (typ : List ℕ) (claims : Json) → IsIssuedType typ → IsTrue (is_short claims) → length (sealed_text keys typ claims) ≤ max_bytes

@@ -1,17 +1,15 @@
 -- What an authority issues: texts that read as what it states and are sealed by it; and what a chain of such texts may be
 -- refused for (OpenID Federation 1.0 sections 3, 4 and 10.2).
-use Rattle.std.specs.Prelude.{◌≡◌, ◌<◌, ◌⊎◌, ℕ, List, [], map, length, Some, Ok, slice_get, unwrap_or}
+use Rattle.std.specs.Prelude.{◌≡◌, ◌<◌, ◌⊎◌, ℕ, List, map, length, Some, Ok, slice_get}
 use Rattle.std.specs.List.{AllByRecursion}
 use Rattle.fed_base.specs.Places.{FailsFirst}
 use Rattle.jws_form.specs.declared.compact.Compact.{Compact}
 use Rattle.jws_form.specs.Compact.{IsCompact}
 use Rattle.jwk_set.specs.declared.jwk.Jwk.{Jwk}
 use Rattle.jwk_set.specs.KeySets.{key_named}
-use Rattle.slh_hash.specs.declared.params.TheConstants.{P128S}
-use Rattle.slh_dsa.specs.Keys.{public_key}
+use Rattle.slh_dsa.specs.Keys.{Keys}
 use Rattle.sealed.specs.Seals.{IsSealedBy}
-use Rattle.sealed.specs.Sealing.{signer_name}
-use Rattle.key_ring.specs.Sets.{signer_seeds}
+use Rattle.sealed.specs.Sealing.{signer_key, signer_name}
 use Rattle.entity_statement.specs.Claims.{Claims}
 use Rattle.entity_statement.specs.Signed.{statement_of}
 use Rattle.entity_statement.specs.Table.{claims_of}
@@ -24,24 +22,25 @@ use Rattle.chain_check.specs.Resolving.{FailsToResolve}
 use Rattle.chain_check.specs.Signatures.{CurrentAt, superior_keys}
 use Rattle.chain_check.specs.Validity.{Case, case_of}
 use Rattle.chain_check.specs.Verdicts.{IsVerdictOn}
-use Rattle.authority_core.specs.Nodes.{Node}
+use Rattle.authority_core.specs.Nodes.{Node, node_signer}
 
 -- ---- what is issued
 
--- a text, the seeds of the key that signed it, and the claims that it states
+-- a text, the key pair that signed it, and the claims that it states
 pub record Issue : Type 0 where
-  pub seeds : List ℕ
+  pub signer : Keys
   pub text : List ℕ
   pub claims : Claims
 
--- the keys name the signer: its public key stands among them under its name (RFC 7515 section 4.1.4)
-abbrev pub NamesSigner : List ℕ → List Jwk → Type 0
-NamesSigner seeds keys = key_named (signer_name seeds) keys ≡ Some (public_key P128S seeds)
+-- the keys name the signer: its public key stands among them under its name and its algorithm (RFC 7515 sections 4.1.1 and 4.1.4)
+abbrev pub NamesSigner : Keys → List Jwk → Type 0
+NamesSigner signer keys = key_named (signer_name signer) signer.alg keys ≡ Some (signer_key signer)
 
 -- the parts of a text that say these claims, and whose header names the signer (section 3.1)
 pub record SaysAs (issue : Issue) (parts : Compact) : Type 0 where
   pub claims : claims_of parts ≡ Ok issue.claims
-  pub signer : parts.kid ≡ Some (signer_name issue.seeds)
+  pub algorithm : parts.alg ≡ issue.signer.alg
+  pub named : parts.kid ≡ Some (signer_name issue.signer)
 
 pub record IsIssue (issue : Issue) : Type 0 where
   -- the text reads as a statement that says these claims, (section 3.1)
@@ -49,13 +48,13 @@ pub record IsIssue (issue : Issue) : Type 0 where
   -- whichever way it is taken apart, (RFC 7515 section 7.1)
   pub parts : (parts : Compact) → IsCompact issue.text parts → SaysAs issue parts
   -- and is sealed by each set that names its signer, (RFC 7515 section 5.2)
-  pub seals : (keys : List Jwk) → NamesSigner issue.seeds keys → IsSealedBy issue.text keys
+  pub seals : (keys : List Jwk) → NamesSigner issue.signer keys → IsSealedBy issue.text keys
   -- as do the keys that a configuration states (section 3.1.1, `jwks`)
-  pub own : issue.claims.iss ≡ issue.claims.sub → NamesSigner issue.seeds issue.claims.keys
+  pub own : issue.claims.iss ≡ issue.claims.sub → NamesSigner issue.signer issue.claims.keys
 
 -- what a node issues is signed by the newest live key of its ring
 abbrev pub issue_by : Node → List ℕ → Claims → Issue
-issue_by node text claims = record { seeds = unwrap_or (signer_seeds node.ring) []; text = text; claims = claims }
+issue_by node text claims = record { signer = node_signer node; text = text; claims = claims }
 
 -- ---- chains of what is issued
 
@@ -80,7 +79,7 @@ AreIssues issues = AllByRecursion IsIssue issues
 abbrev pub IssuesAreRead : Type 0
 IssuesAreRead = (issues : List Issue) → AreIssues issues → statements_of (texts_of issues) ≡ said_by issues
 
--- no chain has this length, as is told at the place: there is none, or there are more than ten (section 4)
+-- no chain has this length, as is told at the place: there is none, or there are more than 14 (section 4)
 abbrev pub IsNoLength : ℕ → ℕ → Type 0
 IsNoLength n place = ((n ≡ 0) × (place ≡ 0)) ⊎ ((max_statements < n) × (place ≡ max_statements))
 
@@ -88,7 +87,7 @@ IsNoLength n place = ((n ≡ 0) × (place ≡ 0)) ⊎ ((max_statements < n) × (
 pub record IsUnnamed (issues : List Issue) (keys : List Jwk) (place : ℕ) : Type 0 where
   pub issue : Issue
   pub there : slice_get issues place ≡ Some issue
-  pub unnamed : ¬ NamesSigner issue.seeds (superior_keys (said_by issues) keys place)
+  pub unnamed : ¬ NamesSigner issue.signer (superior_keys (said_by issues) keys place)
 
 -- all that a chain of issues may be refused for, by the reason that is told: its length, its names, its times, keys that don't
 -- name the signer, and what its statements limit and ask for by policies. So none of its texts fails to read, by its type, a

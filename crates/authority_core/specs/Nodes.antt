@@ -1,7 +1,9 @@
 -- A node: what its configuration sets, and its ring of keys.
-use Rattle.std.specs.Prelude.{List, ℕ, Option, find, bytes_eq, Bool}
+use Rattle.std.specs.Prelude.{List, [], ℕ, Option, find, bytes_eq, Bool, unwrap_or}
 use Rattle.std.specs.List.{AllByRecursion}
-use Rattle.key_ring.specs.Rings.{Ring}
+use Rattle.slh_dsa.specs.Keys.{Keys}
+use Rattle.key_ring.specs.Rings.{Ring, ring_pair}
+use Rattle.key_ring.specs.Sets.{signer_keys}
 use Rattle.node_config.specs.Nodes.{Settings, Subordinate}
 use Rattle.node_config.specs.Stated.{AreOwn, IsSubordinate}
 use Rattle.node_config.specs.Told.{told}
@@ -14,6 +16,10 @@ pub record Node : Type 0 where
 -- the node of a configuration and a ring
 abbrev pub node_of : NodeConfig → Ring → Node
 node_of config ring = record { settings = told config; ring = ring }
+
+-- the key pair that signs what the node issues: the newest live one, of which every ring has one
+abbrev pub node_signer : Node → Keys
+node_signer node = unwrap_or (signer_keys node.ring) (ring_pair [])
 
 -- each configured claim has its form and a text
 pub record IsStatable (config : NodeConfig) : Type 0 where

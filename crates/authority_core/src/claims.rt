@@ -19,7 +19,7 @@ ghost use Rattle.authority_core.specs.Nodes.{node_of};
 ghost use Rattle.authority_core.specs.ReadBack.{ReadsAs, claims_about, own_claims};
 ghost use Rattle.authority_core.specs.Stages.{AreSound, historical_members, making_members, stamp_members};
 ghost use Rattle.trust_mark.specs.Statuses.{answer_of, status_tree};
-ghost use Rattle.key_ring.specs.Sets.{IsNamedIn, live_set, signer_seeds};
+ghost use Rattle.key_ring.specs.Sets.{IsNamedIn, live_set, signer_keys};
 
 use crate::metadata::own_metadata;
 use fed_base::{Duplicate, MOMENT_LIMIT, Memory, Seq, Text};
@@ -174,7 +174,7 @@ pub(crate) fn configuration_claims(
     ensures whole { IfOk result IsWhole }
     ensures object { IfOk result IsObject }
     ensures reads_back { IfOk result (λ tree. t < moment_limit → ReadsAs tree (own_claims (told node.now) (live_set ring.now) t)) }
-    ensures signer { IfOk result (λ _. IsNamedIn (signer_seeds ring.now) (live_set ring.now)) }
+    ensures signer { IfOk result (λ _. IsNamedIn (signer_keys ring.now) (live_set ring.now)) }
 {
     let keys = ring.live_set(alloc)?;
     let mut members = Seq::new(alloc);

@@ -1,6 +1,13 @@
 //! What follows of what authorities issue, whoever they are and whenever they issued it.
+ghost use Rattle.authority_core.specs.Issued.{ShortClaimsFit};
 ghost use Rattle.authority_core.specs.Issues.{IssuesAreRead, IssuesAreRefusedOnly};
 ghost use Rattle.authority_core.specs.Nestings.{StatesAsConfigured, StatesAsRead};
+
+/// Claims of at most 179,000 bytes make a statement, a trust mark or a delegation of at most 262,144 bytes, whichever key pair signs it, of
+/// either algorithm. It does nothing.
+pub fn short_claims_fit()
+    ensures { ShortClaimsFit }
+{}
 
 /// The statements of a chain of issues are those that were issued. It does nothing.
 pub fn issues_are_read()

@@ -9,7 +9,7 @@ ghost use Rattle.node_config.specs.Told.{told, told_subordinate};
 ghost use Rattle.authority_core.specs.Issued.{claim, issue_members, last_moment, statement_claims};
 ghost use Rattle.authority_core.specs.Lengths.{items_length, keys_length, member_text, members_length};
 
-use fed_base::Text;
+use fed_base::{Alg, Text};
 use fed_json::{Json, Member, is_whole};
 use jwk_set::{Jwk, JwkSet};
 use node_config::{NodeConfig, SubordinateConfig};
@@ -17,7 +17,7 @@ use node_config::{NodeConfig, SubordinateConfig};
 // How many bytes a number from -2^63 to 2^64 - 1 has at most.
 const NUMBER_BYTES: u64 = 21;
 
-// How many bytes of a key of this project's algorithm stand beside its name at most.
+// How many bytes of a key of this project's algorithms stand beside its name at most.
 const KEY_BYTES: u64 = 500;
 
 // How many bytes of the claim `jwks` stand beside its keys at most.
@@ -100,13 +100,13 @@ fn after_key(room: u64, key: &Jwk) -> Option<u64>
     ensures { IfSome result (λ left. length (compact (key_tree key.now)) + left ≤ room) }
 {
     match key {
-        Jwk::Own { kid, public } => after_own_key(room, kid, public),
+        Jwk::Own { kid, alg, public } => after_own_key(room, kid, *alg, public),
         Jwk::Foreign(tree) => after_tree(room, tree),
     }
 }
 
-fn after_own_key(room: u64, kid: &Text, public: &[u8; 32]) -> Option<u64>
-    ensures { IfSome result (λ left. length (compact (own_tree kid.now public.now)) + left ≤ room) }
+fn after_own_key(room: u64, kid: &Text, alg: Alg, public: &[u8; 32]) -> Option<u64>
+    ensures { IfSome result (λ left. length (compact (own_tree kid.now alg public.now)) + left ≤ room) }
 {
     let left = room.checked_sub(KEY_BYTES)?;
     after_text(left, kid.as_slice())

@@ -9,7 +9,7 @@ ghost use Rattle.fed_base.specs.Counts.{CountsAtMost, counted};
 ghost use Rattle.fed_json.specs.Forms.{IsWellFormed, IsWhole, nesting};
 ghost use Rattle.fed_json.specs.declared.tree.Json.{List as ListTree, Text as TextTree};
 ghost use Rattle.jws_form.specs.Compact.{max_bytes};
-ghost use Rattle.key_ring.specs.Sets.{live_set, signer_seeds};
+ghost use Rattle.key_ring.specs.Sets.{live_set, signer_keys};
 ghost use Rattle.node_config.specs.Answers.{Gives};
 ghost use Rattle.node_config.specs.Nodes.{Subordinate};
 ghost use Rattle.node_config.specs.Stated.{IsSubordinate};
@@ -52,7 +52,7 @@ pub struct Registry {
 }
 
 impl Model for Registry {
-    ghost use Rattle.key_ring.specs.Sets.{IsNamedIn, live_set, signer_seeds};
+    ghost use Rattle.key_ring.specs.Sets.{IsNamedIn, live_set, signer_keys};
     ghost use Rattle.authority_core.specs.Configurations.{IsAbove, StatesShortly};
     ghost use Rattle.authority_core.specs.Nodes.{IsStatable, Node, node_of};
     ghost use Rattle.fed_json.specs.contracts.tree.Json as json;
@@ -64,13 +64,13 @@ impl Model for Registry {
 
     ghost view = { λ registry. node_of registry.config registry.ring };
 
-    ghost invariant = { λ registry. IsStatable registry.config × IsNamedIn (signer_seeds registry.ring) (live_set registry.ring)
+    ghost invariant = { λ registry. IsStatable registry.config × IsNamedIn (signer_keys registry.ring) (live_set registry.ring)
         × IsAbove registry.config × StatesShortly (node_of registry.config registry.ring) };
 }
 
 impl Registry {
     /// The node of a configuration and its ring, or the first member that isn't of its form, in the order of [`NodeConfig::read`]. Then
-    /// `metadata` where the claims of its own configuration pass 180,000 bytes, and `subordinates` where those of a statement about a
+    /// `metadata` where the claims of its own configuration pass 179,000 bytes, and `subordinates` where those of a statement about a
     /// subordinate do.
     #[tactic(auto, unfolding(crate::specs::Configurations::node_in))]
     pub fn read(alloc: Global, config: &Json, ring: KeyRing) -> Result<Registry, ConfigFault>
@@ -112,7 +112,7 @@ impl Registry {
 
     /// The key that signs.
     pub fn signer(&self) -> &KeyPair
-        ensures { signer_seeds self.now.ring ≡ Some result.now }
+        ensures { signer_keys self.now.ring ≡ Some result.now }
     {
         self.ring.signer()
     }

@@ -9,7 +9,7 @@ ghost use Rattle.authority_core.specs.Configurations.{sizes_of};
 ghost use Rattle.authority_core.specs.Issued.{is_short, states_all_shortly, states_itself_shortly, states_shortly};
 ghost use Rattle.authority_core.specs.Nodes.{IsStatable, node_of};
 ghost use Rattle.authority_core.specs.Stages.{IsFaultOf};
-ghost use Rattle.key_ring.specs.Sets.{IsNamedIn, live_set, signer_seeds};
+ghost use Rattle.key_ring.specs.Sets.{IsNamedIn, live_set, signer_keys};
 
 use crate::claims::{configuration_claims, statement_claims};
 use crate::lengths::after_statement;
@@ -20,7 +20,7 @@ use node_config::{ConfigFault, NodeConfig, SubordinateConfig};
 use std::alloc::Global;
 
 // How many bytes claims have at most.
-const MOST_BYTES: u64 = 180_000;
+const MOST_BYTES: u64 = 179_000;
 
 /// Nothing where what the node states is short enough, and else `metadata` or `subordinates`.
 #[tactic(auto, unfolding(crate::specs::Configurations::sizes_of))]
@@ -31,7 +31,7 @@ pub(crate) fn check_sizes(
 ) -> Result<(), ConfigFault>
     requires { IsStatable node.now }
     ensures sizes { Gives result (sizes_of (node_of node.now ring.now)) }
-    ensures signer { IfOk result (λ _. IsNamedIn (signer_seeds ring.now) (live_set ring.now)) }
+    ensures signer { IfOk result (λ _. IsNamedIn (signer_keys ring.now) (live_set ring.now)) }
 {
     if !states_itself_shortly(alloc, node, ring)? {
         return Err(too_long(alloc, b"metadata"));
@@ -56,7 +56,7 @@ fn too_long(alloc: Global, member: &[u8]) -> ConfigFault
 fn states_itself_shortly(alloc: Global, node: &NodeConfig, ring: &KeyRing) -> Result<bool, Memory>
     requires { IsStatable node.now }
     ensures short { IfOk result (λ short. short ≡ states_itself_shortly (node_of node.now ring.now)) }
-    ensures signer { IfOk result (λ _. IsNamedIn (signer_seeds ring.now) (live_set ring.now)) }
+    ensures signer { IfOk result (λ _. IsNamedIn (signer_keys ring.now) (live_set ring.now)) }
 {
     let claims = configuration_claims(alloc, node, ring, MOMENT_LIMIT - 1)?;
     is_short(alloc, &claims)

@@ -1,16 +1,14 @@
 // What has become of a trust mark.
 
-ghost use Rattle.std.specs.Prelude.{◌≡◌, ◌↔◌, Some, IfOk, IfSome, IsTrue, MatchResult};
+ghost use Rattle.std.specs.Prelude.{◌≡◌, Some, IfOk, IfSome, MatchResult};
 ghost use Rattle.std.specs.Option.{option_and_then};
 ghost use Rattle.std.specs.Result.{result_ok};
 ghost use Rattle.jws_form.specs.Compact.{IsCompact};
 ghost use Rattle.jws_form.specs.Splitting.{splitting};
 ghost use Rattle.key_ring.specs.Sets.{kept_set};
 ghost use Rattle.sealed.specs.Deciding.{is_sealed_by};
-ghost use Rattle.sealed.specs.Seals.{IsSealedBy};
 ghost use Rattle.sealed.specs.Tests.{tests_under};
 ghost use Rattle.trust_mark.specs.Claims.{mark_claims};
-ghost use Rattle.trust_mark.specs.Stages.{Tells};
 ghost use Rattle.authority_core.specs.Nodes.{node_of};
 ghost use Rattle.authority_core.specs.Statuses.{has_ended, if_issued_by, own_mark, standing, status_of, status_tests};
 ghost use Rattle.fed_base.specs.Counts.{counted};
@@ -18,11 +16,10 @@ ghost use Rattle.fed_base.specs.Counts.{counted};
 use crate::query::is_among;
 use entity_id::EntityId;
 use fed_base::{Ledger, Memory, Steps, Text};
-use jwk_set::JwkSet;
 use jws_form::{Compact, FormFault, split};
 use key_ring::KeyRing;
 use node_config::NodeConfig;
-use sealed::{SealFault, Sealed, check_sealed};
+use sealed::is_sealed;
 use std::alloc::Global;
 use trust_mark::{Mark, MarkFault, MarkStatus};
 
@@ -157,33 +154,5 @@ fn parts(alloc: Global, text: &Text) -> Result<Option<Compact>, Memory>
         Ok(compact) => Ok(Some(compact)),
         Err(FormFault::Memory) => Err(Memory),
         Err(_) => Ok(None),
-    }
-}
-
-// Whether the text verifies under the own key of the set that its header names. One test is counted where it names one.
-fn is_sealed<L: Ledger>(
-    alloc: Global,
-    compact: &Compact,
-    set: &JwkSet,
-    steps: &mut Steps<L>,
-) -> Result<bool, Memory>
-    requires { IsCompact compact.now.whole compact.now }
-    ensures sealed { IfOk result (λ sealed. IsTrue sealed ↔ IsSealedBy compact.now.whole set.now.keys) }
-    ensures test { IfOk result (λ sealed. sealed ≡ is_sealed_by compact.now.whole set.now.keys) }
-    ensures counted { MatchResult result
-        (λ _. L.count steps.new.ledger ≡ counted (tests_under set.now.keys compact.now.whole) (L.count steps.old.ledger))
-        (λ _. L.count steps.new.ledger ≡ L.count steps.old.ledger) }
-{
-    was_sealed(check_sealed(alloc, compact, set, steps))
-}
-
-// Whether a check found a seal, unless memory was wanting.
-fn was_sealed(checked: Result<Sealed, SealFault>) -> Result<bool, Memory>
-    ensures { Tells checked result }
-{
-    match checked {
-        Ok(_) => Ok(true),
-        Err(SealFault::Memory) => Err(Memory),
-        Err(_) => Ok(false),
     }
 }

@@ -1,5 +1,6 @@
 use Rattle.std.proofs.Common.{arith}
-use Rattle.authority_core.proofs.LengthLaws.{less-fits, quoted-short}
+use Rattle.authority_core.proofs.LengthLaws.{less-fits}
+use Rattle.authority_core.proofs.Quoted.{quoted-short}
 use Rattle.authority_core.proofs.lengths.after_text.Goals as goal
 
 pub returns : goal.returns
