@@ -2,10 +2,11 @@
 
 use crate::words::add;
 use fed_base::{Memory, Text};
+use jws_form::algorithm_name;
 use key_ring::{KeyRing, KeyState, KeyTerm};
 use std::alloc::Global;
 
-/// Adds the name, the moments and the state of each key, with a comma between keys.
+/// Adds the name, the algorithm, the moments and the state of each key, with a comma between keys.
 pub(crate) fn add_terms(alloc: Global, ring: &KeyRing, out: &mut Text) -> Result<(), Memory> {
     let terms = ring.terms(alloc)?;
     let mut told = Text::new(alloc);
@@ -20,6 +21,8 @@ fn append_term(alloc: Global, told: &mut Text, term: &KeyTerm) -> Result<(), Mem
         told.append(b", ")?;
     }
     told.append(term.kid.as_slice())?;
+    told.push(b' ')?;
+    told.append(algorithm_name(term.alg))?;
     append_number(alloc, told, term.iat)?;
     append_number(alloc, told, term.exp)?;
     append_state(alloc, told, term.state)
