@@ -106,11 +106,11 @@ fn policy_sentence(
 fn explain_place(alloc: Global, chain: &[Text], place: u64, notes: &mut Notes) {
     if chain.is_empty() {
         notes.say(Sentence::of(alloc, b"the chain is empty"));
-    } else if place >= 10 {
+    } else if place >= 14 {
         notes.say(
             Sentence::of(alloc, b"the chain has ")
                 .and_number(alloc, chain.len() as u64)
-                .and(b" texts; 10 are read at most"),
+                .and(b" texts; 14 are read at most"),
         );
     } else if let Some(text) = chain.get(place as usize) {
         let about = Sentence::of(alloc, b"place ")

@@ -1,8 +1,8 @@
 // What links the statements of a chain: names and signatures.
 
+use crate::named_key::NamedKey;
 use entity_id::EntityId;
 use entity_statement::{SignedStatement, Statement};
-use fed_base::Text;
 use jwk_set::JwkSet;
 use plain_notes::{Notes, Sentence};
 use std::alloc::Global;
@@ -101,32 +101,34 @@ pub(crate) fn explain_signature(
         drop(about);
         return;
     };
-    notes.say(match &entry.compact.kid {
+    let own = &entry.statement.jwks;
+    notes.say(match NamedKey::of(&entry.compact) {
         None => about.and(b": the header has no kid, the name of the key that signed"),
-        Some(kid) if place == 0 && entry.statement.jwks.key_of(kid).is_none() => about
-            .and(b" is signed by the key ")
-            .and(kid.as_slice())
-            .and(b", which isn't in its own jwks"),
-        Some(kid) if place == 0 && superior_key(entries, kid) => about
-            .and(b": the signature doesn't verify under the key ")
-            .and(kid.as_slice())
+        Some(named) if place == 0 && named.key_in(own).is_none() => named.with_other(
+            named
+                .after(about.and(b" is signed by the "))
+                .and(b", which isn't in its own jwks"),
+            own,
+        ),
+        Some(named) if place == 0 && superior_key(entries, &named) => named
+            .after(about.and(b": the signature doesn't verify under the "))
             .and(b" both of its own jwks and of the jwks of the next text"),
-        Some(kid) => signer_sentence(about, kid, entries, place, keys),
+        Some(named) => signer_sentence(about, &named, entries, place, keys),
     });
 }
 
-// The text above the leaf's has a key of that name too.
-fn superior_key(entries: &[SignedStatement], kid: &Text) -> bool {
+// The text above the leaf's has this key too.
+fn superior_key(entries: &[SignedStatement], named: &NamedKey<'_>) -> bool {
     match entries.get(1) {
-        Some(above) => above.statement.jwks.key_of(kid).is_some(),
+        Some(above) => named.key_in(&above.statement.jwks).is_some(),
         None => false,
     }
 }
 
-// What became of the key of that name, which is looked for above the place.
+// What became of this key, which is looked for above the place.
 fn signer_sentence(
     about: Sentence,
-    kid: &Text,
+    named: &NamedKey<'_>,
     entries: &[SignedStatement],
     place: u64,
     keys: &JwkSet,
@@ -134,19 +136,21 @@ fn signer_sentence(
     match entries.get((place as usize).saturating_add(1)) {
         Some(above) => key_sentence(
             about,
-            kid,
+            named,
             &above.statement.jwks,
             b" in the jwks of the next text",
         ),
-        None => key_sentence(about, kid, keys, b" among the anchor's keys"),
+        None => key_sentence(about, named, keys, b" among the anchor's keys"),
     }
 }
 
 // The set in which the key was looked for is that of the next text, or the anchor's for the last.
-fn key_sentence(about: Sentence, kid: &Text, set: &JwkSet, whose: &[u8]) -> Sentence {
-    let about = match set.key_of(kid) {
-        Some(_) => about.and(b": the signature doesn't verify under the key "),
-        None => about.and(b": there is no key "),
-    };
-    about.and(kid.as_slice()).and(whose)
+fn key_sentence(about: Sentence, named: &NamedKey<'_>, set: &JwkSet, whose: &[u8]) -> Sentence {
+    if named.key_in(set).is_some() {
+        named
+            .after(about.and(b": the signature doesn't verify under the "))
+            .and(whose)
+    } else {
+        named.with_other(named.after(about.and(b": there is no ")).and(whose), set)
+    }
 }
