@@ -23,6 +23,9 @@ sys.dont_write_bytecode = True
 sys.path.insert(0, f"{os.path.dirname(os.path.dirname(os.path.abspath(__file__)))}/lib")
 from laid import TOP, faults, tell, tried  # noqa: E402
 
+if {"-h", "--help"} & set(sys.argv[1:]):
+    sys.exit(print(__doc__))
+
 PATIENCE = 300
 MARK = re.compile(r"<!-- (not run: .+|runs until stopped|written|file [\w.]+) -->$")
 START = """set -euo pipefail

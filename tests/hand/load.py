@@ -28,6 +28,9 @@ from laid import TOP, Host, free_port, tell  # noqa: E402
 from program import connected  # noqa: E402
 from sealing import decoded, sealed  # noqa: E402
 
+if {"-h", "--help"} & set(sys.argv[1:]):
+    sys.exit(print(__doc__))
+
 FED = f"{TOP}/fed"
 SECONDS = int(sys.argv[1]) if sys.argv[1:] else 60
 CLIENTS, WORKERS = 16, 4

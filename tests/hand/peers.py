@@ -24,6 +24,9 @@ sys.path.insert(0, f"{os.path.dirname(os.path.dirname(os.path.abspath(__file__))
 import laid  # noqa: E402
 from laid import free_port, tell  # noqa: E402
 
+if {"-h", "--help"} & set(sys.argv[1:]):
+    sys.exit(print(__doc__))
+
 HEAD = b"GET /path?sub=https://rp.example HTTP/1.1\r\nHost: a\r\n\r\n"
 LINE = r"\d{10,} 127\.0\.0\.1:\d+ %s \d+\n"
 

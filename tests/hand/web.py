@@ -23,6 +23,9 @@ sys.path.insert(0, f"{os.path.dirname(os.path.dirname(os.path.abspath(__file__))
 import laid  # noqa: E402
 from laid import free_port, tell  # noqa: E402
 
+if {"-h", "--help"} & set(sys.argv[1:]):
+    sys.exit(print(__doc__))
+
 # how many seconds a program or a call may take
 MOST = 60
 
