@@ -7,6 +7,7 @@ use Rattle.entity_statement.specs.Claims.{Identifier}
 use Rattle.entity_statement.specs.declared.marks.MarkEntry.{MarkEntry}
 use Rattle.fed_ports.specs.declared.address.Address.{Address}
 use Rattle.http_plain.specs.declared.route.Route.{Route}
+use Rattle.jws_form.specs.Header.{algorithm}
 use Rattle.key_ring.specs.Files.{reason_word}
 use Rattle.key_ring.specs.declared.key.KeyState.{KeyState}
 use Rattle.key_ring.specs.declared.key.KeyState.TheVariants.{Live, Retired, Revoked}
@@ -31,8 +32,9 @@ state_words exp Live = codes " live until " ++ moment_text exp
 state_words exp Retired = codes " retired until " ++ moment_text exp
 state_words exp (Revoked at reason) = codes " revoked since " ++ (moment_text at ++ (codes ", " ++ reason_word reason))
 
+-- its name and its algorithm (RFC 7517 sections 4.4 and 4.5) before that
 abbrev pub key_line : KeyTerm → List ℕ
-key_line key = line (codes "key ") (key.kid ++ state_words key.exp key.state)
+key_line key = line (codes "key ") (key.kid ++ (32 ∷ (algorithm key.alg ++ state_words key.exp key.state)))
 
 -- ---- trust marks
 

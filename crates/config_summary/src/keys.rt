@@ -6,6 +6,7 @@ ghost use Rattle.config_summary.specs.Summaries.{key_end, key_line, state_words}
 
 use crate::ends::append_end;
 use fed_base::{Memory, Text};
+use jws_form::algorithm_name;
 use key_ring::{KeyState, KeyTerm};
 use plain_notes::append_moment;
 use std::alloc::Global;
@@ -25,6 +26,8 @@ fn append_key(alloc: Global, out: &mut Text, key: &KeyTerm) -> Result<(), Memory
 {
     out.append(b"key ")?;
     out.append(key.kid.as_slice())?;
+    out.push(b' ')?;
+    out.append(algorithm_name(key.alg))?;
     append_state(alloc, out, key.exp, key.state)?;
     out.push(b'\n')
 }
