@@ -39,7 +39,7 @@ finding_once key text (Valid s) Names (c, p, v) (d, i, t, q, other) =
     absurd (other (sym both.1 ∙ both.2))
 finding_once key text (Valid s) Signature (c, p, v) (d, t, q, fails) =
     let both = statement_once text c d s t s t p q in
-    absurd (fails (subst (λ z. Verifies key z.signed z.signature) both.0 v))
+    absurd (fails (subst (λ z. Verifies z.alg key z.signed z.signature) both.0 v))
 finding_once key text Form (Valid t) p (d, q, w) = absurd (p d t t q)
 finding_once key text Form Form p q = refl
 finding_once key text Form Names p (d, i, t, q, other) = absurd (p d i t q)
@@ -54,7 +54,7 @@ finding_once key text Names Signature (c, i, s, p, other) (d, t, q, fails) =
     absurd (other (both.1 ∙ sym both.2))
 finding_once key text Signature (Valid t) (c, s, p, fails) (d, q, w) =
     let both = statement_once text c d s t s t p q in
-    absurd (fails (subst (λ z. Verifies key z.signed z.signature) (sym both.0) w))
+    absurd (fails (subst (λ z. Verifies z.alg key z.signed z.signature) (sym both.0) w))
 finding_once key text Signature Form (c, s, p, fails) q = absurd (q c s s p)
 finding_once key text Signature Names (c, s, p, fails) (d, i, t, q, other) =
     let both = statement_once text c d s i s t p q in

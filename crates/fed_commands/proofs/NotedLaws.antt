@@ -11,4 +11,4 @@ pub hands-written : {E : Type 0} → (old new : Option (List ℕ)) (text : List 
     → OnErr result ((n : ℕ) × (n ≤ length text) × Appends old new (take n text)) → HandsNotes old new
 hands-written old new text (Ok done) plain is part =
     record { text = text; plain = plain; count = length text; written = subst (λ piece. Appends old new piece) (sym (take-length text)) is }
-hands-written old new text (Err fault) plain is part = record { text = text; plain = plain; count = part.0; written = part.1.1 }
+hands-written old new text (Err fault) plain is (n, few, written) = record { text = text; plain = plain; count = n; written = written }

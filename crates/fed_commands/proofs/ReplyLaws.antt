@@ -193,7 +193,7 @@ done_small : (work : Operation) (text : Option (List ℕ)) (r : Reply) → IsPer
 done_small work None r p = subst (λ z. z.status ≤ 2) (sym p) (lit≤ tt)
 done_small (operation.Verify key) (Some text) r (f, p, e) = let few = status_small f in subst (λ z. z.status ≤ 2) (sym e) (omega (arith, few))
 done_small (operation.Keygen at exp) (Some text) r p = subst (λ z. z.status ≤ 2) (sym p) (keygen_small at exp text)
-done_small (operation.Issue ring typ) (Some text) r (seeds, k, p) = subst (λ z. z.status ≤ 2) (sym p) (issue_small seeds typ text)
+done_small (operation.Issue ring typ) (Some text) r (keys, k, p) = subst (λ z. z.status ≤ 2) (sym p) (issue_small keys typ text)
 done_small (operation.Add ring at exp) (Some text) r p = subst (λ z. z.status ≤ 2) (sym p) (add_small ring at exp text)
 done_small (operation.Check anchor keys at) (Some text) r (p, kept) = checked_small anchor at (Some keys.keys) (chain_in text) r.status r.text p
 

@@ -4,7 +4,8 @@ use Rattle.std.specs.Prelude.{Option, Some, None, Result, Ok, Err, IfOk}
 use Rattle.fed_ports.specs.Bytes.{Appends}
 use Rattle.fed_ports.specs.Stores.{Files}
 use Rattle.key_ring.specs.Rings.{Ring}
-use Rattle.key_ring.specs.Sets.{signer_seeds}
+use Rattle.key_ring.specs.Sets.{signer_keys}
+use Rattle.slh_dsa.specs.Keys.{Keys}
 use Rattle.fed_commands.specs.Answers.{IsEnded, IsNamed, Output}
 use Rattle.ring_commands.specs.Replies.{bad_input}
 use Rattle.fed_commands.specs.Sealings.{IsSealedBySigner, IsSealedFrom, RepliesSealed, IssuesSealed}
@@ -39,7 +40,7 @@ by_signer : (name : List ℕ) (typ : TextType) (files : Option Files) (file : Op
 by_signer name typ files file None work reply named of_file is sealed = absurd (cc is)
 by_signer name typ files None (Some ring) work reply named of_file is sealed = absurd (cc of_file)
 by_signer name typ files (Some bytes) (Some ring) work reply named (few, opened) is sealed =
-    let same : work ≡ operation.Issue ring typ = cc is in λ zero. let (seeds, signs, line) = sealed ring typ same zero in (bytes, ring, seeds, named, opened, signs, line)
+    let same : work ≡ operation.Issue ring typ = cc is in λ zero. let (keys, signs, line) = sealed ring typ same zero in (bytes, ring, keys, named, opened, signs, line)
 
 -- a reply on the input is by the signer of the ring
 pub awaited_sealed : (c : Command) (moment : ℕ) (files : Option Files) (file : Option (List ℕ)) (work : Operation) (reply : Reply) → IsNamed c files file
@@ -49,13 +50,13 @@ awaited_sealed c moment files file work reply named is sealed = λ name typ same
     by_signer name typ files file found work reply (subst (λ z. IsNamed z files file) same named) of_file made sealed
 
 -- claims that are sealed by the signer's key are sealed by the signer
-pub sealed_by_signer : {E : Type 0} (result : Result Reply E) (work : Operation) (held ring : Ring) (typ kind : TextType) (seeds : List ℕ) → work ≡ operation.Issue held typ → signer_seeds held ≡ Some seeds
-    → IfOk result (IsSealedReply seeds) → work ≡ operation.Issue ring kind → IfOk result (IsSealedBySigner ring)
-sealed_by_signer (Ok reply) work held ring typ kind seeds is signs sealed also =
+pub sealed_by_signer : {E : Type 0} (result : Result Reply E) (work : Operation) (held ring : Ring) (typ kind : TextType) (keys : Keys) → work ≡ operation.Issue held typ → signer_keys held ≡ Some keys
+    → IfOk result (IsSealedReply keys) → work ≡ operation.Issue ring kind → IfOk result (IsSealedBySigner ring)
+sealed_by_signer (Ok reply) work held ring typ kind keys is signs sealed also =
     let both : operation.Issue held typ ≡ operation.Issue ring kind = sym is ∙ also in
     let same : held ≡ ring = cc both in
-    λ zero. (seeds, subst (λ r. signer_seeds r ≡ Some seeds) same signs, sealed zero)
-sealed_by_signer (Err e) work held ring typ kind seeds is signs sealed also = tt
+    λ zero. (keys, subst (λ r. signer_keys r ≡ Some keys) same signs, sealed zero)
+sealed_by_signer (Err e) work held ring typ kind keys is signs sealed also = tt
 
 -- ---- the end of a run
 
@@ -66,7 +67,7 @@ stopped_sealed c files held held' status n is = λ name typ same zero. absurd (n
 written_sealed : (c : Command) (files : Option Files) (held held' : Option (List ℕ)) (reply : Reply) (status : ℕ) → RepliesSealed c files reply → status ≡ reply.status
     → Appends held held' reply.text → IssuesSealed c files held held' status
 written_sealed c files held held' reply status sealed is written = λ name typ same zero.
-    let (bytes, opened, seeds, file, of_ring, signs, line) = sealed name typ same (sym is ∙ zero) in (bytes, opened, seeds, reply.text, file, of_ring, signs, written, line)
+    let (bytes, opened, keys, file, of_ring, signs, line) = sealed name typ same (sym is ∙ zero) in (bytes, opened, keys, reply.text, file, of_ring, signs, written, line)
 
 -- what a run with a reply wrote is that reply
 pub ended_sealed : (c : Command) (r : Reply) (x y : Output) (status : ℕ) → RepliesSealed c x.files r → IsEnded c r x y status → IssuesSealed c x.files x.held y.held status

@@ -8,12 +8,13 @@ use Rattle.fed_commands.specs.declared.verify_finding.Finding.TheVariants.{Valid
 use Rattle.jws_form.specs.declared.compact.Compact.{Compact}
 use Rattle.slh_dsa.specs.Verifying.{Verifies}
 
--- a configuration has one entity as issuer and subject, and its signature verifies; else the first of these that fails
+-- a configuration has one entity as issuer and subject, and its signature verifies by the algorithm that its header names (RFC 7515
+-- section 4.1.1); else the first of these that fails
 abbrev pub IsFinding : List ℕ → List ℕ → Finding → Type 0
-IsFinding key text (Valid sub) = (c : Compact) × IsStatementBy text c sub sub × Verifies key c.signed c.signature
+IsFinding key text (Valid sub) = (c : Compact) × IsStatementBy text c sub sub × Verifies c.alg key c.signed c.signature
 IsFinding key text Form = (c : Compact) (iss sub : List ℕ) → ¬ IsStatementBy text c iss sub
 IsFinding key text Names = (c : Compact) × (iss : List ℕ) × (sub : List ℕ) × IsStatementBy text c iss sub × (iss ≢ sub)
-IsFinding key text Signature = (c : Compact) × (sub : List ℕ) × IsStatementBy text c sub sub × ¬ Verifies key c.signed c.signature
+IsFinding key text Signature = (c : Compact) × (sub : List ℕ) × IsStatementBy text c sub sub × ¬ Verifies c.alg key c.signed c.signature
 
 -- 0 for a valid text, 1 for a refused one
 abbrev pub status_of : Finding → ℕ

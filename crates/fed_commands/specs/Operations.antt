@@ -3,7 +3,8 @@ use Rattle.std.specs.Prelude.{◌≡◌, ◌≤◌, ◌⊎◌, ℕ, List, [], �
 use Rattle.fed_ports.specs.Stores.{file_limit}
 use Rattle.key_ring.specs.Changes.{retire_key, revoke_key}
 use Rattle.key_ring.specs.Rings.{Ring}
-use Rattle.key_ring.specs.Sets.{signer_seeds}
+use Rattle.key_ring.specs.Sets.{signer_keys}
+use Rattle.slh_dsa.specs.Keys.{Keys}
 use Rattle.fed_words.specs.declared.act.Act.{Act}
 use Rattle.fed_words.specs.declared.act.Act.TheVariants.{Add, Retire, Revoke}
 use Rattle.fed_words.specs.declared.command.Command.{Command}
@@ -65,7 +66,7 @@ IsPrepared Faulty moment file prepared = prepared ≡ Answered (plain 2 (codes "
 
 -- claims are sealed by the ring's signer, as a text of this type
 abbrev pub IsIssued : Ring → TextType → List ℕ → Reply → Type 0
-IsIssued ring typ text reply = (seeds : List ℕ) × (signer_seeds ring ≡ Some seeds) × (reply ≡ issue_reply seeds typ text)
+IsIssued ring typ text reply = (keys : Keys) × (signer_keys ring ≡ Some keys) × (reply ≡ issue_reply keys typ text)
 
 -- the reply of an operation on a text that was read whole
 abbrev pub IsPerformedOn : Operation → List ℕ → Reply → Type 0

@@ -3,7 +3,8 @@ use Rattle.std.specs.Prelude.{◌≡◌, ℕ, List, Option, Some}
 use Rattle.fed_ports.specs.Bytes.{Appends}
 use Rattle.fed_ports.specs.Stores.{Files, IsFile}
 use Rattle.key_ring.specs.Rings.{Ring}
-use Rattle.key_ring.specs.Sets.{signer_seeds}
+use Rattle.key_ring.specs.Sets.{signer_keys}
+use Rattle.slh_dsa.specs.Keys.{Keys}
 use Rattle.fed_words.specs.declared.command.Command.{Command}
 use Rattle.fed_words.specs.declared.command.Command.TheVariants.{Issue}
 use Rattle.ring_commands.specs.declared.reply.Reply.{Reply}
@@ -13,13 +14,13 @@ use Rattle.ring_commands.specs.SealedLines.{IsSealedLine}
 
 -- a reply with status 0 is a sealed line by the signer of the ring
 abbrev pub IsSealedBySigner : Ring → Reply → Type 0
-IsSealedBySigner ring reply = reply.status ≡ 0 → (seeds : List ℕ) × (signer_seeds ring ≡ Some seeds) × IsSealedLine seeds reply.text
+IsSealedBySigner ring reply = reply.status ≡ 0 → (keys : Keys) × (signer_keys ring ≡ Some keys) × IsSealedLine keys reply.text
 
 -- a reply with status 0 is so sealed by the signer of the ring in the file of that name
 abbrev pub IsSealedFrom : List ℕ → Option Files → Reply → Type 0
 IsSealedFrom name files reply = reply.status ≡ 0
-    → (bytes : List ℕ) × (ring : Ring) × (seeds : List ℕ) × IsFile files name (Some bytes) × IsOpened bytes ring × (signer_seeds ring ≡ Some seeds)
-    × IsSealedLine seeds reply.text
+    → (bytes : List ℕ) × (ring : Ring) × (keys : Keys) × IsFile files name (Some bytes) × IsOpened bytes ring × (signer_keys ring ≡ Some keys)
+    × IsSealedLine keys reply.text
 
 -- the reply of `issue` is so sealed by the signer of the ring in the file that the command names
 abbrev pub RepliesSealed : Command → Option Files → Reply → Type 0
@@ -29,5 +30,5 @@ RepliesSealed command files reply = (name : List ℕ) (typ : TextType) → comma
 -- of the ring file that the command names stands under its thumbprint (RFC 7515 section 5.2, RFC 7638)
 abbrev pub IssuesSealed : Command → Option Files → Option (List ℕ) → Option (List ℕ) → ℕ → Type 0
 IssuesSealed command files held held' status = (name : List ℕ) (typ : TextType) → command ≡ Issue name typ → status ≡ 0
-    → (bytes : List ℕ) × (ring : Ring) × (seeds : List ℕ) × (line : List ℕ) × IsFile files name (Some bytes) × IsOpened bytes ring
-    × (signer_seeds ring ≡ Some seeds) × Appends held held' line × IsSealedLine seeds line
+    → (bytes : List ℕ) × (ring : Ring) × (keys : Keys) × (line : List ℕ) × IsFile files name (Some bytes) × IsOpened bytes ring
+    × (signer_keys ring ≡ Some keys) × Appends held held' line × IsSealedLine keys line

@@ -14,7 +14,7 @@ use std::alloc::Global;
 /// What is found of a text under a public key.
 #[derive(Drop)]
 pub enum Finding {
-    /// It is the configuration of this entity, and its signature verifies.
+    /// It is the configuration of this entity, and its signature verifies by the algorithm that its header names.
     Valid(EntityId),
     /// It isn't an entity statement.
     Form,
@@ -43,16 +43,16 @@ pub fn examine(alloc: Global, key: &[u8; 32], text: &[u8]) -> Result<Finding, Me
     }
 }
 
-// Whether the signature verifies under the key.
+// Whether the signature verifies under the key, by the algorithm that the header names.
 fn has_signature(key: &[u8; 32], compact: &Compact) -> bool
-    ensures { IsTrue result ↔ Verifies key.now compact.now.signed compact.now.signature }
+    ensures { IsTrue result ↔ Verifies compact.now.alg key.now compact.now.signed compact.now.signature }
 {
     let mut steps = Steps {
         ledger: Plain::new(),
     };
     let signed = compact.signed.as_slice();
     let signature = compact.signature.as_slice();
-    verify(key, signed, signature, &mut steps)
+    verify(compact.alg, key, signed, signature, &mut steps)
 }
 
 // Whom the statement is about.

@@ -10,7 +10,7 @@ returns-then-has_signature c =
     let s = c.in-Some.signed in
     let same : s.statement.iss ≡ s.statement.sub = search rules in
     let is = configuration_at c.args.text.now c.in_ok-signed.field-0 s (search rules) c.in_ok-signed.ensures same in
-    let verifies : Verifies c.args.key.now s.compact.signed s.compact.signature = search rules in
+    let verifies : Verifies s.compact.alg c.args.key.now s.compact.signed s.compact.signature = search rules in
     subst (λ sub. IsFinding c.args.key.now c.args.text.now (Valid sub)) (sym c.subject.ensures) ((s.compact, is, verifies))
 
 pub returns-else-has_signature : goal.returns-else-has_signature
@@ -18,7 +18,7 @@ returns-else-has_signature c =
     let s = c.in-Some.signed in
     let same : s.statement.iss ≡ s.statement.sub = search rules in
     let is = configuration_at c.args.text.now c.in_ok-signed.field-0 s (search rules) c.in_ok-signed.ensures same in
-    let fails : Verifies c.args.key.now s.compact.signed s.compact.signature → ⊥ = search rules in
+    let fails : Verifies s.compact.alg c.args.key.now s.compact.signed s.compact.signature → ⊥ = search rules in
     (s.compact, s.statement.sub, is, fails)
 
 pub returns-in_default : goal.returns-in_default
