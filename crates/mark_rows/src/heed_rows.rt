@@ -9,10 +9,9 @@ use crate::words::{add_number, add_word, cut};
 use entity_statement::{MarkEntry, SignedStatement};
 use fed_base::{Duplicate, Memory, Plain, Seq, Steps, Text};
 use fed_ports::Page;
-use jws_form::split;
 use mark_status::{Heeded, MemoryAsker, Post, Tell, heed};
 use std::alloc::Global;
-use trust_mark::Mark;
+use trust_mark::mark_of;
 
 /// The marks that are asked about, their issuers' configurations, and the pages that come.
 #[derive(Drop)]
@@ -90,18 +89,10 @@ fn config_of(alloc: Global, given: &Text) -> Result<Text, Memory> {
 }
 
 // Whether the text is a mark.
-#[tactic(auto, unfolding(trust_mark::specs::Marks::mark_of))]
 fn reads_as_mark(alloc: Global, text: &Text) -> Result<bool, Memory>
     ensures { IfOk result (λ reads. IsTrue reads → IsSome (mark_of text.now)) }
 {
-    let compact = match split(alloc, text.as_slice()) {
-        Ok(compact) => compact,
-        Err(_) => return Ok(false),
-    };
-    match Mark::read(alloc, &compact) {
-        Ok(_) => Ok(true),
-        Err(_) => Ok(false),
-    }
+    Ok(mark_of(alloc, text.as_slice())?.is_some())
 }
 
 // Whether the text is a statement.

@@ -4,7 +4,7 @@ ghost use Rattle.std.specs.Prelude.{IfOk};
 ghost use Rattle.std.specs.Str.{IsUtf8};
 
 use crate::words::cut;
-use fed_base::{Memory, Text};
+use fed_base::{Alg, Memory, Text};
 use fed_json::{Json, is_whole, read_tree};
 use slh_dsa::KeyPair;
 use std::alloc::Global;
@@ -18,6 +18,15 @@ fn seeds(first: u8) -> [u8; 48] {
         next = next.wrapping_add(1);
     }
     seeds
+}
+
+// The key of the 48 seeds from a number on, of the fast algorithm where the letter f is behind it.
+fn key_named(word: &str) -> KeyPair {
+    let (alg, first) = match word.strip_suffix('f') {
+        Some(first) => (Alg::Fast, first),
+        None => (Alg::Small, word),
+    };
+    KeyPair::from_seeds(alg, &seeds(first.parse::<u8>().unwrap_or(0)))
 }
 
 fn typ_of(alloc: Global, word: &str) -> Result<Text, Memory>
@@ -42,22 +51,22 @@ fn with_kept(alloc: Global, claims: &str, kept: &Text) -> Result<Text, Memory> {
 }
 
 // The tree sealed, and no text where it can't be.
-fn sealed_tree(alloc: Global, first: u8, word: &str, tree: &Json) -> Result<Text, Memory> {
+fn sealed_tree(alloc: Global, key: &str, word: &str, tree: &Json) -> Result<Text, Memory> {
     if !is_whole(tree) || !matches!(tree, Json::Object(_)) {
         return Ok(Text::new(alloc));
     }
     let typ = typ_of(alloc, word)?;
-    sealed::seal(alloc, &KeyPair::from_seeds(&seeds(first)), &typ, tree)
+    sealed::seal(alloc, &key_named(key), &typ, tree)
 }
 
-/// `seal SEED TYPE CLAIMS`: the claims as a mark, a delegation or an answer on a status, sealed by the key of the 48 seeds from this one.
+/// `seal KEY TYPE CLAIMS`: the claims as a mark, a delegation or an answer on a status, sealed by this key.
 pub(crate) fn seal(alloc: Global, given: &str, kept: &Text) -> Result<Text, Memory> {
-    let (first, given) = cut(given);
+    let (key, given) = cut(given);
     let (word, claims) = cut(given);
     let claims = with_kept(alloc, claims, kept)?;
     match read_tree(alloc, claims.as_slice()) {
         Ok(tree) => {
-            let sealed = sealed_tree(alloc, first.parse::<u8>().unwrap_or(0), word, &tree);
+            let sealed = sealed_tree(alloc, key, word, &tree);
             drop(tree);
             sealed
         },

@@ -51,7 +51,7 @@ fn read(alloc: Global, call: &str) -> Result<Option<BookCall>, Memory> {
 // Appends the names of the keys.
 fn push_names(out: &mut Text, keys: &JwkSet) -> Result<(), Memory> {
     for key in keys.keys.as_slice() {
-        if let Jwk::Own { kid, public: _ } = key {
+        if let Jwk::Own { kid, .. } = key {
             out.append(b" ")?;
             out.append(kid.as_slice())?;
         }

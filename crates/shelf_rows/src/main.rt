@@ -12,7 +12,7 @@ mod part;
 mod passes;
 mod spelling;
 
-use fed_base::{Memory, Text};
+use fed_base::{Alg, Memory, Text};
 use statement_shelf::ShelfPart;
 use statement_shelf::laws::PlainPart;
 use std::alloc::Global;
@@ -43,7 +43,7 @@ fn answer<R: Wait>(rt: &R, alloc: Global, line: &str, sealed: &Text) -> Result<T
 
 fn main(rt: HostRuntime) -> io::Result<()> {
     let alloc = rt.alloc();
-    let sealed = part::sealed_text(alloc).unwrap_or(Text::new(alloc));
+    let sealed = part::sealed_text(alloc, Alg::Small).unwrap_or(Text::new(alloc));
     for line in rt.lines(alloc) {
         let line = line?;
         match answer(&rt, alloc, line.as_str(), &sealed) {

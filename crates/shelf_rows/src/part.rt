@@ -1,6 +1,6 @@
 // Calls on a part of the cache.
 use crate::spelling::{at, letters, number, push_number};
-use fed_base::{Duplicate, Memory, Plain, Steps, Text};
+use fed_base::{Alg, Duplicate, Memory, Plain, Steps, Text};
 use sealed::{Sealed, Tested, test_key};
 use slh_dsa::KeyPair;
 use statement_shelf::{Proven, ShelfCall, ShelfReply};
@@ -14,17 +14,17 @@ const SEEDS: [u8; 48] = [
 ];
 
 /// A text that is signed by the key of these seeds.
-pub fn sealed_text(alloc: Global) -> Result<Text, Memory> {
+pub fn sealed_text(alloc: Global, alg: Alg) -> Result<Text, Memory> {
     let typ = Text::of(alloc, b"entity-statement+jwt")?;
-    sealed::seal_payload(alloc, &KeyPair::from_seeds(&SEEDS), &typ, b"{}")
+    sealed::seal_payload(alloc, &KeyPair::from_seeds(alg, &SEEDS), &typ, b"{}")
 }
 
 // The text with its key, which it is tested under.
 fn seal_of(alloc: Global, text: &Text) -> Result<Option<Sealed>, Memory> {
-    let public = KeyPair::from_seeds(&SEEDS).public();
     let Ok(compact) = jws_form::split(alloc, text.as_slice()) else {
         return Ok(None);
     };
+    let public = KeyPair::from_seeds(compact.alg, &SEEDS).public();
     let mut steps = Steps {
         ledger: Plain::new(),
     };
@@ -34,10 +34,11 @@ fn seal_of(alloc: Global, text: &Text) -> Result<Option<Sealed>, Memory> {
     }
 }
 
-// The text that a call puts: the sealed one, or the call's own.
+// The text that a call puts or proves: a sealed one, or the call's own.
 fn text_of(alloc: Global, word: &str, sealed: &Text) -> Result<Text, Memory> {
     match word {
         "sealed" => sealed.copy(alloc),
+        "fast" => sealed_text(alloc, Alg::Fast),
         _ => Text::of(alloc, word.as_bytes()),
     }
 }
@@ -55,9 +56,12 @@ fn read(alloc: Global, call: &str, sealed: &Text) -> Result<Option<ShelfCall>, M
             text: text_of(alloc, at(call, 3), sealed)?,
             until: number(at(call, 2)),
         }),
-        "prove" => match seal_of(alloc, sealed)? {
-            Some(seal) => Some(ShelfCall::Prove { url, seal }),
-            None => None,
+        "prove" => {
+            let text = text_of(alloc, at(call, 2), sealed)?;
+            match seal_of(alloc, &text)? {
+                Some(seal) => Some(ShelfCall::Prove { url, seal }),
+                None => None,
+            }
         },
         "purge" => Some(ShelfCall::Purge {
             moment: number(at(call, 1)),
