@@ -4,6 +4,7 @@ use Rattle.std.specs.Prelude.{IfOk, IfSome, IsTrue}
 use Rattle.std.specs.List.{list_all}
 use Rattle.std.specs.Option.{option_and_then, option_copied}
 use Rattle.std.specs.Result.{result_ok}
+use Rattle.fed_base.specs.declared.algorithm.Alg.{Alg}
 use Rattle.fed_base.specs.declared.faults.Memory.{Memory}
 use Rattle.fed_json.proofs.Booleans.{left_true, right_true}
 use Rattle.fed_json.proofs.Layers.{nesting-List}
@@ -13,7 +14,7 @@ use Rattle.fed_json.specs.Reading.{member_of, tree_in}
 use Rattle.jwk_set.specs.KeySets.{key_set_in}
 use Rattle.jwk_set.specs.declared.jwk.Jwk.{Jwk}
 use Rattle.jwk_set.specs.Trees.{key_tree, own_tree, set_tree}
-use Rattle.key_ring.specs.Rings.{Ring, kid_of, public_of}
+use Rattle.key_ring.specs.Rings.{Ring, kid_of, pair_in, public_of}
 use Rattle.key_ring.specs.Sets.{is_published, live_set, own_key, own_set}
 use Rattle.key_ring.specs.declared.key.RingKey.{RingKey}
 use Rattle.fed_commands.specs.Checks.{keys_in}
@@ -34,13 +35,13 @@ copied-all (Some x) P is = is
 
 -- ---- how deep a set of own keys nests
 
-own-flat : (kid public : List ℕ) → nesting (own_tree kid public) ≡ 1
-own-flat kid public = search (rules, the_lemmas)
+own-flat : (kid : List ℕ) (alg : Alg) (public : List ℕ) → nesting (own_tree kid alg public) ≡ 1
+own-flat kid alg public = search (rules, the_lemmas)
 
 keys-flat : (keys : List RingKey) → greatest (map nesting (map key_tree (map own_key keys))) ≤ 1
 unfolding key_tree
 keys-flat [] = lit≤ tt
-keys-flat (key ∷ keys) = omega (arith, own-flat (kid_of key) (public_of key), keys-flat keys)
+keys-flat (key ∷ keys) = omega (arith, own-flat (kid_of key) (pair_in key).alg (public_of key), keys-flat keys)
 
 one-member : (name : List ℕ) (ts : List Json) → nesting (Object (member_of name (ListOf ts) ∷ [])) ≡ suc (max (nesting (ListOf ts)) 0)
 one-member name ts = search (rules, the_lemmas)

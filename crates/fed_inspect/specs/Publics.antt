@@ -18,7 +18,7 @@ on_line text = plain 0 (text ++ 10 ∷ [])
 
 -- a key of that name
 abbrev pub is_called : List ℕ → Jwk → Bool
-is_called kid (Own name public) = bytes_eq name kid
+is_called kid (Own name alg public) = bytes_eq name kid
 is_called kid (Foreign tree) = false
 
 -- a historical key of that name (section 8.7.2)
