@@ -1,7 +1,7 @@
 -- What the ledger and the link count in a whole call.
-use Rattle.std.proofs.Common.{◌≡◌, ◌≤◌, ◌<◌, ◌+◌, ℕ, zero, suc, List, [], ◌∷◌, ◌++◌, length, Bool, Option, Some, None, Result, Ok, Err, refl, sym, ap, ap₂, ◌∙◌, subst, inl, inr, length-append, count_by, cond, arith}
+use Rattle.std.proofs.Common.{◌≡◌, ◌≤◌, ◌<◌, ◌+◌, ℕ, List, [], ◌∷◌, ◌++◌, length, Bool, Option, Some, None, Result, Ok, Err, refl, sym, ap, ap₂, ◌∙◌, subst, inl, inr, length-append, count_by, cond, arith}
 use Rattle.std.proofs.lemmas.List.Sums.{sum_by-append, sum_by-cons}
-use Rattle.fed_base.specs.Counts.{CountsAtMost, counted, counted as counted_checks, next_count}
+use Rattle.fed_base.specs.Counts.{CountsAtMost, counted}
 use Rattle.fed_ports.specs.Webs.{Web}
 use Rattle.trust_mark.proofs.CountLaws.{counted-plus}
 use Rattle.chain_climb.specs.Elements.{Among}
@@ -26,14 +26,10 @@ use Rattle.fed_resolver.specs.Uses.{CountsCalls, CountsFaults, CountsSome, Fetch
 
 -- ---- ticks
 
-pub same-counted : (n b : ℕ) → counted_checks n b ≡ counted n b
-same-counted zero b = refl
-same-counted (suc n) b = ap next_count (same-counted n b)
-
 -- checks after others
 pub checks-counted : (old new : List Check) (before mid now : ℕ) → mid ≡ counted (length old) before → CountsChecks old new mid now → now ≡ counted (length new) before
 checks-counted old new before mid now start counts =
-    counts.counts ∙ same-counted (length counts.more) mid ∙ ap (counted (length counts.more)) start ∙ counted-plus (length counts.more) (length old) before
+    counts.counts ∙ ap (counted (length counts.more)) start ∙ counted-plus (length counts.more) (length old) before
     ∙ ap (λ n. counted n before) (sym (ap length counts.are ∙ length-append old counts.more))
 
 pub marks-counted : (checks tests before mid now : ℕ) → mid ≡ counted checks before → now ≡ counted tests mid → now ≡ counted (checks + tests) before
@@ -66,13 +62,13 @@ module _ (seen now : LinkSeen) (old new : Trace) (none : old.searches ≡ []) (c
   all-added extra used = used.are ∙ ap (λ l. l ++ used.more) none
 
   link-calls : (extra : ℕ) → UsesRounds extra seen now old.searches new.searches → now.calls ≡ counted (calls_made new.searches + extra) seen.calls
-  link-calls extra used = used.called ∙ same-counted (calls_made used.more + extra) seen.calls ∙ ap (λ l. counted (calls_made l + extra) seen.calls) (sym (all-added extra used))
+  link-calls extra used = used.called ∙ ap (λ l. counted (calls_made l + extra) seen.calls) (sym (all-added extra used))
 
   link-faults : (extra : ℕ) → UsesRounds extra seen now old.searches new.searches → CountsFaults new.searches seen.faults now.faults
   link-faults extra used = record {
     at_least =
         subst (λ l. counted (faults_met l) seen.faults ≤ now.faults) (sym (all-added extra used))
-        (subst (λ n. n ≤ now.faults) (same-counted (faults_met used.more) seen.faults) used.failed);
+        used.failed;
     shown = λ less. subst (λ n. 0 < n) (ap faults_met (sym (all-added extra used)) ∙ faults-counted new.searches counts) (used.shown less);
   }
 

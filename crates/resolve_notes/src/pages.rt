@@ -186,7 +186,7 @@ fn explain_seal(
         notes.say(about.and(b" has no kid in its header, the name of the key that signed"));
         return;
     };
-    match signed.statement.jwks.key_of(kid) {
+    match signed.statement.jwks.key_of(kid, signed.compact.alg) {
         None => notes.say(
             about
                 .and(b" is signed by the key ")

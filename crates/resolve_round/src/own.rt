@@ -25,7 +25,7 @@ fn own_key(signed: &SignedStatement) -> Option<[u8; 32]>
     ensures { result ≡ named_key signed.now.compact signed.now.statement.jwks.keys }
 {
     match &signed.compact.kid {
-        Some(kid) => signed.statement.jwks.key_of(kid),
+        Some(kid) => signed.statement.jwks.key_of(kid, signed.compact.alg),
         None => None,
     }
 }

@@ -6,6 +6,7 @@ use Rattle.std.specs.Option.{option_and_then, option_map_or}
 use Rattle.std.specs.Result.{result_ok}
 use Rattle.std.proofs.lemmas.List.{map-append, take_more}
 use Rattle.std.proofs.lemmas.List.Elements.{filter_map-append}
+use Rattle.fed_base.specs.declared.algorithm.Alg.{Alg}
 use Rattle.fed_json.proofs.Order.{bytes_eq-itself, equal-bytes_eq}
 use Rattle.jws_form.specs.declared.compact.Compact.{Compact}
 use Rattle.jws_form.specs.declared.fault.FormFault.{FormFault}
@@ -180,14 +181,14 @@ tried-later old new case turn chain keeps is = record {
 
 -- ---- keys and statements
 
-none_named : (kid : Option (List ℕ)) → option_and_then (λ k. key_named k []) kid ≡ None
+none_named : (kid : Option (List ℕ)) (alg : Alg) → option_and_then (λ k. key_named k alg []) kid ≡ None
 unfolding key_named
-none_named None = refl
-none_named (Some kid) = refl
+none_named None alg = refl
+none_named (Some kid) alg = refl
 
 none_in : (o : Option Compact) → option_and_then (λ c. named_key c []) o ≡ None
 none_in None = refl
-none_in (Some c) = none_named c.kid
+none_in (Some c) = none_named c.kid c.alg
 
 no-key : (text public : List ℕ) → key_in [] text ≡ Some public → ⊥
 unfolding key_in

@@ -68,5 +68,5 @@ unsealed-set keys text public named miss seal =
     let one = IsCompact-unique text seal.compact miss.compact seal.splits miss.splits in
     let own : Some seal.public ≡ Some public = sym seal.named ∙ ap (λ c. named_key c keys) one ∙ sym (key_in-compact keys text miss.compact miss.splits) ∙ named in
     let key : seal.public ≡ public = cc own in
-    miss.fails (subst (λ k. Verifies k (miss.compact).signed (miss.compact).signature) key
-    (subst (λ (c : Compact). Verifies seal.public c.signed c.signature) one seal.verifies))
+    miss.fails (subst (λ k. Verifies (miss.compact).alg k (miss.compact).signed (miss.compact).signature) key
+    (subst (λ (c : Compact). Verifies c.alg seal.public c.signed c.signature) one seal.verifies))

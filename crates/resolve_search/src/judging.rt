@@ -40,8 +40,8 @@ pub(crate) enum Turn {
     More(Seq<Tried>),
 }
 
-// How many turns there are at most: one for each seal of ten texts, one for the second of the leaf's, and the last.
-const MOST_TURNS: u64 = 12;
+// How many turns there are at most: one for each seal of fourteen texts, one for the second of the leaf's, and the last.
+const MOST_TURNS: u64 = 16;
 
 // The text that was got at a URL.
 #[tactic(auto, unfolding(resolve_round::specs::Courses::pages_of))]
