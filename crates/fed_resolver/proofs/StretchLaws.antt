@@ -14,15 +14,15 @@ use Rattle.resolve_round.specs.declared.halt.Halt.{Halt}
 use Rattle.resolve_round.specs.declared.halt.Halt.TheVariants as halt
 use Rattle.resolve_round.specs.Acts.{Continues, IsKept}
 use Rattle.resolve_round.specs.Linking.{FetchesOf, LinkSeen, LinkView, UsesLink, seen_by}
-use Rattle.resolve_search.specs.declared.call.Call.{Call}
-use Rattle.resolve_search.specs.Calls.{Acted, Acts, HasPass}
+use Rattle.resolve_round.specs.declared.call.Call.{Call}
+use Rattle.resolve_round.specs.Calls.{Acted, Acts, HasPass}
 use Rattle.resolve_search.specs.Turning.{RoundUsed, SameBut, TriesOnce, UsesLinkOnce, blank}
 use Rattle.resolve_round.specs.Walking.{GaveEach, Giving, Stumbled, StumblesOnce, Walked, WalkedRound}
 use Rattle.resolve_round.proofs.ActsLaws.{continues-none, continues-then}
 use Rattle.resolve_round.proofs.LinkLaws.{counted-lower, counted-then}
 use Rattle.resolve_round.proofs.PassLaws.{kept-then}
 use Rattle.resolve_round.proofs.WalkLaws.{stumbled-then, walked-then}
-use Rattle.resolve_search.proofs.CallLaws.{acted-none, parts-then as same-then}
+use Rattle.resolve_round.proofs.CallLaws.{acted-none, parts-then as same-then}
 use Rattle.fed_resolver.specs.Stretches.{Goes, GoesFor, GoesTo, KeepsParts, Moment, SameKeys, StumbledRounds, UsesRounds, WalkedRounds, WalksFor, moment_at, moment_of}
 use Rattle.fed_resolver.specs.Uses.{calls_made, calls_of, faults_met, faults_of}
 use Rattle.fed_base.specs.Counts.{counted}

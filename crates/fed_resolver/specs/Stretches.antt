@@ -12,8 +12,8 @@ use Rattle.resolve_round.specs.declared.halt.Halt.TheVariants as halt
 use Rattle.resolve_round.specs.Acts.{Continues, IsKept}
 use Rattle.resolve_round.specs.Linking.{FetchesOf, LinkSeen, LinkView, seen_by}
 use Rattle.resolve_round.specs.Walking.{GaveEach, Giving, Stumbled}
-use Rattle.resolve_search.specs.declared.call.Call.{Call}
-use Rattle.resolve_search.specs.Calls.{HasPass, SameParts}
+use Rattle.resolve_round.specs.declared.call.Call.{Call}
+use Rattle.resolve_round.specs.Calls.{HasPass, SameParts}
 use Rattle.fed_resolver.specs.Uses.{calls_made, faults_met}
 use Rattle.fed_base.specs.Counts.{counted}
 

@@ -6,7 +6,7 @@ ghost use Rattle.sealed.specs.Sealing.{IsSealedFor};
 ghost use Rattle.statement_shelf.specs.Passes.{IsPassOfAll};
 ghost use Rattle.resolve_round.specs.Acts.{IsKept};
 ghost use Rattle.resolve_round.specs.Linking.{link_view};
-ghost use Rattle.resolve_search.specs.Calls.{HasPass, SameParts};
+ghost use Rattle.resolve_round.specs.Calls.{HasPass, SameParts};
 ghost use Rattle.fed_resolver.specs.Calls.{GaveAll, Resolves, WornOnly};
 ghost use Rattle.fed_resolver.specs.Going.{IsBegun, IsBlank};
 ghost use Rattle.fed_resolver.specs.Refusals.{GoesBy, WalksBy, WholeBy, outcome_of, refused_by};

@@ -6,7 +6,7 @@ ghost use Rattle.entity_statement.specs.Signed.{statement_of};
 ghost use Rattle.resolve_reply.specs.Marks.{each_named};
 ghost use Rattle.resolve_round.specs.Linking.{link_view};
 ghost use Rattle.resolve_round.specs.Told.{ProvesGood};
-ghost use Rattle.resolve_search.specs.Calls.{Acts, Counted};
+ghost use Rattle.resolve_round.specs.Calls.{Acts, Counted};
 ghost use Rattle.fed_resolver.specs.Going.{HasIssuer, HasIssuers, KeepsBy, first_text, usual_aim};
 ghost use Rattle.fed_resolver.specs.Stretches.{CanGoOn, GoesFor, WalksFor, moment_of};
 

@@ -6,7 +6,7 @@ ghost use Rattle.sealed.specs.Sealing.{IsSealedFor};
 ghost use Rattle.resolve_reply.specs.Marks.{issuers_by_mark, judging_by, looked_at, tests_of_marks};
 ghost use Rattle.resolve_round.specs.Linking.{link_view};
 ghost use Rattle.resolve_round.specs.Told.{ProvesGood};
-ghost use Rattle.resolve_search.specs.Calls.{Acts, Counted};
+ghost use Rattle.resolve_round.specs.Calls.{Acts, Counted};
 ghost use Rattle.fed_json.specs.Forms.{IsWhole as IsWholeTree};
 ghost use Rattle.fed_resolver.specs.Going.{AreEnds, HasLeaf, usual_aim};
 ghost use Rattle.fed_resolver.specs.Outcomes.{IsWhole};

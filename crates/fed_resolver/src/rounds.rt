@@ -3,7 +3,7 @@
 ghost use Rattle.std.specs.Prelude.{◌≡◌, true, IfOk, OnOk};
 ghost use Rattle.resolve_round.specs.Linking.{link_view};
 ghost use Rattle.resolve_round.specs.Told.{ProvesGood};
-ghost use Rattle.resolve_search.specs.Calls.{Acts, Counted};
+ghost use Rattle.resolve_round.specs.Calls.{Acts, Counted};
 ghost use Rattle.fed_resolver.specs.Going.{HasRounds, faults_in, hits_in, is_settled, last_search, usual_aim};
 ghost use Rattle.fed_resolver.specs.Stretches.{CanGoOn, GoesFor, WalksFor, moment_of};
 

@@ -16,7 +16,7 @@ use Rattle.resolve_round.specs.declared.halt.Halt.{Halt}
 use Rattle.resolve_round.specs.declared.halt.Halt.TheVariants as halt
 use Rattle.resolve_round.specs.declared.trace.Event.{Event}
 use Rattle.resolve_round.specs.declared.trace.Event.TheVariants.{Shelf}
-use Rattle.resolve_round.specs.Acts.{CanReply, Continues, GainsEvents, IfWorn, IsHalt, IsWorkCall, on_book, on_part}
+use Rattle.resolve_round.specs.Acts.{CanReply, Continues, GainsEvents, IsHalt, IsWorkCall, on_book, on_part}
 use Rattle.resolve_round.specs.Traces.{IsWork, ShelfEvent}
 
 -- ---- what a part replies
@@ -151,13 +151,3 @@ halt-worn old new call count work worn is =
 -- want of memory is a halt
 pub halt-memory : (known : CommonsKnown) (e : Halt) → e ≡ halt.Memory → IsHalt known e
 halt-memory known e is = subst (IsHalt known) (sym is) tt
-
--- ---- what holds where an object is worn
-
-pub worn-always : {P : Type 0} (h : Halt) → P → IfWorn h P
-worn-always (halt.Worn count) p = p
-worn-always halt.Memory p = tt
-
-pub worn-weaker : {P Q : Type 0} (h : Halt) → (P → Q) → IfWorn h P → IfWorn h Q
-worn-weaker (halt.Worn count) f p = f p
-worn-weaker halt.Memory f p = tt

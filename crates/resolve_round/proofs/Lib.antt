@@ -1,6 +1,7 @@
 pub mod ActsLaws
 pub mod AskingLaws
 pub mod BestLaws
+pub mod CallLaws
 pub mod Elements
 pub mod FollowLaws
 pub mod Following

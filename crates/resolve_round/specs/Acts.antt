@@ -83,11 +83,6 @@ abbrev pub IsHalt : CommonsKnown → Halt → Type 0
 IsHalt known (halt.Worn count) = (count ≡ call_limit) × HasCounted known count
 IsHalt known halt.Memory = Unit {0}
 
--- what holds where an object is worn, of which nothing is said where memory was wanting
-abbrev pub IfWorn : Halt → Type 0 → Type 0
-IfWorn (halt.Worn count) P = P
-IfWorn halt.Memory P = Unit {0}
-
 module _ {S V Q T W U : Type 0} where
   -- the pass stays one of these objects, and where it was alone it still owns each call
   pub record IsKept (commons : SharedCommons (Group (KeptTable S V (Snapshot Part) Q) (KeptTable T W (Snapshot Book) U))) (old new : CommonsPass S T) : Type 0 where

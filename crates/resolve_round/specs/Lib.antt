@@ -1,6 +1,7 @@
 pub mod Acts
 pub mod Answers
 pub mod Asking
+pub mod Calls
 pub mod Courses
 pub mod Following
 pub mod Getting

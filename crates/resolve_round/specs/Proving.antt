@@ -1,5 +1,5 @@
 -- What Proves of tested pairs add to the events.
-use Rattle.std.specs.Prelude.{◌≡◌, ◌⊎◌, ℕ, List, [], ◌∷◌, ◌++◌, true, Option, Some, None}
+use Rattle.std.specs.Prelude.{◌≡◌, ◌⊎◌, ℕ, List, [], ◌∷◌, ◌++◌, get_or, true, Option, Some, None}
 use Rattle.sealed.specs.Seals.{Pair}
 use Rattle.chain_climb.specs.Elements.{Among}
 use Rattle.statement_shelf.specs.declared.calls.ShelfCall.TheVariants.{Prove}
@@ -45,3 +45,9 @@ IsGoodSeal check text (Some seal) = (check.good ≡ true) × (check.text ≡ tex
 abbrev pub ProvesOne : Check → List ℕ → List ℕ → List Event → List Event → Type 0
 ProvesOne check url text old new =
     (IsGoodSeal check text None × (new ≡ old)) ⊎ ((r : ShelfReply) × (check.good ≡ true) × (new ≡ old ++ Shelf (Prove url (pair_in check)) r ∷ []))
+
+-- the check at a place was, or wasn't, as it is such a one
+pub record ProvesAt (checks : List Check) (at : ℕ) (url text : List ℕ) (old new : List Event) : Type 0 where
+  pub check : Check
+  pub there : check ≡ get_or checks at check
+  pub proves : ProvesOne check url text old new

@@ -1,12 +1,10 @@
 // What a round gets at a URL.
 
-ghost use Rattle.std.specs.Prelude.{◌≡◌, ◌≤◌, length, take, IfErr, IfOk, OnErr, OnOk};
-ghost use Rattle.turn_log.specs.Groups.{known};
-ghost use Rattle.statement_shelf.specs.Passes.{IsPassOfAll};
-ghost use Rattle.resolve_round.specs.Acts.{Continues, IsHalt, IsKept};
+ghost use Rattle.std.specs.Prelude.{◌≡◌, ◌≤◌, length, take, IfOk, OnErr, OnOk};
 ghost use Rattle.resolve_round.specs.Asking.{with_ask};
+ghost use Rattle.resolve_round.specs.Calls.{HasPass, IsReady, UsesCache, point_of};
 ghost use Rattle.resolve_round.specs.Courses.{Counts};
-ghost use Rattle.resolve_round.specs.Getting.{IsSource, LooksUp, OnlyEvents, point};
+ghost use Rattle.resolve_round.specs.Getting.{IsSource, LooksUp};
 ghost use Rattle.resolve_round.specs.Knowing.{AnswersStand, HoldsSoFar, with_search};
 ghost use Rattle.resolve_round.specs.Linking.{LinkUsed, link_view};
 ghost use Rattle.resolve_round.specs.Placing.{places_text, some_placed};
@@ -16,13 +14,14 @@ ghost use Rattle.resolve_round.specs.declared.trace.Got.TheVariants as got;
 
 use crate::aim::Aim;
 use crate::asking::{fetch, place_of};
+use crate::call::Call;
 use crate::halt::Halt;
 use crate::looking::look;
 use crate::proving::prove_tested;
-use crate::trace::{Ask, Check, Event, Got, Search, Trace};
-use fed_base::{Duplicate, Memory, Seq, Text};
+use crate::trace::{Ask, Event, Got, Search};
+use fed_base::{Duplicate, Ledger, Memory, Text};
 use fed_ports::Link;
-use statement_shelf::{Commons, FedPass, Proven, ShelfCall, ShelfReply};
+use statement_shelf::{Proven, ShelfCall, ShelfReply};
 use std::alloc::Global;
 use std::sync::Wait;
 
@@ -69,30 +68,24 @@ fn is_placed(events: &[Event], url: &Text, text: &Text) -> bool
 }
 
 // Proves under the URL what is known of a text that was hit there, where none of the events before had placed it there.
-fn prove_hit<R: Wait>(
-    commons: &Commons,
-    rt: &R,
-    alloc: Global,
-    pass: &mut FedPass,
-    events: &mut Seq<Event>,
+fn prove_hit<R: Wait, G: Ledger>(
+    call: &mut Call<'_, R, G>,
     before: usize,
-    checks: &[Check],
     url: &Text,
     text: &Text,
 ) -> Result<(), Halt>
-    requires of { IsPassOfAll commons.now pass.old }
-    requires before { before ≤ length events.old }
-    requires answers { AnswersStand checks.now }
-    ensures kept { IsKept commons.now pass.old pass.new }
-    ensures continues { Continues events.old events.new (known pass.old) (known pass.new) }
-    ensures halt { IfErr result (IsHalt (known pass.new)) }
-    ensures only { AddsProves checks.now events.old events.new }
-    ensures proved { OnOk result (IsProvedThere checks.now url.now text.now (take before events.old) events.old events.new) }
+    requires of { HasPass call.old }
+    requires before { before ≤ length call.old.trace.now.events }
+    requires answers { AnswersStand call.old.trace.now.checks }
+    ensures uses { UsesCache call.old call.new result }
+    ensures only { AddsProves call.old.trace.now.checks call.old.trace.now.events call.new.trace.now.events }
+    ensures proved { OnOk result (IsProvedThere call.old.trace.now.checks url.now text.now (take before call.old.trace.now.events)
+        call.old.trace.now.events call.new.trace.now.events) }
 {
-    if is_placed(&events.as_slice()[..before], url, text) {
+    if is_placed(&call.trace.events.as_slice()[..before], url, text) {
         return Ok(());
     }
-    prove_tested(commons, rt, alloc, pass, events, checks, url, text)
+    prove_tested(call, url, text)
 }
 
 // Adds a text of the cache to the asks.
@@ -114,94 +107,57 @@ fn add_hit(alloc: Global, search: &mut Search, url: &Text, proven: Proven) -> Re
 
 // In a round that looks into the cache, looks for the text of a URL there, and adds it to the asks where there is one. Where no event
 // had placed it there, what is known of it is proved there again.
-fn on_shelf<R: Wait>(
-    commons: &Commons,
-    rt: &R,
-    alloc: Global,
-    pass: &mut FedPass,
-    trace: &mut Trace,
+fn on_shelf<R: Wait, G: Ledger>(
+    call: &mut Call<'_, R, G>,
     search: &mut Search,
     aim: &Aim,
     url: &Text,
 ) -> Result<bool, Halt>
-    requires of { IsPassOfAll commons.now pass.old }
-    requires holds { HoldsSoFar aim.now.age search.old trace.old }
-    requires good { ProvesGood (with_search trace.old search.old) }
-    ensures kept { IsKept commons.now pass.old pass.new }
-    ensures continues { Continues trace.old.events trace.new.events (known pass.old) (known pass.new) }
-    ensures halt { IfErr result (IsHalt (known pass.new)) }
-    ensures only { OnlyEvents trace.old trace.new }
+    requires ready { IsReady aim.now.age call.old search.old }
+    ensures uses { UsesCache call.old call.new result }
     ensures err { OnErr result (search.new ≡ search.old) }
-    ensures holds { HoldsSoFar aim.now.age search.new trace.new }
-    ensures good { OnOk result (ProvesGood (with_search trace.new search.new)) }
-    ensures found { IfOk result (LooksUp aim.now.looks url.now (point trace.old search.old) (point trace.new search.new)) }
+    ensures holds { HoldsSoFar aim.now.age search.new call.new.trace.now }
+    ensures good { OnOk result (ProvesGood (with_search call.new.trace.now search.new)) }
+    ensures found { IfOk result (LooksUp aim.now.looks url.now (point_of call.old search.old) (point_of call.new search.new)) }
 {
     if !aim.looks {
         return Ok(false);
     }
-    let before = trace.events.len();
-    let Some(proven) = look(
-        commons,
-        rt,
-        alloc,
-        pass,
-        &mut trace.events,
-        url,
-        trace.moment,
-    )?
-    else {
+    let before = call.trace.events.len();
+    let Some(proven) = look(call, url)? else {
         return Ok(false);
     };
-    prove_hit(
-        commons,
-        rt,
-        alloc,
-        pass,
-        &mut trace.events,
-        before,
-        trace.checks.as_slice(),
-        url,
-        &proven.text,
-    )?;
-    add_hit(alloc, search, url, proven)?;
+    prove_hit(call, before, url, &proven.text)?;
+    add_hit(call.alloc, search, url, proven)?;
     Ok(true)
 }
 
 /// Gets the page of a URL: what the round has, or the cache tells, or the link answers. There is none where it had to be asked of the link
 /// and all calls were made.
-pub fn obtain<R: Wait, L: Link>(
-    commons: &Commons,
-    rt: &R,
-    alloc: Global,
-    pass: &mut FedPass,
-    trace: &mut Trace,
+pub fn obtain<R: Wait, L: Link, G: Ledger>(
+    call: &mut Call<'_, R, G>,
     search: &mut Search,
     link: &mut L,
     aim: &Aim,
     url: &Text,
 ) -> Result<Option<Place>, Halt>
-    requires of { IsPassOfAll commons.now pass.old }
-    requires holds { HoldsSoFar aim.now.age search.old trace.old }
-    requires good { ProvesGood (with_search trace.old search.old) }
-    ensures kept { IsKept commons.now pass.old pass.new }
-    ensures continues { Continues trace.old.events trace.new.events (known pass.old) (known pass.new) }
-    ensures halt { IfErr result (IsHalt (known pass.new)) }
-    ensures only { OnlyEvents trace.old trace.new }
+    requires ready { IsReady aim.now.age call.old search.old }
+    ensures uses { UsesCache call.old call.new result }
     ensures link { LinkUsed (link_view L.calls L.link_faults L.web L.gave) link.old link.new search.old search.new result }
-    ensures holds { HoldsSoFar aim.now.age search.new trace.new }
-    ensures good { OnOk result (ProvesGood (with_search trace.new search.new)) }
-    ensures source { IfOk result (IsSource aim.now url.now (point trace.old search.old) (point trace.new search.new)) }
+    ensures holds { HoldsSoFar aim.now.age search.new call.new.trace.now }
+    ensures good { OnOk result (ProvesGood (with_search call.new.trace.now search.new)) }
+    ensures source { IfOk result (IsSource aim.now url.now (point_of call.old search.old) (point_of call.new search.new)) }
 {
     if let Some(at) = place_of(search.asks.as_slice(), url.as_slice()) {
         return Ok(Some(Place { at, fresh: false }));
     }
     let at = search.asks.len();
-    if on_shelf(commons, rt, alloc, pass, trace, search, aim, url)? {
+    if on_shelf(call, search, aim, url)? {
         return Ok(Some(Place { at, fresh: false }));
     }
     if search.calls >= aim.bounds.calls {
         return Ok(None);
     }
-    fetch(alloc, search, link, url, aim.bounds.calls)?;
+    fetch(call.alloc, search, link, url, aim.bounds.calls)?;
     Ok(Some(Place { at, fresh: true }))
 }

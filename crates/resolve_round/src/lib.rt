@@ -11,6 +11,7 @@
 mod acts;
 mod aim;
 mod asking;
+mod call;
 mod copies;
 mod getting;
 mod halt;
@@ -26,6 +27,7 @@ mod tests;
 mod trace;
 
 pub use aim::Aim;
+pub use call::Call;
 pub use getting::{Place, obtain};
 pub use halt::Halt;
 pub use keeping::keep_new;

@@ -1,44 +1,43 @@
 // Texts that the cache tells.
 
 ghost use Rattle.std.specs.Prelude.{◌≡◌, IfErr, IfOk};
-ghost use Rattle.turn_log.specs.Groups.{known};
-ghost use Rattle.statement_shelf.specs.Passes.{IsPassOfAll};
-ghost use Rattle.resolve_round.specs.Acts.{Continues, IsHalt, IsKept};
+ghost use Rattle.resolve_round.specs.Calls.{HasPass, UsesCache};
 ghost use Rattle.resolve_round.specs.Looking.{CanTell, HasLooked, HasTriedLook, TellsReply};
 ghost use Rattle.resolve_round.specs.declared.halt.Halt.TheVariants.{Memory};
 
 use crate::acts::record_call;
+use crate::call::Call;
 use crate::halt::Halt;
 use crate::trace::Event;
-use fed_base::{Duplicate, Seq, Text};
-use statement_shelf::{Commons, FedPass, Proven, ShelfCall, ShelfReply};
+use fed_base::{Duplicate, Ledger, Text};
+use statement_shelf::{Proven, ShelfCall, ShelfReply};
 use std::alloc::Global;
 use std::sync::Wait;
 
 // Looks for the text of a URL in the cache, and copies what is told.
-pub(crate) fn look<R: Wait>(
-    commons: &Commons,
-    rt: &R,
-    alloc: Global,
-    pass: &mut FedPass,
-    events: &mut Seq<Event>,
+pub(crate) fn look<R: Wait, G: Ledger>(
+    call: &mut Call<'_, R, G>,
     url: &Text,
-    moment: u64,
 ) -> Result<Option<Proven>, Halt>
-    requires of { IsPassOfAll commons.now pass.old }
-    ensures kept { IsKept commons.now pass.old pass.new }
-    ensures continues { Continues events.old events.new (known pass.old) (known pass.new) }
-    ensures halt { IfErr result (IsHalt (known pass.new)) }
-    ensures looked { IfOk result (HasLooked events.old url.now moment events.new) }
-    ensures tried { HasTriedLook events.old url.now moment events.new }
+    requires of { HasPass call.old }
+    ensures uses { UsesCache call.old call.new result }
+    ensures looked { IfOk result (HasLooked call.old.trace.now.events url.now call.old.trace.now.moment call.new.trace.now.events) }
+    ensures tried { HasTriedLook call.old.trace.now.events url.now call.old.trace.now.moment call.new.trace.now.events }
 {
-    let call = ShelfCall::Look {
-        url: url.copy(alloc)?,
-        moment,
+    let looking = ShelfCall::Look {
+        url: url.copy(call.alloc)?,
+        moment: call.trace.moment,
     };
-    let at = events.len();
-    record_call(commons, rt, alloc, pass, events, call)?;
-    told_by(alloc, &events.as_slice()[at])
+    let at = call.trace.events.len();
+    record_call(
+        call.commons,
+        call.rt,
+        call.alloc,
+        call.pass,
+        &mut call.trace.events,
+        looking,
+    )?;
+    told_by(call.alloc, &call.trace.events.as_slice()[at])
 }
 
 // What the reply to a Look tells.

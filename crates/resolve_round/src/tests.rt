@@ -1,23 +1,22 @@
 // Tests of signatures, each pair of a text and a key once.
 
-ghost use Rattle.std.specs.Prelude.{◌≡◌, ◌∷◌, [], ◌++◌, true, IfErr, IfOk, OnErr, OnOk};
+ghost use Rattle.std.specs.Prelude.{◌≡◌, ◌∷◌, [], ◌++◌, true, IfOk, OnErr, OnOk};
 ghost use Rattle.jws_form.specs.Compact.{IsCompact};
 ghost use Rattle.sealed.specs.Answers.{IsTested};
 ghost use Rattle.sealed.specs.Seals.{pair_of};
-ghost use Rattle.turn_log.specs.Groups.{known};
-ghost use Rattle.statement_shelf.specs.Passes.{IsPassOfAll};
-ghost use Rattle.resolve_round.specs.Acts.{Continues, IsHalt, IsKept};
+ghost use Rattle.resolve_round.specs.Calls.{HasPass, Tests};
 ghost use Rattle.resolve_round.specs.Knowing.{AnswersStand, IsAnswer, IsKnownGood, known_of};
-ghost use Rattle.resolve_round.specs.Testing.{CountsChecks, KeepsKnown, OnlyTests, StaysProved, StaysTrue, check_of, is_yes};
+ghost use Rattle.resolve_round.specs.Testing.{CountsChecks, KeepsKnown, StaysProved, StaysTrue, check_of, is_yes};
 
 use crate::acts::record_call;
+use crate::call::Call;
 use crate::halt::Halt;
 use crate::known::{checked, shown};
 use crate::trace::{Check, Trace};
 use fed_base::{Duplicate, Ledger, Memory, Seq, Steps, Text};
 use jws_form::Compact;
 use sealed::{Tested, test_key};
-use statement_shelf::{Commons, FedPass, ShelfCall};
+use statement_shelf::ShelfCall;
 use std::alloc::Global;
 use std::sync::Wait;
 
@@ -91,38 +90,42 @@ fn known_answer(trace: &Trace, text: &[u8], public: &[u8; 32]) -> Option<bool>
 /// Whether the text at the URL verifies under the key: as the trace shows, or as a test says, which is told in the trace. A pair that
 /// verifies is proved on the cache then.
 pub fn verifies<R: Wait, G: Ledger>(
-    commons: &Commons,
-    rt: &R,
-    alloc: Global,
-    pass: &mut FedPass,
-    trace: &mut Trace,
-    steps: &mut Steps<G>,
+    call: &mut Call<'_, R, G>,
     url: &Text,
     compact: &Compact,
     public: &[u8; 32],
 ) -> Result<bool, Halt>
-    requires of { IsPassOfAll commons.now pass.old }
+    requires of { HasPass call.old }
     requires compact { IsCompact compact.now.whole compact.now }
-    requires answers { AnswersStand trace.old.checks }
-    ensures kept { IsKept commons.now pass.old pass.new }
-    ensures continues { Continues trace.old.events trace.new.events (known pass.old) (known pass.new) }
-    ensures halt { IfErr result (IsHalt (known pass.new)) }
+    requires answers { AnswersStand call.old.trace.now.checks }
+    ensures tests { Tests G.count call.old call.new result }
     ensures answer { IfOk result (IsAnswer (pair_of compact.now.whole public.now)) }
-    ensures good { IfOk result (λ good. good ≡ true → IsKnownGood trace.new (pair_of compact.now.whole public.now)) }
-    ensures only { OnlyTests trace.old trace.new }
-    ensures stays_known { KeepsKnown trace.old trace.new }
-    ensures stays_true { StaysTrue url.now (pair_of compact.now.whole public.now) trace.old trace.new }
-    ensures proved { OnOk result (StaysProved url.now (pair_of compact.now.whole public.now) trace.old trace.new) }
-    ensures counted { CountsChecks trace.old.checks trace.new.checks (G.count steps.old.ledger) (G.count steps.new.ledger) }
+    ensures good { IfOk result (λ good. good ≡ true → IsKnownGood call.new.trace.now (pair_of compact.now.whole public.now)) }
+    ensures stays_known { KeepsKnown call.old.trace.now call.new.trace.now }
+    ensures stays_true { StaysTrue url.now (pair_of compact.now.whole public.now) call.old.trace.now call.new.trace.now }
+    ensures proved { OnOk result (StaysProved url.now (pair_of compact.now.whole public.now) call.old.trace.now call.new.trace.now) }
 {
-    if let Some(good) = known_answer(trace, compact.whole.as_slice(), public) {
+    if let Some(good) = known_answer(call.trace, compact.whole.as_slice(), public) {
         return Ok(good);
     }
-    match test(alloc, &mut trace.checks, steps, compact, public)? {
+    match test(
+        call.alloc,
+        &mut call.trace.checks,
+        call.steps,
+        compact,
+        public,
+    )? {
         Tested::Yes(seal) => {
-            let url = url.copy(alloc)?;
-            let call = ShelfCall::Prove { url, seal };
-            record_call(commons, rt, alloc, pass, &mut trace.events, call)?;
+            let url = url.copy(call.alloc)?;
+            let proving = ShelfCall::Prove { url, seal };
+            record_call(
+                call.commons,
+                call.rt,
+                call.alloc,
+                call.pass,
+                &mut call.trace.events,
+                proving,
+            )?;
             Ok(true)
         }
         Tested::No(_) => Ok(false),

@@ -1,74 +1,23 @@
--- What the steps of a call leave, one after the other.
-use Rattle.std.proofs.Common.{◌≡◌, ℕ, List, [], Result, Ok, Err, refl, sym, ◌∙◌, subst}
-use Rattle.std.specs.Prelude.{IfErr, OnOk}
+-- What the steps of a round leave of its call, one after the other.
+use Rattle.std.proofs.Common.{◌≡◌, ℕ, List, [], Result, Ok, Err, refl, sym, subst}
 use Rattle.turn_log.specs.Groups.{known}
 use Rattle.sealed.specs.Seals.{pair_of}
-use Rattle.statement_shelf.specs.Passes.{IsPassOfAll}
+use Rattle.resolve_round.specs.declared.call.Call.{Call}
 use Rattle.resolve_round.specs.declared.halt.Halt.{Halt}
 use Rattle.resolve_round.specs.declared.halt.Halt.TheVariants as halt
 use Rattle.resolve_round.specs.declared.trace.Search.{Search}
 use Rattle.resolve_round.specs.Acts.{Continues, IsHalt, IsKept}
+use Rattle.resolve_round.specs.Calls.{Acted, Acts, HasPass, IsReady, SameParts, Tests}
 use Rattle.resolve_round.specs.Knowing.{HoldsSoFar}
 use Rattle.resolve_round.specs.Linking.{LinkUsed, LinkView, TriesBy, UsesLink, seen_by}
 use Rattle.resolve_round.specs.Walking.{Walked}
-use Rattle.resolve_search.specs.declared.call.Call.{Call}
-use Rattle.resolve_search.specs.Calls.{Acted, Acts, HasPass, IsReady, Judges, Keeps, SameParts, Tests}
-use Rattle.resolve_round.proofs.ActsLaws.{continues-none, continues-then}
+use Rattle.resolve_search.specs.Calls.{Judges, Keeps}
+use Rattle.resolve_round.proofs.CallLaws.{acted-none, parts-then, tests-none}
 use Rattle.resolve_round.proofs.LinkLaws.{tries-by, tries-then, uses-then}
-use Rattle.resolve_round.proofs.PassLaws.{kept-same, kept-then}
 use Rattle.resolve_round.proofs.TestingLaws.{counts-none, only-none}
 use Rattle.resolve_round.proofs.WalkLaws.{stumbled-still, stumbled-then, walked-then}
 
 -- ---- the call
-
-pub parts-then : {R G : Type 0} → (first mid last : Call R G) → SameParts first mid → SameParts mid last → SameParts first last
-parts-then first mid last one two = record {
-  commons = two.commons ∙ one.commons;
-  pass = two.pass ∙ one.pass;
-  trace = two.trace ∙ one.trace;
-  steps = two.steps ∙ one.steps;
-}
-
--- nothing was done
-pub acted-none : {R G : Type 0} → (call : Call R G) → HasPass call → Acted call call
-acted-none call of = record {
-  parts = record { commons = refl; pass = refl; trace = refl; steps = refl };
-  kept = kept-same call.commons.now call.pass.now of;
-  continues = continues-none call.trace.now.events (known call.pass.now);
-}
-
--- one step, and then another
-pub acted-then : {R G : Type 0} → (first mid last : Call R G) → Acted first mid → Acted mid last → Acted first last
-acted-then first mid last one two = record {
-  parts = parts-then first mid last one.parts two.parts;
-  kept =
-      kept-then first.commons.now first.pass.now mid.pass.now last.pass.now one.kept
-      (subst (λ commons. IsKept commons mid.pass.now last.pass.now) one.parts.commons two.kept);
-  continues =
-      continues-then first.trace.now.events mid.trace.now.events last.trace.now.events (known first.pass.now) (known mid.pass.now) (known last.pass.now)
-      one.continues two.continues;
-}
-
--- the same, told from the end
-pub acted-behind : {R G : Type 0} → (first mid last : Call R G) → Acted mid last → Acted first mid → Acted first last
-acted-behind first mid last two one = acted-then first mid last one two
-
--- the pass is one of the objects that the call works with
-pub acted-of : {R G : Type 0} → (old new : Call R G) → Acted old new → HasPass new
-acted-of old new acted = subst (λ commons. IsPassOfAll commons new.pass.now) (sym acted.parts.commons) acted.kept.of
-
--- by the result
-pub acts-by : {R G A : Type 0} → (old new : Call R G) (result : Result A Halt) → Acted old new → IfErr result (IsHalt (known new.pass.now)) → Acts old new result
-acts-by old new (Ok value) acted halt = acted
-acts-by old new (Err cause) acted halt = (acted, halt)
-
-pub acted-by : {R G A : Type 0} → (old new : Call R G) (result : Result A Halt) → Acts old new result → Acted old new
-acted-by old new (Ok value) acts = acts
-acted-by old new (Err cause) acts = acts.0
-
-pub acts-then : {R G A : Type 0} → (first mid last : Call R G) (result : Result A Halt) → Acted first mid → Acts mid last result → Acts first last result
-acts-then first mid last (Ok value) one two = acted-then first mid last one two
-acts-then first mid last (Err cause) one two = (acted-then first mid last one two.0, two.1)
 
 -- what is done to the rounds of a trace before and behind a step says nothing of what it acted
 module _ {R G : Type 0} (first old new last : Call R G) (begins : SameParts first old) (ends : SameParts new last)
@@ -95,27 +44,6 @@ module _ {R G : Type 0} (first old new last : Call R G) (begins : SameParts firs
 pub acts-around : {R G A : Type 0} → (first old new last : Call R G) (result : Result A Halt) → Acts old new result → SameParts first old → SameParts new last
     → old.pass.now ≡ first.pass.now → old.trace.now.events ≡ first.trace.now.events → last.pass.now ≡ new.pass.now → last.trace.now.events ≡ new.trace.now.events → Acts first last result
 acts-around first old new last result acts begins ends before early behind late = acts_around first old new last begins ends before early behind late result acts
-
--- ---- tests
-
--- no signature was tested
-pub tests-none : {R G A : Type 0} → (count : G → ℕ) (call : Call R G) (value : A) → HasPass call → Tests count call call (Ok value)
-tests-none count call value of = record {
-  acts = acted-none call of;
-  only = only-none call.trace.now [] (pair_of [] []) call.trace.now refl;
-  counted = counts-none call.trace.now.checks call.trace.now.checks _ _ refl refl;
-}
-
--- and memory was wanting
-pub tests-stop : {R G A B : Type 0} → (count : G → ℕ) (old new : Call R G) (value : B) → Tests count old new (Ok value) → Tests {A = A} count old new (Err halt.Memory)
-tests-stop count old new value tests = record { acts = (tests.acts, tt); only = tests.only; counted = tests.counted }
-
--- the result of another type
-pub tests-ok : {R G A B : Type 0} → (count : G → ℕ) (old new : Call R G) (value : A) (other : B) → Tests count old new (Ok value) → Tests count old new (Ok other)
-tests-ok count old new value other tests = record { acts = tests.acts; only = tests.only; counted = tests.counted }
-
-pub tests-err : {R G A B : Type 0} → (count : G → ℕ) (old new : Call R G) (cause : Halt) → Tests {A = A} count old new (Err cause) → Tests {A = B} count old new (Err cause)
-tests-err count old new cause tests = record { acts = tests.acts; only = tests.only; counted = tests.counted }
 
 -- ---- judgements
 

@@ -21,7 +21,7 @@ use Rattle.resolve_round.specs.Courses.{is_call, pages_of, text_got}
 use Rattle.resolve_round.specs.Getting.{IsPlace, NotAsked, OnlyEvents, Point, TakesAsk, WasBefore, point}
 use Rattle.resolve_round.specs.Keeping.{AddsPuts}
 use Rattle.resolve_round.specs.Pages.{findings, good_text}
-use Rattle.resolve_round.specs.Testing.{CountsChecks, OnlyTests}
+use Rattle.resolve_round.specs.Testing.{OnlyTests}
 use Rattle.resolve_round.specs.Traces.{Kept, kept_of, looks_in, puts_in}
 
 fits_report : (calls most : ℕ) (report : Report) → IsPageAnswer report → (is_answered_call report ≡ true → calls < most) → FitsPage false calls most (Some report)
@@ -136,6 +136,3 @@ module _ (old mid new : Trace) (only : OnlyEvents old mid) where
   same-got later =
       let same = same-call old mid only in
       record { moment = later.moment ∙ same.moment; epoch = later.epoch ∙ same.epoch; keys = later.keys ∙ same.keys; searches = later.searches ∙ same.searches }
-
-  pub counts-got : (before now : ℕ) → CountsChecks mid.checks new.checks before now → CountsChecks old.checks new.checks before now
-  counts-got before now counts = subst (λ checks. CountsChecks checks new.checks before now) (same-checks old mid only) counts

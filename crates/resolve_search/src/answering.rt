@@ -7,20 +7,20 @@ ghost use Rattle.entity_statement.specs.Told.{told};
 ghost use Rattle.chain_climb.specs.Climbs.{page_named};
 ghost use Rattle.chain_climb.specs.Elements.{Among};
 ghost use Rattle.resolve_search.specs.Answering.{IsPageReport, IsRead, IsUseless, TellsAsk, is_link, passes_as, put_of, was_called};
-ghost use Rattle.resolve_search.specs.Calls.{HasPass, IsReady, Keeps, Tests, point_of};
+ghost use Rattle.resolve_search.specs.Calls.{Keeps};
+ghost use Rattle.resolve_round.specs.Calls.{HasPass, IsReady, Tests, point_of};
 ghost use Rattle.resolve_round.specs.Courses.{is_hit};
 ghost use Rattle.resolve_round.specs.Linking.{LinkUsed, link_view};
 ghost use Rattle.resolve_round.specs.Knowing.{AnswersStand};
 ghost use Rattle.resolve_round.specs.Testing.{KeepsGood, KeepsTrue};
 ghost use Rattle.resolve_round.specs.Traces.{looks_in, puts_in};
 
-use crate::call::Call;
 use chain_climb::{Answer, Origin};
 use entity_id::EntityId;
 use entity_statement::{SignedStatement, Statement};
 use fed_base::{Ledger, Text};
 use fed_ports::Link;
-use resolve_round::{Aim, Ask, Got, Halt, Search, keep_new, obtain, read_got, seals_itself};
+use resolve_round::{Aim, Ask, Call, Got, Halt, Search, keep_new, obtain, read_got, seals_itself};
 use std::sync::Wait;
 
 // A page that a session wants: who issues it and whom it is about, and where it stands.
@@ -74,16 +74,7 @@ fn passes<R: Wait, G: Ledger>(
     if !signed.statement.is_current(call.trace.moment) {
         return Ok(false);
     }
-    seals_itself(
-        call.commons,
-        call.rt,
-        call.alloc,
-        call.pass,
-        call.trace,
-        call.steps,
-        url,
-        signed,
-    )
+    seals_itself(call, url, signed)
 }
 
 // Keeps a statement of the wanted names, where it was fetched now, and tells whether it is good.
@@ -109,17 +100,7 @@ fn try_read<R: Wait, G: Ledger>(
     ensures passes { IfOk result (λ good. good
         ≡ passes_as (bytes_eq issuer.now subject.now) call.old.trace.now.moment signed.now.compact.whole (told signed.now.statement)) }
 {
-    keep_new(
-        call.commons,
-        call.rt,
-        call.alloc,
-        call.pass,
-        call.trace,
-        age,
-        fresh,
-        &ask.url,
-        signed,
-    )?;
+    keep_new(call, age, fresh, &ask.url, signed)?;
     let own = is_own(issuer, subject);
     let good = passes(call, own, &ask.url, signed)?;
     Ok(good)
@@ -201,18 +182,7 @@ pub(crate) fn answer_page<R: Wait, L: Link, G: Ledger>(
     ensures link { LinkUsed (link_view L.calls L.link_faults L.web L.gave) link.old link.new search.old search.new result }
     ensures report { IfOk result (IsPageReport aim.now (page_named page.now.issuer.now page.now.subject.now page.now.url.now) (point_of call.old search.old) (point_of call.new search.new)) }
 {
-    let Some(place) = obtain(
-        call.commons,
-        call.rt,
-        call.alloc,
-        call.pass,
-        call.trace,
-        search,
-        link,
-        aim,
-        page.url,
-    )?
-    else {
+    let Some(place) = obtain(call, search, link, aim, page.url)? else {
         return Ok(None);
     };
     let ask = &search.asks.as_slice()[place.at];

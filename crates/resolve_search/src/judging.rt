@@ -7,17 +7,17 @@ ghost use Rattle.jws_form.specs.Splitting.{splitting};
 ghost use Rattle.sealed.specs.Seals.{IsSealed, pair_of};
 ghost use Rattle.chain_check.specs.Judging.{NeedsTest, texts_of};
 ghost use Rattle.resolve_round.specs.Courses.{pages_of};
-ghost use Rattle.resolve_search.specs.Calls.{HasPass, Judges, Tests};
+ghost use Rattle.resolve_search.specs.Calls.{Judges};
+ghost use Rattle.resolve_round.specs.Calls.{HasPass, Tests};
 ghost use Rattle.resolve_search.specs.Judging.{AreGot, IsCandidate, IsRuled, IsRulingOf, IsSealedMore, IsTried, IsTurn, case_at, gives_text, refused_as, texts_at, untried, url_for};
 ghost use Rattle.resolve_round.specs.Knowing.{AnswersStand, HoldsSoFar, IsAnswer, IsKnownGood};
 ghost use Rattle.resolve_round.specs.Testing.{KeepsKnown, StaysProved, StaysTrue};
 
-use crate::call::Call;
 use chain_check::{Judged, Reason, Resolved, Screened, Tried, Verdict, judge_candidate, screen};
 use entity_statement::SignedStatement;
 use fed_base::{Duplicate, Ledger, Memory, Seq, Text};
 use jws_form::{Compact, FormFault, split};
-use resolve_round::{Aim, Ask, Halt, Search, text_got, verifies};
+use resolve_round::{Aim, Ask, Call, Halt, Search, text_got, verifies};
 use sealed::Sealed;
 use std::alloc::Global;
 use std::sync::Wait;
@@ -156,17 +156,7 @@ fn text_verifies<R: Wait, G: Ledger>(
     ensures proved { OnOk result (StaysProved url.now (pair_of text.now public.now) call.old.trace.now call.new.trace.now) }
 {
     let compact = compact_of(call.alloc, text)?;
-    verifies(
-        call.commons,
-        call.rt,
-        call.alloc,
-        call.pass,
-        call.trace,
-        call.steps,
-        url,
-        &compact,
-        public,
-    )
+    verifies(call, url, &compact, public)
 }
 
 // Makes the test that is wanted. Where the text verifies, one seal more of the chain is known; where it doesn't, the chain fails.

@@ -7,10 +7,8 @@
 #![tactic(auto)]
 
 mod answering;
-mod call;
 mod judging;
 mod round;
 
-pub use call::Call;
-pub use resolve_round::{Aim, Halt};
+pub use resolve_round::{Aim, Call, Halt};
 pub use round::{FoundChain, RoundEnd, search_round};

@@ -6,17 +6,17 @@ ghost use Rattle.chain_climb.specs.Wants.{HasMade, next_want};
 ghost use Rattle.chain_climb.specs.declared.want.End.TheVariants.{Budget, Found};
 ghost use Rattle.resolve_round.specs.Linking.{LinkSeen, LinkUsed, UsesLink, link_view};
 ghost use Rattle.resolve_round.specs.Told.{IsTrueSoFar, ProvesGood};
-ghost use Rattle.resolve_search.specs.Calls.{Acts, Counted, HasPass, IsReady, Keeps, point_of};
+ghost use Rattle.resolve_round.specs.Calls.{Acts, Counted, HasPass, IsReady, point_of};
+ghost use Rattle.resolve_search.specs.Calls.{Keeps};
 ghost use Rattle.resolve_search.specs.Turning.{Grows, HasRound, IsRoundEnd, RoundUsed, SameBut, Turns, UnderWay, WantsPageNow, WantsVerdictNow, blank, ended_as};
 
 use crate::answering::{WantedPage, answer_page};
-use crate::call::Call;
 use crate::judging::{Ruling, judge_path};
 use chain_check::{Resolved, Tried};
 use chain_climb::{Answer, End, Path, Session, Want};
 use fed_base::{Duplicate, Ledger, Memory, Seq};
 use fed_ports::Link;
-use resolve_round::{Aim, Halt, Search};
+use resolve_round::{Aim, Call, Halt, Search};
 use std::alloc::Global;
 use std::sync::Wait;
 

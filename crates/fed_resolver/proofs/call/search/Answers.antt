@@ -12,7 +12,7 @@ use Rattle.fed_resolver.specs.Told.{situation_of}
 use Rattle.fed_resolver.specs.Uses.{CountsTests}
 use Rattle.fed_resolver.proofs.BeginLaws.{counts-broken, whole-broken, worn-broken}
 use Rattle.fed_resolver.proofs.SearchLaws.{begun-good, begun-true, leaf-found, leaf-refused}
-use Rattle.resolve_search.proofs.CallLaws.{acted-of, acted-then}
+use Rattle.resolve_round.proofs.CallLaws.{acted-of, acted-then}
 use Rattle.fed_resolver.proofs.StretchLaws.{goes-on_to, goes-still, goes-then, parts-acted, parts-none, stumbled-still, stumbles-then, walks-then}
 use Rattle.fed_resolver.proofs.TickLaws.{checks-counted, goes-answered, goes-broken, some-counted, walks-answered, walks-broken}
 use Rattle.fed_resolver.proofs.WholeLaws.{counts-by, refused-answered, refused-unworn, whole-by}

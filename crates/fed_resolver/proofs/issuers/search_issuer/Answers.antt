@@ -4,7 +4,7 @@ use Rattle.entity_statement.specs.Signed.{statement_of}
 use Rattle.resolve_round.specs.declared.aim.Aim.{Aim}
 use Rattle.resolve_round.specs.Linking.{link_view}
 use Rattle.resolve_round.proofs.TestingLaws.{counts-none}
-use Rattle.resolve_search.proofs.CallLaws.{acted-none}
+use Rattle.resolve_round.proofs.CallLaws.{acted-none}
 use Rattle.fed_resolver.specs.Going.{HasRounds, KeepsBy, first_text, usual_aim}
 use Rattle.fed_resolver.specs.Stretches.{CanGoOn, Goes, GoesTo, moment_of}
 use Rattle.fed_resolver.proofs.KeptLaws.{issuer-kept, issuer-none, issuer-reads}

@@ -3,7 +3,7 @@ use Rattle.std.proofs.lemmas.Result.{err_from_is_err_and}
 use Rattle.std.proofs.lemmas.List.{take_all}
 use Rattle.resolve_round.specs.Linking.{link_view}
 use Rattle.resolve_round.proofs.TestingLaws.{counts-none, counts-sum}
-use Rattle.resolve_search.proofs.CallLaws.{acted-none, acted-of, acted-then}
+use Rattle.resolve_round.proofs.CallLaws.{acted-none, acted-of, acted-then}
 use Rattle.fed_resolver.specs.Going.{HasIssuers, usual_aim}
 use Rattle.fed_resolver.specs.Stretches.{moment_of}
 use Rattle.fed_resolver.proofs.IssuerLaws.{fresh-at, issuers-more, issuers-none, taken-more}

@@ -1,7 +1,7 @@
 use Rattle.std.proofs.Common.{◌≡◌, take}
 use Rattle.resolve_round.specs.Linking.{link_view}
 use Rattle.resolve_round.specs.Told.{ProvesGood}
-use Rattle.resolve_search.specs.Calls.{Acted, Counted}
+use Rattle.resolve_round.specs.Calls.{Acted, Counted}
 use Rattle.fed_resolver.specs.Going.{HasIssuers, usual_aim}
 use Rattle.fed_resolver.specs.Stretches.{Goes, WalkedRounds, moment_of}
 use Rattle.fed_resolver.proofs.issuers.search_issuers.Given as goal

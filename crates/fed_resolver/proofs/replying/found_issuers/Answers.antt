@@ -2,7 +2,7 @@ use Rattle.std.proofs.Common.{refl, inl}
 use Rattle.std.proofs.lemmas.Result.{err_from_is_err_and}
 use Rattle.resolve_round.specs.Linking.{link_view}
 use Rattle.resolve_round.proofs.TestingLaws.{counts-none}
-use Rattle.resolve_search.proofs.CallLaws.{acted-none}
+use Rattle.resolve_round.proofs.CallLaws.{acted-none}
 use Rattle.fed_resolver.specs.Stretches.{moment_of}
 use Rattle.fed_resolver.proofs.StretchLaws.{goes-still, stumbled-still}
 use Rattle.fed_resolver.proofs.replying.found_issuers.Goals as goal

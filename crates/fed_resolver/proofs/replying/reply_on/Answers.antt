@@ -2,7 +2,7 @@ use Rattle.std.proofs.Common.{IsSome, refl, sym, ap, ◌∙◌, subst, inl}
 use Rattle.std.proofs.lemmas.Result.{err_from_is_err_and}
 use Rattle.entity_statement.specs.Signed.{statement_of}
 use Rattle.resolve_round.specs.Linking.{link_view}
-use Rattle.resolve_search.proofs.CallLaws.{acted-none}
+use Rattle.resolve_round.proofs.CallLaws.{acted-none}
 use Rattle.fed_resolver.specs.Going.{first_text, last_text}
 use Rattle.fed_resolver.specs.Outcomes.{asked_query}
 use Rattle.fed_resolver.specs.Stretches.{moment_of}

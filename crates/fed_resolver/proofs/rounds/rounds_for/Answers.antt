@@ -2,7 +2,7 @@ use Rattle.std.proofs.Common.{◌≡◌, ℕ, Ok, Err, true, false, refl, sym, a
 use Rattle.std.proofs.lemmas.Result.{err_from_is_err_and}
 use Rattle.resolve_round.specs.Linking.{link_view}
 use Rattle.resolve_round.proofs.TestingLaws.{counts-sum}
-use Rattle.resolve_search.proofs.CallLaws.{acted-by, acted-of, acts-then}
+use Rattle.resolve_round.proofs.CallLaws.{acted-by, acted-of, acts-then}
 use Rattle.fed_resolver.specs.Going.{is_settled}
 use Rattle.fed_resolver.specs.Stretches.{moment_of}
 use Rattle.fed_resolver.proofs.CourseLaws.{rounds-again, rounds-settled}

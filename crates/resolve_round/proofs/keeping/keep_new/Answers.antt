@@ -1,9 +1,7 @@
 use Rattle.std.proofs.lemmas.Result.{IfOk-weaker}
-use Rattle.turn_log.specs.Groups.{known}
 use Rattle.entity_statement.specs.Told.{told}
-use Rattle.resolve_round.proofs.ActsLaws.{continues-none}
+use Rattle.resolve_round.proofs.CallLaws.{cache-none}
 use Rattle.resolve_round.proofs.KeepingLaws.{puts-new, puts-old}
-use Rattle.resolve_round.proofs.PassLaws.{kept-same}
 use Rattle.resolve_round.proofs.keeping.keep_new.Goals as goal
 
 pub returns-then-fresh-clause-holds : goal.returns-then-fresh-clause-holds
@@ -15,14 +13,11 @@ returns-then-fresh-clause-good g c = IfOk-weaker c.keep.result _ _ (λ _ kept se
 pub returns-then-fresh-clause-puts : goal.returns-then-fresh-clause-puts
 returns-then-fresh-clause-puts g c =
     IfOk-weaker c.keep.result _ _
-    (λ _ adds. puts-new c.args.fresh c.args.trace.now c.args.age c.args.url.now c.args.signed.now.compact.whole (told c.args.signed.now.statement) c.keep.new.trace.events c.if-fresh.true adds)
+    (λ _ adds. puts-new c.args.fresh c.args.call.now.trace.now c.args.age c.args.url.now c.args.signed.now.compact.whole (told c.args.signed.now.statement) c.keep.new.call.trace.now.events c.if-fresh.true adds)
     c.keep.ensures.puts
 
-pub returns-else-fresh-clause-kept : goal.returns-else-fresh-clause-kept
-returns-else-fresh-clause-kept g c = kept-same c.args.commons.now c.args.pass.now c.requires.of
-
-pub returns-else-fresh-clause-continues : goal.returns-else-fresh-clause-continues
-returns-else-fresh-clause-continues g c = continues-none c.args.trace.now.events (known c.args.pass.now)
+pub returns-else-fresh-clause-uses : goal.returns-else-fresh-clause-uses
+returns-else-fresh-clause-uses g c = cache-none c.args.call.now _ c.requires.of
 
 pub returns-else-fresh-clause-holds : goal.returns-else-fresh-clause-holds
 returns-else-fresh-clause-holds g c = λ search page holds. holds
@@ -32,4 +27,4 @@ returns-else-fresh-clause-good g c = λ search page good. good
 
 pub returns-else-fresh-clause-puts : goal.returns-else-fresh-clause-puts
 returns-else-fresh-clause-puts g c =
-    puts-old c.args.fresh c.args.trace.now c.args.age c.args.url.now c.args.signed.now.compact.whole (told c.args.signed.now.statement) c.if-fresh.false
+    puts-old c.args.fresh c.args.call.now.trace.now c.args.age c.args.url.now c.args.signed.now.compact.whole (told c.args.signed.now.statement) c.if-fresh.false

@@ -1,13 +1,11 @@
-use Rattle.std.proofs.Common.{take}
-use Rattle.turn_log.specs.Groups.{known}
-use Rattle.resolve_round.specs.Acts.{Continues, IsKept}
+use Rattle.std.proofs.Common.{take, Ok}
+use Rattle.resolve_round.specs.Calls.{UsesCache}
 use Rattle.resolve_round.specs.Proving.{AddsProves, ProvesEach}
 use Rattle.resolve_round.proofs.proving.prove_tested.Given as goal
 
-abbrev pub invariant-loop-check : goal.invariant-loop-check
-invariant-loop-check g l = record {
-  kept : IsKept l.commons l.fn.pass l.pass;
-  continues : Continues l.fn.events l.events (known l.fn.pass) (known l.pass);
-  adds : AddsProves l.checks l.fn.events l.events;
-  each : ProvesEach (take l.check-index l.checks) l.url l.text l.fn.events l.events;
+abbrev pub invariant-loop-at : goal.invariant-loop-at
+invariant-loop-at g l = record {
+  uses : UsesCache {A = Unit {0}} l.fn.call l.call (Ok tt);
+  adds : AddsProves l.fn.call.trace.now.checks l.fn.call.trace.now.events l.call.trace.now.events;
+  each : ProvesEach (take l.at l.fn.call.trace.now.checks) l.url l.text l.fn.call.trace.now.events l.call.trace.now.events;
 }

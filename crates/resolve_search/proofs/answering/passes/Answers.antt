@@ -1,8 +1,8 @@
-use Rattle.std.proofs.Common.{true, false, refl, sym, ◌∙◌}
+use Rattle.std.proofs.Common.{true, false, sym, ◌∙◌}
 use Rattle.std.proofs.lemmas.Result.{IfOk-weaker}
 use Rattle.entity_statement.specs.Told.{told}
 use Rattle.resolve_search.proofs.AnsweringLaws.{passes-old, passes-other, passes-own}
-use Rattle.resolve_search.proofs.CallLaws.{acts-by, tests-none}
+use Rattle.resolve_round.proofs.CallLaws.{tests-none}
 use Rattle.resolve_search.proofs.answering.passes.Goals as goal
 
 -- ---- a superior's statement
@@ -36,13 +36,6 @@ pub returns-then-not-is_current-clause-proved : goal.returns-then-not-is_current
 returns-then-not-is_current-clause-proved g c = λ search obtained good. good
 
 -- ---- one that is
-
-pub returns-clause-tests : goal.returns-clause-tests
-returns-clause-tests g c = record {
-  acts = acts-by _ _ c.seals_itself.result (record { parts = record { commons = refl; pass = refl; trace = refl; steps = refl }; kept = c.seals_itself.ensures.kept; continues = c.seals_itself.ensures.continues }) c.seals_itself.ensures.halt;
-  only = c.seals_itself.ensures.only;
-  counted = c.seals_itself.ensures.counted;
-}
 
 pub returns-clause-passes : goal.returns-clause-passes
 returns-clause-passes g c =

@@ -4,7 +4,7 @@ use Rattle.sealed.specs.Seals.{pair_of}
 use Rattle.chain_check.specs.Judging.{texts_of}
 use Rattle.resolve_search.specs.Judging.{IsTried, IsTurn, case_at}
 use Rattle.resolve_search.specs.declared.judging.Turn.TheVariants.{More, Ruled}
-use Rattle.resolve_search.proofs.CallLaws.{acted-none, acted-of, acted-then}
+use Rattle.resolve_round.proofs.CallLaws.{acted-none, acted-of, acted-then}
 use Rattle.resolve_search.proofs.ChainLaws.{case-same, got-same, turn-candidate, turn-tried}
 use Rattle.resolve_round.proofs.TestingLaws.{counts-none, counts-sum, only-none, only-then}
 use Rattle.resolve_search.proofs.judging.judge_turns.Goals as goal

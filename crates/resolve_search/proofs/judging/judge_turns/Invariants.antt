@@ -1,7 +1,7 @@
 use Rattle.std.proofs.Common.{◌≤◌, ◌+◌}
 use Rattle.chain_check.specs.Chains.{max_statements}
 use Rattle.chain_check.specs.Judging.{texts_of}
-use Rattle.resolve_search.specs.Calls.{Acted, Counted}
+use Rattle.resolve_round.specs.Calls.{Acted, Counted}
 use Rattle.resolve_search.specs.Judging.{IsTried, case_at}
 use Rattle.resolve_round.specs.Knowing.{HoldsSoFar, with_search}
 use Rattle.resolve_round.specs.Testing.{OnlyTests}

@@ -3,7 +3,7 @@ use Rattle.std.proofs.lemmas.Result.{err_from_is_err_and}
 use Rattle.std.specs.Option.{option_copied}
 use Rattle.chain_check.specs.Judging.{texts_of}
 use Rattle.resolve_search.specs.Judging.{case_at}
-use Rattle.resolve_search.proofs.CallLaws.{tests-err, tests-ok, tests-stop}
+use Rattle.resolve_round.proofs.CallLaws.{tests-err, tests-ok, tests-stop}
 use Rattle.resolve_search.proofs.ChainLaws.{needs-within, wanted-fails, wanted-got, wanted-may, wanted-more, wanted-sealed, wanted-splits}
 use Rattle.resolve_round.proofs.GettingLaws.{holds-answers}
 use Rattle.resolve_search.proofs.judging.test_seal.Goals as goal

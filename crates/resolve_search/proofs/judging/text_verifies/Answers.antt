@@ -1,10 +1,10 @@
-use Rattle.std.proofs.Common.{◌≡◌, IfOk, true, refl, subst}
+use Rattle.std.proofs.Common.{◌≡◌, IfOk, true, subst}
 use Rattle.std.proofs.lemmas.Result.{IfOk-weaker, err_from_is_err_and}
 use Rattle.jws_form.proofs.Laws.{IsCompact-whole}
 use Rattle.sealed.specs.Seals.{pair_of}
 use Rattle.resolve_round.specs.Knowing.{IsAnswer, IsKnownGood}
 use Rattle.resolve_round.specs.Testing.{StaysProved, StaysTrue}
-use Rattle.resolve_search.proofs.CallLaws.{acts-by, tests-none, tests-stop}
+use Rattle.resolve_round.proofs.CallLaws.{tests-none, tests-stop}
 use Rattle.resolve_search.proofs.judging.text_verifies.Goals as goal
 
 -- ---- memory was wanting as the text was taken apart
@@ -25,25 +25,18 @@ returns-in_err-compact-clause-stays_true g c = λ age search may holds. holds
 pub verifies-requires-clause-compact : goal.verifies-requires-clause-compact
 verifies-requires-clause-compact g c = IsCompact-whole c.args.text.now c.in_ok-compact.compact c.in_ok-compact.ensures
 
-pub returns-clause-tests : goal.returns-clause-tests
-returns-clause-tests g c = record {
-  acts = acts-by _ _ c.verifies.result (record { parts = record { commons = refl; pass = refl; trace = refl; steps = refl }; kept = c.verifies.ensures.kept; continues = c.verifies.ensures.continues }) c.verifies.ensures.halt;
-  only = c.verifies.ensures.only;
-  counted = c.verifies.ensures.counted;
-}
-
 pub returns-clause-answer : goal.returns-clause-answer
 returns-clause-answer g c = subst (λ t. IfOk c.verifies.result (IsAnswer (pair_of t c.args.public.now))) c.in_ok-compact.ensures.whole_is c.verifies.ensures.answer
 
 pub returns-clause-good : goal.returns-clause-good
 returns-clause-good g c =
-    subst (λ t. IfOk c.verifies.result (λ good. good ≡ true → IsKnownGood c.verifies.new.trace (pair_of t c.args.public.now))) c.in_ok-compact.ensures.whole_is c.verifies.ensures.good
+    subst (λ t. IfOk c.verifies.result (λ good. good ≡ true → IsKnownGood c.verifies.new.call.trace.now (pair_of t c.args.public.now))) c.in_ok-compact.ensures.whole_is c.verifies.ensures.good
 
 pub returns-clause-stays_true : goal.returns-clause-stays_true
 returns-clause-stays_true g c =
-    subst (λ t. StaysTrue c.args.url.now (pair_of t c.args.public.now) c.args.call.now.trace.now c.verifies.new.trace) c.in_ok-compact.ensures.whole_is c.verifies.ensures.stays_true
+    subst (λ t. StaysTrue c.args.url.now (pair_of t c.args.public.now) c.args.call.now.trace.now c.verifies.new.call.trace.now) c.in_ok-compact.ensures.whole_is c.verifies.ensures.stays_true
 
 pub returns-clause-proved : goal.returns-clause-proved
 returns-clause-proved g c =
     IfOk-weaker c.verifies.result _ _
-    (λ _ stays. subst (λ t. StaysProved c.args.url.now (pair_of t c.args.public.now) c.args.call.now.trace.now c.verifies.new.trace) c.in_ok-compact.ensures.whole_is stays) c.verifies.ensures.proved
+    (λ _ stays. subst (λ t. StaysProved c.args.url.now (pair_of t c.args.public.now) c.args.call.now.trace.now c.verifies.new.call.trace.now) c.in_ok-compact.ensures.whole_is stays) c.verifies.ensures.proved

@@ -8,7 +8,8 @@ use Rattle.resolve_search.specs.Turning.{IsStep, IsUnderWay}
 use Rattle.resolve_round.proofs.LinkLaws.{uses-none}
 use Rattle.resolve_round.proofs.TestingLaws.{counts-none, counts-sum}
 use Rattle.resolve_round.proofs.WalkLaws.{walked-none}
-use Rattle.resolve_search.proofs.CallLaws.{acted-none, acted-of, acted-then, keeps-stop, link-by, link-then}
+use Rattle.resolve_round.proofs.CallLaws.{acted-none, acted-of, acted-then}
+use Rattle.resolve_search.proofs.CallLaws.{keeps-stop, link-by, link-then}
 use Rattle.resolve_search.proofs.TurningLaws.{begin-under, call-then}
 use Rattle.resolve_search.proofs.round.drive.Goals as goal
 

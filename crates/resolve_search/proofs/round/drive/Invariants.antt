@@ -1,7 +1,7 @@
 use Rattle.std.proofs.Common.{◌+◌, ◌^◌, length}
 use Rattle.std.specs.Prelude.{◌-◌}
 use Rattle.resolve_search.specs.Answering.{SameCall}
-use Rattle.resolve_search.specs.Calls.{Acted, Counted}
+use Rattle.resolve_round.specs.Calls.{Acted, Counted}
 use Rattle.resolve_round.specs.Getting.{point}
 use Rattle.resolve_round.specs.Knowing.{HoldsSoFar, with_search}
 use Rattle.resolve_round.specs.Linking.{UsesLink, link_seen}

@@ -7,7 +7,8 @@ use Rattle.resolve_round.proofs.GettingLaws.{holds-counts}
 use Rattle.resolve_round.proofs.LinkLaws.{uses-none}
 use Rattle.resolve_round.proofs.TestingLaws.{counts-none}
 use Rattle.resolve_round.proofs.WalkLaws.{walked-none}
-use Rattle.resolve_search.proofs.CallLaws.{acted-none, keeps-stop, link-by}
+use Rattle.resolve_round.proofs.CallLaws.{acted-none}
+use Rattle.resolve_search.proofs.CallLaws.{keeps-stop, link-by}
 use Rattle.resolve_search.proofs.TurningLaws.{asks-ended, done-turn, good-ended, ok-always, holds-ended, uses-ended, wants-configuration, wants-statement}
 use Rattle.resolve_search.proofs.round.step.Goals as goal
 

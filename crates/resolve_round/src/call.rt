@@ -1,7 +1,7 @@
 // What a resolve call works with.
 
+use crate::trace::Trace;
 use fed_base::{Ledger, Steps};
-use resolve_round::Trace;
 use statement_shelf::{Commons, FedPass};
 use std::alloc::Global;
 
