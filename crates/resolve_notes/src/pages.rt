@@ -2,7 +2,7 @@
 
 use crate::reading::belongs;
 use chain_check::{Reason, Verdict};
-use chain_notes::{Asked, explain_verdict};
+use chain_notes::{Asked, Named, explain_verdict};
 use entity_statement::{SignedStatement, Statement};
 use fed_base::{Duplicate, Seq, Text};
 use fed_ports::Page;
@@ -182,25 +182,22 @@ fn explain_seal(
     notes: &mut Notes,
 ) {
     let about = about(alloc, ask);
-    let Some(kid) = &signed.compact.kid else {
+    let own = &signed.statement.jwks;
+    let Some(named) = Named::of(&signed.compact) else {
         notes.say(about.and(b" has no kid in its header, the name of the key that signed"));
         return;
     };
-    match signed.statement.jwks.key_of(kid, signed.compact.alg) {
-        None => notes.say(
-            about
-                .and(b" is signed by the key ")
-                .and(kid.as_slice())
+    match named.key_in(own) {
+        None => notes.say(named.with_other(
+            named
+                .after(about.and(b" is signed by the "))
                 .and(b", which isn't in its own jwks"),
-        ),
+            own,
+        )),
         Some(public) => {
             let text = signed.compact.whole.as_slice();
             if checked(trace.checks.as_slice(), text, &public) == Some(false) {
-                notes.say(
-                    about
-                        .and(b": the signature doesn't verify under its own key ")
-                        .and(kid.as_slice()),
-                );
+                notes.say(named.after(about.and(b": the signature doesn't verify under its own ")));
             }
         }
     }

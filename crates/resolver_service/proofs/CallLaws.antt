@@ -8,8 +8,10 @@ use Rattle.http_plain.specs.Links.{Listening, link_network, link_routes}
 use Rattle.jws_form.specs.Compact.{max_bytes}
 use Rattle.sealed.specs.Seals.{IsSealedBy}
 use Rattle.sealed.specs.Sealing.{IsSealedFor}
+use Rattle.slh_dsa.specs.Keys.{Keys}
 use Rattle.key_ring.specs.Rings.{Ring}
-use Rattle.key_ring.specs.Sets.{live_set, signer_seeds}
+use Rattle.key_ring.specs.Sets.{live_set, signer_keys}
+use Rattle.key_ring.proofs.SetLaws.{signer_named}
 use Rattle.authority_core.specs.Nodes.{Node}
 use Rattle.turn_log.specs.Groups.{known}
 use Rattle.statement_shelf.specs.Passes.{CommonsPass}
@@ -34,7 +36,6 @@ use Rattle.resolver_service.specs.Exchanged.{ExchangedBy}
 use Rattle.resolver_service.specs.Calls.{HasKeys}
 use Rattle.resolver_service.specs.CallSteps.{IsCallWith}
 use Rattle.node_files.specs.ResolvingParts.{ArePartsOf}
-use Rattle.resolver_service.proofs.SignerLaws.{signer-named}
 
 -- ---- the network is put back
 
@@ -78,15 +79,15 @@ module _ {S T : Type 0} where
 
 -- ---- the node
 
-sealed-live : (result : Result Reply Refusal) (ring : Ring) (seeds keys : List ℕ) → signer_seeds ring ≡ Some seeds → keys ≡ seeds → IfOk result (λ reply. IsSealedFor keys reply.text)
+sealed-live : (result : Result Reply Refusal) (ring : Ring) (pair keys : Keys) → signer_keys ring ≡ Some pair → keys ≡ pair → IfOk result (λ reply. IsSealedFor keys reply.text)
     → IfOk result (λ reply. length reply.text ≤ max_bytes → IsSealedBy reply.text (live_set ring))
-sealed-live result ring seeds keys signs same = IfOk-weaker result _ _
-    (λ reply sealed short. subst (λ ks. IsSealedFor ks reply.text) same sealed (live_set ring) (record { short = short; named = signer-named ring seeds signs }))
+sealed-live result ring pair keys signs same = IfOk-weaker result _ _
+    (λ reply sealed short. subst (λ ks. IsSealedFor ks reply.text) same sealed (live_set ring) (record { short = short; named = signer_named ring pair signs }))
 
 pub call-by : (node : Node) (parts : Parts) (request : ResolveRequest) (before now : Around) (outcome : Outcome) (are : ArePartsOf node parts) → IsCallWith parts request before now outcome
     → IsCallBy node are.resolver request before now outcome
 call-by node parts request before now outcome are call = record {
-  seeds = are.seeds;
+  pair = are.keys;
   signs = are.signs;
   clock = call.clock;
   anchors = parts.anchors;
@@ -96,7 +97,7 @@ call-by node parts request before now outcome are call = record {
   exchanges = subst (λ routes. ExchangedBy routes (asks_in outcome.trace.searches) before.exchanges now.exchanges outcome.result) are.routes call.exchanges;
   faults = call.fails.faults;
   unavailable = call.fails.unavailable;
-  sealed = sealed-live outcome.result node.ring are.seeds parts.signer.keys are.signs (ap (λ (s : Signer). s.keys) are.signer) call.told.sealed;
+  sealed = sealed-live outcome.result node.ring are.keys parts.signer.keys are.signs (ap (λ (s : Signer). s.keys) are.signer) call.told.sealed;
 }
 
 -- ---- there is no call

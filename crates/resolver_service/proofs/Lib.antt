@@ -13,6 +13,5 @@ mod OwnCalls
 mod PassLaws
 mod PlaceLaws
 mod RoundLaws
-mod SignerLaws
 mod StopLaws
 mod WebLaws

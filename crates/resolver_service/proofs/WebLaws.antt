@@ -215,7 +215,7 @@ module _ (in_part : InPart) (node : Node) (resolver : Resolver) (request : Resol
   here = situation_of request resolver.age now.clock.last
 
   abbrev signer : Signer
-  signer = signer_of node resolver call.seeds
+  signer = signer_of node resolver call.pair
 
   told : ToldInPart here outcome.trace
   told = told-part in_part here signer outcome outcome.result call.alone.resolves.tells

@@ -6,7 +6,8 @@ use Rattle.fed_ports.specs.Times.{ClockAt, IsOneReading}
 use Rattle.jwk_set.specs.declared.jwk.Jwk.{Jwk}
 use Rattle.jws_form.specs.Compact.{max_bytes}
 use Rattle.sealed.specs.Seals.{IsSealedBy}
-use Rattle.key_ring.specs.Sets.{live_set, signer_seeds}
+use Rattle.slh_dsa.specs.Keys.{Keys}
+use Rattle.key_ring.specs.Sets.{live_set, signer_keys}
 use Rattle.node_config.specs.Nodes.{Resolver}
 use Rattle.authority_core.specs.Nodes.{Node}
 use Rattle.turn_log.specs.Runs.{call_limit}
@@ -56,18 +57,18 @@ HasKeys listed keys (Err Memory) = (keys ≡ []) ⊎ (listed ≡ Some keys)
 HasKeys listed keys (Err (Worn count)) = (keys ≡ []) ⊎ (listed ≡ Some keys)
 HasKeys listed keys result = listed ≡ Some keys
 
--- the outcome is that of one call of this node, which resolves so and signs with these seeds
+-- the outcome is that of one call of this node, which resolves so
 pub record IsCallBy (node : Node) (resolver : Resolver) (request : ResolveRequest) (before now : Around) (outcome : Outcome) : Type 0 where
-  -- the key that signs is the newest live one
-  pub seeds : List ℕ
-  pub signs : signer_seeds node.ring ≡ Some seeds
+  -- the key pair that signs is that of the newest live key
+  pub pair : Keys
+  pub signs : signer_keys node.ring ≡ Some pair
   -- the clock was read once
   pub clock : IsOneReading before.clock now.clock
   -- at the moment that it gave, the result is the one that the trace calls for, and the trace is true; no other call was made on the
   -- cache and the book, which were opened empty and with the anchors of the configuration
   pub anchors : List AnchorKeys
   pub listed : map told_anchor anchors ≡ resolver.anchors
-  pub alone : ResolvesAlone (situation_of request resolver.age now.clock.last) (signer_of node resolver seeds) anchors outcome
+  pub alone : ResolvesAlone (situation_of request resolver.age now.clock.last) (signer_of node resolver pair) anchors outcome
   -- the keys are those that the configuration gives the anchor
   pub keys : HasKeys (configured_keys request.anchor resolver.anchors) outcome.trace.keys.keys outcome.result
   -- what was got is what the exchanges of this call say

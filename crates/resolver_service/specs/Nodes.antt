@@ -1,6 +1,7 @@
 -- The node that a resolver serves as, made of a configuration file and its ring.
-use Rattle.std.specs.Prelude.{◌≡◌, ℕ, List, map, Some}
-use Rattle.key_ring.specs.Sets.{signer_seeds}
+use Rattle.std.specs.Prelude.{◌≡◌, List, map, Some}
+use Rattle.slh_dsa.specs.Keys.{Keys}
+use Rattle.key_ring.specs.Sets.{signer_keys}
 use Rattle.node_config.specs.Nodes.{Resolver}
 use Rattle.authority_core.specs.Nodes.{Node as Authority}
 use Rattle.statement_shelf.specs.Book.{opened_with}
@@ -13,9 +14,9 @@ use Rattle.node_files.specs.ResolvingParts.{signer_of, told_anchor}
 -- the part signs by the node's newest live key, keeps pages for the configured age, obeys the configured control keys, and its book was
 -- opened with the configured trust anchors
 pub record IsPartOf (node : Authority) (resolver : Resolver) (part : ResolverPart) : Type 0 where
-  pub seeds : List ℕ
-  pub signs : signer_seeds node.ring ≡ Some seeds
-  pub signer : part.signer ≡ signer_of node resolver seeds
+  pub keys : Keys
+  pub signs : signer_keys node.ring ≡ Some keys
+  pub signer : part.signer ≡ signer_of node resolver keys
   pub control : part.control.keys ≡ resolver.control
   pub anchors : List AnchorKeys
   pub listed : map told_anchor anchors ≡ resolver.anchors
