@@ -2,6 +2,7 @@
 
 ghost use Rattle.statement_shelf.specs.Passes.{IsPassOfAll};
 
+use crate::keys::Key;
 use crate::names::{entity, words};
 use crate::pages::Shop;
 use crate::told::{outcome_told, rotated_told};
@@ -22,13 +23,13 @@ use std::sync::Wait;
 const CALLS: u64 = 1000;
 
 // The key of the resolver, and for how many seconds it keeps pages.
-const RESOLVER: u8 = 4;
+const RESOLVER: Key = Key::small(4);
 
 const AGE: u64 = 600;
 
-// The set of a key by its number.
-fn key_set(alloc: Global, shop: &mut Shop, number: u64) -> Result<JwkSet, Memory> {
-    let text = shop.keys.set(alloc, number.min(255) as u8)?;
+// The set of a key by its name.
+fn key_set(alloc: Global, shop: &mut Shop, key: &str) -> Result<JwkSet, Memory> {
+    let text = shop.keys.set_named(alloc, key)?;
     let Ok(tree) = read_tree(alloc, text.as_slice()) else {
         return Err(Memory);
     };
@@ -38,13 +39,13 @@ fn key_set(alloc: Global, shop: &mut Shop, number: u64) -> Result<JwkSet, Memory
     }
 }
 
-// A trust anchor with its key: a name and a number with a space between them.
+// A trust anchor with its key: their names with a space between them.
 fn anchor_keys(alloc: Global, shop: &mut Shop, given: &str) -> Result<Option<AnchorKeys>, Memory> {
     let (name, key) = given.split_once(' ').unwrap_or((given, ""));
     let Some(anchor) = entity(alloc, name.as_bytes())? else {
         return Ok(None);
     };
-    let keys = key_set(alloc, shop, number(key))?;
+    let keys = key_set(alloc, shop, key)?;
     Ok(Some(AnchorKeys { anchor, keys }))
 }
 

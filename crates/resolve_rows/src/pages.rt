@@ -3,13 +3,13 @@
 ghost use Rattle.std.specs.Prelude.{IfOk};
 ghost use Rattle.std.specs.Str.{IsUtf8};
 
-use crate::keys::Keys;
+use crate::keys::{Key, Keys};
 use crate::names::words;
-use fed_base::{Duplicate, Memory, Seq, Text};
+use fed_base::{Alg, Duplicate, Memory, Seq, Text};
 use fed_net::NamedPage;
 use fed_ports::Page;
 use sealed::seal_payload;
-use slh_dsa::SIGNATURE_BYTES;
+use slh_dsa::{MOST_SIGNATURE_BYTES, signature_bytes};
 use std::alloc::Global;
 
 // A page that is kept under a name. That of a text which stands nowhere has an empty URL.
@@ -53,7 +53,11 @@ fn add_unsealed(alloc: Global, out: &mut Text, claims: &Text) -> Result<(), Memo
     out.push(b'.')?;
     add_encoded(alloc, out, claims.as_slice())?;
     out.push(b'.')?;
-    add_encoded(alloc, out, &[0; SIGNATURE_BYTES])
+    add_encoded(
+        alloc,
+        out,
+        &[0; MOST_SIGNATURE_BYTES][..signature_bytes(Alg::Small)],
+    )
 }
 
 fn unsealed(alloc: Global, claims: &Text) -> Result<Text, Memory> {
@@ -78,11 +82,11 @@ impl Shop {
         key: &str,
         claims: &Text,
     ) -> Result<Text, Memory> {
-        let Ok(number) = key.parse::<u8>() else {
+        let Some(key) = Key::named(key) else {
             return unsealed(alloc, claims);
         };
         let typ = typ_of(alloc, kind)?;
-        let pair = self.keys.pair(number)?;
+        let pair = self.keys.pair(key)?;
         seal_payload(alloc, &pair, &typ, claims.as_slice())
     }
 
@@ -111,11 +115,11 @@ impl Shop {
         Ok(())
     }
 
-    // Adds what stands between two at signs: the set of a key by its number, or the text that is kept under a name.
+    // Adds what stands between two at signs: the set of a key by its name, or the text that is kept under a name.
     fn add_named(&mut self, alloc: Global, out: &mut Text, name: &str) -> Result<(), Memory> {
-        match name.parse::<u8>() {
-            Ok(number) => out.append(self.keys.set(alloc, number)?.as_slice()),
-            Err(_) => self.add_text(out, name),
+        match Key::named(name) {
+            Some(key) => out.append(self.keys.set(alloc, key)?.as_slice()),
+            None => self.add_text(out, name),
         }
     }
 

@@ -27,7 +27,7 @@ fn add_common(
     out.push(b'"')
 }
 
-// Adds the same, with the set of a key by its number.
+// Adds the same, with the set of a key by its name.
 fn add_keyed(
     alloc: Global,
     shop: &mut Shop,
@@ -37,7 +37,7 @@ fn add_keyed(
     exp: &str,
     key: &str,
 ) -> Result<(), Memory> {
-    let keys = shop.keys.set(alloc, number(key).min(255) as u8)?;
+    let keys = shop.keys.set_named(alloc, key)?;
     let added = add_common(out, iss, sub, exp, keys.as_slice());
     drop(keys);
     added
