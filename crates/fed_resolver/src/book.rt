@@ -1,6 +1,6 @@
 // The one reading of the book.
 
-ghost use Rattle.std.specs.Prelude.{◌≡◌, [], ℕ, List, IfErr, OnErr, OnOk};
+ghost use Rattle.std.specs.Prelude.{◌≡◌, [], List, IfErr, OnErr, OnOk};
 ghost use Rattle.turn_log.specs.Groups.{known};
 ghost use Rattle.resolve_round.specs.Acts.{GainsEvents, IsHalt, IsKept};
 ghost use Rattle.statement_shelf.specs.Passes.{IsPassOfAll};

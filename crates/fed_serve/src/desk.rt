@@ -1,6 +1,6 @@
 // What one connection of several is served with.
 
-ghost use Rattle.std.specs.Prelude.{◌≡◌, Some, None};
+ghost use Rattle.std.specs.Prelude.{Some, None};
 ghost use Rattle.fed_serve.specs.Resolutions.{call_at};
 ghost use Rattle.fed_serve.specs.declared.node.Node.{Node as AnyNode};
 ghost use Rattle.fed_serve.specs.Moments.{peer_at};

@@ -1,7 +1,6 @@
 // The message to a request.
 
-ghost use Rattle.std.specs.Prelude.{◌≡◌, ◌≤◌, ℕ, length, take, OnErr, OnOk, IfOk};
-ghost use Rattle.fed_ports.specs.Bytes.{Appends};
+ghost use Rattle.std.specs.Prelude.{◌≡◌, IfOk};
 ghost use Rattle.fed_ports.specs.Causes.{HasCause};
 ghost use Rattle.http_messages.specs.declared.response.Response.{Response as Said};
 ghost use Rattle.http_plain.specs.Responses.{HasReason};

@@ -1,6 +1,6 @@
 // One connection.
 
-ghost use Rattle.std.specs.Prelude.{◌≡◌, IfSome};
+ghost use Rattle.std.specs.Prelude.{IfSome};
 ghost use Rattle.turn_log.specs.Groups.{known};
 ghost use Rattle.statement_shelf.specs.Passes.{IsPassOfAll};
 ghost use Rattle.resolve_round.specs.Acts.{IsKept};

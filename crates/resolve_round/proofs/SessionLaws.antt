@@ -9,7 +9,7 @@ use Rattle.chain_climb.specs.declared.answer.Answer.{Answer}
 use Rattle.chain_climb.specs.declared.answer.Answer.TheVariants.{Good as GoodAnswer, Useless as UselessAnswer, Fault as FaultAnswer, Spent as SpentAnswer, Valid, PolicyFails, Invalid}
 use Rattle.chain_climb.specs.declared.answer.Verdict.{Verdict}
 use Rattle.chain_climb.specs.declared.want.Want.{Want}
-use Rattle.chain_climb.specs.Climbs.{Findings, Need, Step, add, climb, judge, judged, need, needed, with_chain}
+use Rattle.chain_climb.specs.Climbs.{Step, add, climb, judge, judged, need, with_chain}
 use Rattle.chain_climb.specs.Sessions.{AreJudged, IsNext, IsNoChain, Search, Wants, finding_in, findings_of}
 use Rattle.chain_climb.proofs.PrefixLaws.{Agree, SameHead, like-climb}
 use Rattle.resolve_round.specs.Answers.{AnswersTell, IsMadeBy, IsRuling}

@@ -1,9 +1,7 @@
 -- What a link gave, in one call and in calls one after the other.
-use Rattle.std.proofs.Common.{◌≡◌, ◌⊎◌, ℕ, List, [], ◌∷◌, ◌++◌, Result, Ok, Err, refl, sym, ap, ◌∙◌, subst, inl, inr, append-nil, append_assoc}
-use Rattle.fed_ports.specs.declared.link.LinkFault.{LinkFault}
+use Rattle.std.proofs.Common.{◌≡◌, ℕ, List, [], ◌∷◌, ◌++◌, Err, refl, sym, ap, ◌∙◌, subst, inl, inr, append-nil, append_assoc}
 use Rattle.fed_ports.specs.declared.link.LinkFault.TheVariants.{Memory}
 use Rattle.resolve_round.specs.declared.trace.Ask.{Ask}
-use Rattle.resolve_round.specs.declared.trace.Got.{Got}
 use Rattle.resolve_round.specs.Walking.{GaveEach, GaveGot, Giving, Stumbled, Walked}
 
 -- no call

@@ -2,7 +2,6 @@
 
 ghost use Rattle.std.specs.Prelude.{◌≡◌, IfOk};
 ghost use Rattle.std.specs.Option.{option_copied};
-ghost use Rattle.chain_climb.specs.Climbs.{page_named};
 ghost use Rattle.resolve_round.specs.Courses.{text_got};
 ghost use Rattle.resolve_round.specs.Reading.{IsGotReading, IsNamedReading};
 

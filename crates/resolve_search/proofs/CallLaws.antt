@@ -1,5 +1,5 @@
 -- What the steps of a round leave of its call, one after the other.
-use Rattle.std.proofs.Common.{◌≡◌, ℕ, List, [], Result, Ok, Err, refl, sym, subst}
+use Rattle.std.proofs.Common.{◌≡◌, ℕ, [], Result, Ok, Err, refl, sym, subst}
 use Rattle.turn_log.specs.Groups.{known}
 use Rattle.sealed.specs.Seals.{pair_of}
 use Rattle.resolve_round.specs.declared.call.Call.{Call}
@@ -7,7 +7,7 @@ use Rattle.resolve_round.specs.declared.halt.Halt.{Halt}
 use Rattle.resolve_round.specs.declared.halt.Halt.TheVariants as halt
 use Rattle.resolve_round.specs.declared.trace.Search.{Search}
 use Rattle.resolve_round.specs.Acts.{Continues, IsHalt, IsKept}
-use Rattle.resolve_round.specs.Calls.{Acted, Acts, HasPass, IsReady, SameParts, Tests}
+use Rattle.resolve_round.specs.Calls.{Acted, Acts, HasPass, IsReady, SameParts}
 use Rattle.resolve_round.specs.Knowing.{HoldsSoFar}
 use Rattle.resolve_round.specs.Linking.{LinkUsed, LinkView, TriesBy, UsesLink, seen_by}
 use Rattle.resolve_round.specs.Walking.{Walked}

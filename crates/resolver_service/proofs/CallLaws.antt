@@ -1,5 +1,5 @@
 -- One call, from its parts to the node.
-use Rattle.std.proofs.Common.{◌≡◌, ◌≤◌, ℕ, List, length, true, false, Option, Some, None, IfOk, Result, Ok, Err, sym, ap, ◌∙◌, subst}
+use Rattle.std.proofs.Common.{◌≡◌, ◌≤◌, List, length, true, false, Option, Some, None, IfOk, Result, Ok, Err, sym, ap, ◌∙◌, subst}
 use Rattle.std.proofs.lemmas.Result.{IfOk-weaker}
 use Rattle.fed_ports.specs.Exchanges.{Exchange}
 use Rattle.http_plain.specs.declared.link.HttpLink.{HttpLink}

@@ -1,4 +1,4 @@
-use Rattle.std.proofs.Common.{◌++◌, refl, sym, ap, ◌∙◌, append-nil}
+use Rattle.std.proofs.Common.{◌++◌, sym, ap, ◌∙◌, append-nil}
 use Rattle.std.proofs.lemmas.Result.{err_from_is_err_and}
 use Rattle.resolve_round.specs.Traces.{puts_in}
 use Rattle.resolve_search.proofs.AnsweringLaws.{put-useless, read-is, read-split, tells-useless}

@@ -1,4 +1,4 @@
-use Rattle.std.proofs.Common.{Some, None, true, refl}
+use Rattle.std.proofs.Common.{Some, None, true}
 use Rattle.std.proofs.lemmas.Result.{err_from_is_err_and}
 use Rattle.chain_climb.specs.Climbs.{page_named}
 use Rattle.resolve_search.specs.Answering.{IsPageReport}
