@@ -2,7 +2,7 @@
 
 use crate::reading::belongs;
 use chain_check::{Reason, Verdict};
-use chain_notes::{Asked, Named, explain_verdict};
+use chain_notes::{Asked, NamedKey, explain_verdict};
 use entity_statement::{SignedStatement, Statement};
 use fed_base::{Duplicate, Seq, Text};
 use fed_ports::Page;
@@ -183,7 +183,7 @@ fn explain_seal(
 ) {
     let about = about(alloc, ask);
     let own = &signed.statement.jwks;
-    let Some(named) = Named::of(&signed.compact) else {
+    let Some(named) = NamedKey::of(&signed.compact) else {
         notes.say(about.and(b" has no kid in its header, the name of the key that signed"));
         return;
     };
