@@ -1,9 +1,10 @@
 -- What a node resolves with, as its configuration and its ring give it.
-use Rattle.std.specs.Prelude.{◌≡◌, ℕ, List, bytes_eq, find, map, Bool, Option, Some, option_map}
+use Rattle.std.specs.Prelude.{◌≡◌, List, bytes_eq, find, map, Bool, Option, Some, option_map}
 use Rattle.jwk_set.specs.declared.jwk.Jwk.{Jwk}
 use Rattle.jwk_set.specs.declared.set.JwkSet.{JwkSet}
 use Rattle.entity_statement.specs.Claims.{Identifier}
-use Rattle.key_ring.specs.Sets.{signer_seeds}
+use Rattle.slh_dsa.specs.Keys.{Keys}
+use Rattle.key_ring.specs.Sets.{signer_keys}
 use Rattle.node_config.specs.declared.entities.AnchorPart.{AnchorPart}
 use Rattle.node_config.specs.Nodes.{Entity, Resolver}
 use Rattle.authority_core.specs.Nodes.{Node}
@@ -14,9 +15,9 @@ use Rattle.node_files.specs.declared.parts.Parts.{Parts}
 
 -- ---- who signs
 
--- the node signs by the key of these seeds, and keeps pages for the age that its configuration sets
-abbrev pub signer_of : Node → Resolver → List ℕ → Signer
-signer_of node resolver seeds = record { iss = node.settings.id; keys = seeds; age = resolver.age }
+-- the node signs by this key pair, and keeps pages for the age that its configuration sets
+abbrev pub signer_of : Node → Resolver → Keys → Signer
+signer_of node resolver keys = record { iss = node.settings.id; keys = keys; age = resolver.age }
 
 -- ---- trust anchors (OpenID Federation 1.0 section 1.2)
 
@@ -45,9 +46,9 @@ booked_keys anchor anchors = option_map (λ (set : JwkSet). set.keys) (keys_of a
 pub record ArePartsOf (node : Node) (parts : Parts) : Type 0 where
   pub resolver : Resolver
   pub resolves : node.settings.resolver ≡ Some resolver
-  pub seeds : List ℕ
-  pub signs : signer_seeds node.ring ≡ Some seeds
-  pub signer : parts.signer ≡ signer_of node resolver seeds
+  pub keys : Keys
+  pub signs : signer_keys node.ring ≡ Some keys
+  pub signer : parts.signer ≡ signer_of node resolver keys
   pub listed : map told_anchor parts.anchors ≡ resolver.anchors
   pub anchors : (anchor : Identifier) → booked_keys anchor parts.anchors ≡ configured_keys anchor resolver.anchors
   pub routes : parts.routes ≡ resolver.routes

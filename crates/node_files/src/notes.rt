@@ -13,13 +13,13 @@ fn form_of(member: &[u8]) -> &'static [u8] {
     } else if member == b"lifetime".as_slice() {
         b" must be a whole number from 60 to 31536000"
     } else if member == b"metadata".as_slice() {
-        b" must be an object of objects without null and fractions, and all claims of the node together at most 180,000 bytes"
+        b" must be an object of objects without null and fractions, and all claims of the node together at most 179,000 bytes"
     } else if member == b"authority_hints".as_slice() {
         b" must be a list of 1 to 32 identifiers"
     } else if member == b"trust_marks".as_slice() {
         b" must be a list of objects with the texts trust_mark_type and trust_mark"
     } else if member == b"subordinates".as_slice() {
-        b" must be a list of at most 10,000 objects with entity_id and jwks, each entity once, and each statement at most 180,000 bytes"
+        b" must be a list of at most 10,000 objects with entity_id and jwks, each entity once, and each statement at most 179,000 bytes"
     } else {
         further_form_of(member)
     }

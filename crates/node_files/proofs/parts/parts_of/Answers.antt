@@ -10,7 +10,7 @@ returns c =
     record {
       resolver = told_resolver c.in-Some.part.now;
       resolves = is;
-      seeds = c.signer.result.now;
+      keys = c.signer.result.now;
       signs = c.signer.ensures;
       signer = search (rules, c.in_ok-iss.ensures, c.id.ensures, c.twin.ensures);
       listed = ap (map told_anchor) (c.in_ok-anchors.ensures ∙ ap (map anchor_keys) c.as_slice.ensures) ∙ listed c.in-Some.part.now.anchors;
