@@ -3,7 +3,7 @@
 use crate::spelling::{bytes_of, cut, number, told, word};
 use fed_base::{Duplicate, Memory, Text};
 use fed_json::{Json, is_whole, read_tree};
-use jws_form::{Compact, FormFault};
+use jws_form::{Compact, FormFault, algorithm_name};
 use std::alloc::Global;
 
 /// The bytes whose base64url the text is, or that it is that of none. Encoded again they are the text.
@@ -57,7 +57,8 @@ fn copied_parts(alloc: Global, compact: &Compact) -> Result<Text, Memory> {
 }
 
 fn parts(alloc: Global, compact: &Compact) -> Result<Text, Memory> {
-    let mut out = Text::of(alloc, or_dash(&compact.typ))?;
+    let mut out = Text::of(alloc, algorithm_name(compact.alg))?;
+    add_part(&mut out, or_dash(&compact.typ))?;
     add_part(&mut out, or_dash(&compact.kid))?;
     add_part(&mut out, compact.payload.as_slice())?;
     add_part(&mut out, compact.signature.as_slice())?;

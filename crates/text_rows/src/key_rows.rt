@@ -1,9 +1,10 @@
 // Sets of keys.
 
 use crate::spelling::{cut, number, told, word};
-use fed_base::{Duplicate, Memory, Text};
+use fed_base::{Alg, Duplicate, Memory, Text};
 use fed_json::{read_tree, write_tree};
 use jwk_set::{JwkSet, SetFault};
+use jws_form::algorithm_of;
 use std::alloc::Global;
 
 /// The set of a JSON text. A text that isn't JSON has the fault `NotSet` here.
@@ -52,12 +53,16 @@ pub fn as_many(alloc: Global, given: &str) -> Result<Text, Memory> {
     }
 }
 
-/// The public key of that name in a set.
+/// The public key of that name and algorithm in a set.
 pub fn key_of(alloc: Global, given: &str) -> Result<Text, Memory> {
-    let (kid, set) = cut(given);
+    let (kid, given) = cut(given);
+    let (alg, set) = cut(given);
+    let Some(alg) = algorithm_of(alg.as_bytes()) else {
+        return word(alloc, "no algorithm");
+    };
     match set_of(alloc, set.as_bytes()) {
         Ok(set) => {
-            let told = public_of(alloc, &set, kid);
+            let told = public_of(alloc, &set, kid, alg);
             drop(set);
             told
         },
@@ -65,18 +70,22 @@ pub fn key_of(alloc: Global, given: &str) -> Result<Text, Memory> {
     }
 }
 
-fn public_of(alloc: Global, set: &JwkSet, kid: &str) -> Result<Text, Memory> {
+fn public_of(alloc: Global, set: &JwkSet, kid: &str, alg: Alg) -> Result<Text, Memory> {
     let kid = Text::of(alloc, kid.as_bytes())?;
-    match set.key_of(&kid) {
+    match set.key_of(&kid, alg) {
         Some(public) => Text::of(alloc, &public),
         None => word(alloc, "none"),
     }
 }
 
-/// The thumbprint of a public key, which is given in base64url.
+/// The thumbprint of a key: its algorithm, and its bytes in base64url.
 pub fn thumbprint(alloc: Global, given: &str) -> Result<Text, Memory> {
-    match base64url::decode_32(given.as_bytes()) {
-        Some(public) => jwk_set::thumbprint(alloc, &public),
-        None => word(alloc, "no key"),
+    let (alg, public) = cut(given);
+    match (
+        algorithm_of(alg.as_bytes()),
+        base64url::decode_32(public.as_bytes()),
+    ) {
+        (Some(alg), Some(public)) => jwk_set::thumbprint(alloc, alg, &public),
+        _ => word(alloc, "no key"),
     }
 }

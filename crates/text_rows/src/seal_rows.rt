@@ -5,11 +5,11 @@ ghost use Rattle.jws_form.specs.Compact.{IsCompact};
 
 use crate::key_rows::set_of;
 use crate::spelling::{cut, told, word};
-use fed_base::{Duplicate, Memory, Plain, Steps, Text};
+use fed_base::{Alg, Duplicate, Memory, Plain, Steps, Text};
 use fed_json::{Json, is_whole, read_tree};
 use jwk_set::JwkSet;
-use jws_form::{Compact, FormFault};
-use sealed::{SealFault, Sealed, Tested, check_sealed, test_key};
+use jws_form::{Compact, FormFault, algorithm_of};
+use sealed::{SealFault, Sealed, Tested, check_sealed, is_sealed, test_key};
 use slh_dsa::KeyPair;
 use std::alloc::Global;
 
@@ -20,11 +20,15 @@ const SEEDS: [u8; 48] = [
     135, 136, 137, 138, 139, 140, 141, 142, 143,
 ];
 
-/// Signs the claims by the key of the seeds from 96 to 143 and keeps the text for the rows behind it. Answers its length, its first 581
-/// bytes and its last 40.
+/// Signs the claims by the key of that algorithm and the seeds from 96 to 143, and keeps the text for the rows behind it. Answers its
+/// length, its first 581 bytes and its last 40.
 pub fn seal(alloc: Global, given: &str, sealed: &mut Text) -> Result<Text, Memory> {
-    match read_tree(alloc, given.as_bytes()) {
-        Ok(claims) => *sealed = signed(alloc, &claims)?,
+    let (alg, claims) = cut(given);
+    let Some(alg) = algorithm_of(alg.as_bytes()) else {
+        return word(alloc, "no algorithm");
+    };
+    match read_tree(alloc, claims.as_bytes()) {
+        Ok(claims) => *sealed = signed(alloc, alg, &claims)?,
         Err(fault) => return told(alloc, &fault),
     }
     let text = sealed.as_slice();
@@ -36,12 +40,12 @@ pub fn seal(alloc: Global, given: &str, sealed: &mut Text) -> Result<Text, Memor
     Ok(ends)
 }
 
-fn signed(alloc: Global, claims: &Json) -> Result<Text, Memory> {
+fn signed(alloc: Global, alg: Alg, claims: &Json) -> Result<Text, Memory> {
     if !is_whole(claims) || !matches!(claims, Json::Object(_)) {
         return word(alloc, "no claims");
     }
     let typ = Text::of(alloc, b"entity-statement+jwt")?;
-    sealed::seal(alloc, &KeyPair::from_seeds(&SEEDS), &typ, claims)
+    sealed::seal(alloc, &KeyPair::from_seeds(alg, &SEEDS), &typ, claims)
 }
 
 fn taken_apart(alloc: Global, text: &[u8]) -> Result<Compact, FormFault>
@@ -100,7 +104,8 @@ fn pair(alloc: Global, tested: Tested, text: &[u8], public: &[u8; 32]) -> Result
     }
 }
 
-/// The key of a set under which the text verifies, or why it is sealed by none, and how many signatures were checked.
+/// The key of a set under which the text verifies, or why it is sealed by none, and how many signatures were checked; then whether it is
+/// sealed, and how many were checked with that.
 pub fn check(alloc: Global, given: &str, sealed: &Text) -> Result<Text, Memory> {
     check_bytes(alloc, sealed.as_slice(), given)
 }
@@ -146,6 +151,11 @@ fn key_told(alloc: Global, checked: Result<Sealed, SealFault>) -> Result<Text, M
     }
 }
 
+fn add(answer: &mut Text, part: Text) -> Result<(), Memory> {
+    answer.push(b' ')?;
+    answer.append(part.as_slice())
+}
+
 fn checked(alloc: Global, compact: &Compact, set: &JwkSet) -> Result<Text, Memory>
     requires { IsCompact compact.now.whole compact.now }
 {
@@ -153,7 +163,11 @@ fn checked(alloc: Global, compact: &Compact, set: &JwkSet) -> Result<Text, Memor
         ledger: Plain::new(),
     };
     let mut answer = key_told(alloc, check_sealed(alloc, compact, set, &mut steps))?;
-    answer.push(b' ')?;
-    answer.append(told(alloc, &steps.ledger.steps())?.as_slice())?;
+    add(&mut answer, told(alloc, &steps.ledger.steps())?)?;
+    add(
+        &mut answer,
+        told(alloc, &is_sealed(alloc, compact, set, &mut steps)?)?,
+    )?;
+    add(&mut answer, told(alloc, &steps.ledger.steps())?)?;
     Ok(answer)
 }
