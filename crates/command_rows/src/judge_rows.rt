@@ -4,24 +4,17 @@ ghost use Rattle.std.specs.Prelude.{All, IfOk};
 ghost use Rattle.jws_form.specs.Compact.{IsCompact};
 ghost use Rattle.chain_check.specs.Judging.{IsOfItsText};
 
+use crate::seals::{Signer, sealed_claims};
 use base64url::decode_32;
 use chain_check::{Judged, Reason, Tried, Verdict, judge};
 use entity_id::EntityId;
-use fed_base::{Duplicate, Memory, Plain, Seq, Steps, Text};
-use fed_json::{Json, is_whole, read_tree};
+use fed_base::{Alg, Duplicate, Memory, Plain, Seq, Steps, Text};
+use fed_json::read_tree;
 use jwk_set::JwkSet;
 use jws_form::{Compact, FormFault, split};
-use sealed::{Tested, seal, test_key};
-use slh_dsa::KeyPair;
+use sealed::{Tested, test_key};
 use std::alloc::Global;
 use std::str;
-
-// The 48 seeds from 96 to 143.
-const SEEDS: [u8; 48] = [
-    96, 97, 98, 99, 100, 101, 102, 103, 104, 105, 106, 107, 108, 109, 110, 111, 112, 113, 114, 115,
-    116, 117, 118, 119, 120, 121, 122, 123, 124, 125, 126, 127, 128, 129, 130, 131, 132, 133, 134,
-    135, 136, 137, 138, 139, 140, 141, 142, 143,
-];
 
 // What is asked of a chain.
 #[derive(Drop)]
@@ -65,24 +58,13 @@ pub fn told(alloc: Global, given: &str) -> Result<String, Memory> {
     }
 }
 
-fn sealed_tree(alloc: Global, claims: &Json) -> Result<Option<Text>, Memory> {
-    if !is_whole(claims) || !matches!(claims, Json::Object(_)) {
-        return Ok(None);
-    }
-    let typ = Text::of(alloc, b"entity-statement+jwt")?;
-    Ok(Some(seal(alloc, &KeyPair::from_seeds(&SEEDS), &typ, claims)?))
-}
-
-// The claims, sealed.
+// The claims, sealed by the key of the seeds from 96 to 143.
 fn sealed(alloc: Global, question: &Question) -> Result<Option<Text>, Memory> {
-    match read_tree(alloc, question.claims.as_bytes()) {
-        Ok(claims) => {
-            let sealed = sealed_tree(alloc, &claims);
-            drop(claims);
-            sealed
-        }
-        Err(_) => Ok(None),
-    }
+    let signer = Signer {
+        alg: Alg::Small,
+        number: 2,
+    };
+    sealed_claims(alloc, signer, question.claims)
 }
 
 fn taken_apart(alloc: Global, text: &[u8]) -> Result<Compact, FormFault>

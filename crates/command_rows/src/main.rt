@@ -4,8 +4,10 @@
 //! what was answered. A line that begins with `#` tells what the rows behind it are about, and is written as it stands.
 #![tactic(auto)]
 
+mod chain_rows;
 mod judge_rows;
 mod run_rows;
+mod seals;
 
 use fed_base::Memory;
 use std::io;
@@ -17,6 +19,7 @@ fn main(rt: HostRuntime) -> io::Result<()> {
         let row = line.as_str();
         let told = match row.split_once('\t') {
             Some(("run", given)) => run_rows::told(alloc, given),
+            Some(("chain", given)) => chain_rows::told(alloc, given),
             Some(("judge", given)) => judge_rows::told(alloc, given),
             _ => judge_rows::copied(alloc, row),
         };

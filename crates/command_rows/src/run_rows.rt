@@ -11,9 +11,9 @@ use std::str;
 // The call that fails where none is to fail.
 const NEVER: u64 = 99;
 
-// Which calls of the outside fail.
+/// Which calls of the outside fail.
 #[derive(Clone, Copy)]
-struct Faults {
+pub struct Faults {
     /// The source's call of this number.
     source: u64,
     /// The sink's call of this number.
@@ -26,8 +26,8 @@ struct Faults {
     leaves_new: bool,
 }
 
-// The fault that a part spells: its place and its number.
-fn faults_of(part: &str) -> Faults {
+/// The fault that a part spells: its place and its number.
+pub fn faults_of(part: &str) -> Faults {
     let none = Faults {
         source: NEVER,
         sink: NEVER,
@@ -141,7 +141,7 @@ fn ran_from(
 fn source_of(alloc: Global, input: &str, faults: Faults) -> Result<MemorySource, Memory> {
     let mut bytes = Text::of(alloc, input.as_bytes())?;
     bytes.push(b'\n')?;
-    MemorySource::new(alloc, bytes.as_slice(), &[faults.source], 9)
+    MemorySource::new(alloc, bytes.as_slice(), &[faults.source], NEVER)
 }
 
 /// The status, what is written and the file `r` after the command of these words, this fault, this file and this input with a line end.
@@ -149,7 +149,17 @@ pub fn told(alloc: Global, given: &str) -> Result<String, Memory> {
     let (words, given) = given.split_once('\t').unwrap_or((given, ""));
     let (fault, given) = given.split_once('\t').unwrap_or((given, ""));
     let (file, input) = given.split_once('\t').unwrap_or((given, ""));
-    let faults = faults_of(fault);
+    answered(alloc, words, faults_of(fault), file, input)
+}
+
+/// The same of these parts.
+pub fn answered(
+    alloc: Global,
+    words: &str,
+    faults: Faults,
+    file: &str,
+    input: &str,
+) -> Result<String, Memory> {
     let words = words_of(alloc, words)?;
     let mut input = source_of(alloc, input, faults)?;
     let told = ran_from(alloc, &words, file, faults, &mut input);
