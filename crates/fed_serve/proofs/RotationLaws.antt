@@ -9,7 +9,7 @@ use Rattle.sealed.specs.Answers.{Decides, IsChecked, was_checked}
 use Rattle.sealed.specs.Seals.{IsSealedBy, Pair}
 use Rattle.sealed.specs.declared.fault.SealFault.{SealFault}
 use Rattle.sealed.specs.declared.fault.SealFault.TheVariants.{NoKid, NoKey, BadSignature, Memory as WantOfMemory}
-use Rattle.chain_check.proofs.SignatureLaws.{tells-counted}
+use Rattle.sealed.proofs.SealLaws.{tells-counted}
 use Rattle.turn_log.proofs.Gains.{adds-none}
 use Rattle.turn_log.specs.Groups.{AddsOnBook}
 use Rattle.turn_log.specs.declared.worn.Worn.{Worn}
@@ -33,8 +33,8 @@ module _ (control : List Jwk) (change : AnchorChange) (is : IsCompact change.bod
   pub unsealed-answer : (fault : SealFault) (made : Result Response Memory) → IsChecked change.body control (Err fault) → Decides {X = Pair} (Err fault) (IsSealedBy change.body.whole control)
       → now ≡ cond (was_checked {X = Pair} (Err fault)) (next_count before) before → IsUnsealedAnswer fault made
       → IsRotateAnswer control change (rotation_at known before) (rotation_at known now) (Ok made)
-  unsealed-answer NoKid made checked fails count is-made = record { dealing = stranger; dealt = (fails, book-none known, tells-counted control change.body (Err NoKid) (Ok false) before now is refl checked count); answered = is-made }
-  unsealed-answer NoKey made checked fails count is-made = record { dealing = stranger; dealt = (fails, book-none known, tells-counted control change.body (Err NoKey) (Ok false) before now is refl checked count); answered = is-made }
+  unsealed-answer NoKid made checked fails count is-made = record { dealing = stranger; dealt = (fails, book-none known, tells-counted control change.body (Ok false) before now is (Err NoKid) refl checked count); answered = is-made }
+  unsealed-answer NoKey made checked fails count is-made = record { dealing = stranger; dealt = (fails, book-none known, tells-counted control change.body (Ok false) before now is (Err NoKey) refl checked count); answered = is-made }
   unsealed-answer BadSignature made checked fails count is-made =
-      record { dealing = stranger; dealt = (fails, book-none known, tells-counted control change.body (Err BadSignature) (Ok false) before now is refl checked count); answered = is-made }
+      record { dealing = stranger; dealt = (fails, book-none known, tells-counted control change.body (Ok false) before now is (Err BadSignature) refl checked count); answered = is-made }
   unsealed-answer WantOfMemory made checked fails count is-made = subst (λ m. IsRotateAnswer control change (rotation_at known before) (rotation_at known now) (Ok m)) (sym is-made) (record { dealing = untested; dealt = (book-none known, count); answered = tt })

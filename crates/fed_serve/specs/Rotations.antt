@@ -7,7 +7,7 @@ use Rattle.jwk_set.specs.declared.jwk.Jwk.{Jwk}
 use Rattle.sealed.specs.Seals.{IsSealedBy}
 use Rattle.sealed.specs.declared.fault.SealFault.{SealFault}
 use Rattle.sealed.specs.declared.fault.SealFault.TheVariants as fault
-use Rattle.chain_check.specs.Counts.{checks_under}
+use Rattle.sealed.specs.Tests.{tests_under}
 use Rattle.turn_log.specs.Groups.{AddsOnBook}
 use Rattle.turn_log.specs.Runs.{call_limit}
 use Rattle.turn_log.specs.declared.worn.Worn.{Worn}
@@ -44,7 +44,7 @@ rotate_call change = Rotate change.anchor change.epoch change.keys
 
 -- the change was dealt with so: the body under the control keys, the one call on the book with its reply, and the tests
 abbrev pub IsDealtWith : List Jwk → AnchorChange → RotationAt → RotationAt → Dealing → Type 0
-IsDealtWith control change before now stranger = (¬ IsSealedBy change.body.whole control) × AddsOnBook before.known [] now.known × (now.tests ≡ counted (checks_under control change.body.whole) before.tests)
+IsDealtWith control change before now stranger = (¬ IsSealedBy change.body.whole control) × AddsOnBook before.known [] now.known × (now.tests ≡ counted (tests_under control change.body.whole) before.tests)
 IsDealtWith control change before now (asked reply) =
     IsSealedBy change.body.whole control × AddsOnBook before.known ((rotate_call change, reply) ∷ []) now.known × (now.tests ≡ counted 1 before.tests)
 IsDealtWith control change before now worn =
