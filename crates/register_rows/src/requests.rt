@@ -11,8 +11,8 @@ use fed_json::read_tree;
 use jwk_set::JwkSet;
 use std::alloc::Global;
 
-// The provider's key.
-const PROVIDER_KEY: u64 = 4;
+// The provider's key where the row names none.
+const PROVIDER_KEY: &str = "4";
 
 fn keys(alloc: Global, set: &str) -> Option<JwkSet> {
     match read_tree(alloc, set.as_bytes()) {
@@ -43,11 +43,15 @@ fn answered(
         ledger: Plain::new(),
     };
     let (lifetime, t) = (number(at(row, 3)), number(at(row, 4)));
+    let provider_key = match at(row, 7) {
+        "" => key(PROVIDER_KEY),
+        word => key(word),
+    };
     let registered = register_posted(
         alloc,
         &mut finder,
         provider,
-        &key(PROVIDER_KEY),
+        &provider_key,
         lifetime,
         anchor,
         keys,
@@ -90,7 +94,7 @@ fn by_anchor(alloc: Global, texts: &Texts, provider: &EntityId, row: &str) -> Re
     }
 }
 
-/// `register ANCHOR KEYS LIFETIME MOMENT POSTED ANSWERS`: what https://op.example answers.
+/// `register ANCHOR KEYS LIFETIME MOMENT POSTED ANSWERS KEY`: what https://op.example answers.
 pub(crate) fn register(alloc: Global, texts: &Texts, row: &str) -> Result<Text, Memory> {
     match EntityId::of(alloc, b"https://op.example")? {
         Some(provider) => by_anchor(alloc, texts, &provider, row),

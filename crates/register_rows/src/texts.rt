@@ -1,7 +1,7 @@
 // Signed texts, kept under names.
 
 use crate::words::{at, number};
-use fed_base::{Memory, Seq, Text};
+use fed_base::{Alg, Memory, Seq, Text};
 use fed_json::{Json, is_whole, read_tree};
 use slh_dsa::KeyPair;
 use std::alloc::Global;
@@ -45,15 +45,20 @@ impl Texts {
     }
 }
 
-/// The key of that number: its seeds are 48 bytes that rise by one, from 48 times its number on, modulo 256.
-pub(crate) fn key(number: u64) -> KeyPair {
+/// The key of a word: a number, and behind it an `f` where its algorithm is SLH-DSA-SHA2-128f. Its seeds are 48 bytes that rise by one, from 48
+/// times its number on, modulo 256.
+pub(crate) fn key(word: &str) -> KeyPair {
+    let (digits, alg) = match word.strip_suffix('f') {
+        Some(digits) => (digits, Alg::Fast),
+        None => (word, Alg::Small),
+    };
     let mut seeds = [0; 48];
-    let mut next = u8::try_from(number).unwrap_or(0).wrapping_mul(48);
+    let mut next = u8::try_from(number(digits)).unwrap_or(0).wrapping_mul(48);
     for seed in seeds.iter_mut() {
         *seed = next;
         next = next.wrapping_add(1);
     }
-    KeyPair::from_seeds(&seeds)
+    KeyPair::from_seeds(alg, &seeds)
 }
 
 // The tree sealed as an entity statement, and no byte where it can't be.
@@ -77,9 +82,9 @@ fn sealed_claims(alloc: Global, keys: &KeyPair, claims: &[u8]) -> Result<Text, M
     }
 }
 
-/// `seal NAME KEY CLAIMS`: keeps the claims, sealed by the key of that number.
+/// `seal NAME KEY CLAIMS`: keeps the claims, sealed by that key.
 pub(crate) fn seal(alloc: Global, texts: &mut Texts, row: &str) -> Result<Text, Memory> {
-    let keys = key(number(at(row, 2)));
+    let keys = key(at(row, 2));
     let text = sealed_claims(alloc, &keys, at(row, 3).as_bytes())?;
     texts.keep(alloc, at(row, 1), text)
 }
