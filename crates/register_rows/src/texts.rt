@@ -45,8 +45,8 @@ impl Texts {
     }
 }
 
-/// The key of a word: a number, and behind it an `f` where its algorithm is SLH-DSA-SHA2-128f. Its seeds are 48 bytes that rise by one, from
-/// 48 times its number on, modulo 256.
+/// The key of a word: a number, and behind it an `f` where its algorithm is SLH-DSA-SHA2-128f. Its seeds are 48 bytes that rise by one,
+/// from 48 times its number on, modulo 256.
 pub(crate) fn key(word: &str) -> KeyPair {
     let (digits, alg) = match word.strip_suffix('f') {
         Some(digits) => (digits, Alg::Fast),
