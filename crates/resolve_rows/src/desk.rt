@@ -23,7 +23,7 @@ use std::sync::Wait;
 const CALLS: u64 = 1000;
 
 // The key of the resolver, and for how many seconds it keeps pages.
-const RESOLVER: Key = Key::small(4);
+const RESOLVER: u8 = 4;
 
 const AGE: u64 = 600;
 
@@ -101,7 +101,7 @@ fn failing(alloc: Global, given: &str) -> Result<Seq<u64>, Memory> {
 }
 
 fn signer(alloc: Global, shop: &mut Shop) -> Result<Option<Signer>, Memory> {
-    let keys = shop.keys.pair(RESOLVER)?;
+    let keys = shop.keys.pair(Key::small(RESOLVER))?;
     match entity(alloc, b"resolver.example")? {
         Some(iss) => Ok(Some(Signer {
             iss,

@@ -15,7 +15,7 @@ pub(crate) struct Key {
 }
 
 impl Key {
-    pub(crate) const fn small(number: u8) -> Key {
+    pub(crate) fn small(number: u8) -> Key {
         Key {
             number,
             alg: Alg::Small,
