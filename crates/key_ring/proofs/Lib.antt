@@ -6,5 +6,5 @@ mod MemberLaws
 mod OpenLaws
 mod RingForms
 mod RingLaws
-pub mod SetLaws
 pub mod FileLaws
+pub mod SetLaws

@@ -2,8 +2,8 @@
 //! published of it.
 //!
 //! A ring is a list of keys of SLH-DSA-SHA2-128s, newest first, each live, retired or revoked. The newest live key signs. A change is kept
-//! in the store before the ring changes. The crates above open a ring's file, sign by [`KeyRing::signer`], publish [`KeyRing::live_set`] and
-//! [`KeyRing::historical`], test old marks under [`KeyRing::kept_set`], tell of a ring by [`KeyRing::terms`], which have no seeds, and
+//! in the store before the ring changes. The crates above open a ring's file, sign by [`KeyRing::signer`], publish [`KeyRing::live_set`]
+//! and [`KeyRing::historical`], test old marks under [`KeyRing::kept_set`], tell of a ring by [`KeyRing::terms`], which have no seeds, and
 //! change rings by [`KeyRing::rotate`], [`KeyRing::retire`] and [`KeyRing::revoke`].
 #![tactic(auto)]
 
