@@ -182,7 +182,7 @@ def heads(top):
 
 # ---- files
 
-HAND = "<!-- from here on by hand -->\n"
+HAND = "[//]: # (what stands above is made by docs/tables/make)\n"
 
 
 def files(top):
@@ -196,5 +196,5 @@ def files(top):
     readme = re.sub(r"(?<=^## Commands\n\n)(\|.*\n)+", lambda _: table(top), read("README.md"), flags=re.M)
     page = read("docs/COMMANDS.md")
     for verb, head in heads(top).items():
-        page = re.sub(rf"(?<=^## fed {verb}\n\n).*?(?={HAND})", lambda _, head=head: f"{head}\n", page, count=1, flags=re.M | re.S)
+        page = re.sub(rf"(?<=^## fed {verb}\n\n).*?(?={re.escape(HAND)})", lambda _, head=head: f"{head}\n", page, count=1, flags=re.M | re.S)
     return {"man/fed.1": manual, "README.md": readme, "docs/COMMANDS.md": page}

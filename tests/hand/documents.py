@@ -18,6 +18,8 @@ import signal
 import subprocess
 import sys
 import tempfile
+import threading
+from contextlib import ExitStack
 
 sys.dont_write_bytecode = True
 sys.path.insert(0, f"{os.path.dirname(os.path.dirname(os.path.abspath(__file__)))}/lib")
@@ -56,6 +58,8 @@ trap - EXIT
 test "${{asked-}}" = yes
 """
 not_run = []
+# documents run side by side, but for those that name one port
+ports = {}
 
 
 def blocks_of(path):
@@ -143,6 +147,7 @@ def run_document(path, script, run, written):
     with tempfile.TemporaryDirectory() as folder:
         # (no links: ./fed finds its sources by its own name)
         shutil.copytree(f"{TOP}/examples", f"{folder}/examples")
+        os.symlink(f"{TOP}/tests", f"{folder}/tests")
         with open(f"{folder}/fed", "w", encoding="utf-8") as it:
             it.write(f'#!/bin/sh\nexec "{TOP}/fed" "$@"\n')
         os.chmod(f"{folder}/fed", 0o755)
@@ -164,8 +169,14 @@ def row_of(path):
         print(f"{path} isn't run", file=sys.stderr)
         return None
 
+    named = sorted(set(re.findall(r"\b8[0-9]{3}\b", plan[0])))
+    locks = [ports.setdefault(port, threading.Lock()) for port in named]
+
     def row():
-        run_document(path, *plan)
+        with ExitStack() as held:
+            for lock in locks:
+                held.enter_context(lock)
+            run_document(path, *plan)
 
     row.__name__ = path
     return row if plan[1] else None
