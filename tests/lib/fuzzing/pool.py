@@ -205,9 +205,10 @@ class Pool:
         self.write("ta.keys", json.dumps(self.anchor_keys).encode())
         self.write("node.json", json.dumps(self.configuration()).encode())
         self.rings = {}
-        for name in self.keys:
-            with open(f"{self.folder}/{name}.ring", "rb") as it:
-                self.rings[name] = it.read()
+        for name, key in self.keys.items():
+            if key.ring is not None:
+                with open(f"{self.folder}/{key.ring}", "rb") as it:
+                    self.rings[name] = it.read()
 
     def write(self, name, data):
         with open(f"{self.folder}/{name}", "wb") as it:

@@ -266,8 +266,8 @@ def listed(given):
 def changed_keys(rng, pool):
     """A key set that was changed."""
     good = {"keys": [pool.keys["ta"].jwk]}
-    more = [pool.keys["im"].jwk, {"kty": "RSA", "kid": "r", "n": "AQAB", "e": "AQAB"}, {"kty": "EC", "crv": "P-256", "x": "a", "y": [1, {"z": None}]}]
-    good["keys"] = rng.sample(more, rng.randrange(4)) + good["keys"]
+    more = [pool.keys["im"].jwk, pool.keys["fast im"].jwk, {"kty": "RSA", "kid": "r", "n": "AQAB", "e": "AQAB"}, {"kty": "EC", "crv": "P-256", "x": "a", "y": [1, {"z": None}]}]
+    good["keys"] = rng.sample(more, rng.randrange(5)) + good["keys"]
     kind = rng.randrange(10)
     if kind < 6:
         data = written(changes.some_of_tree(rng, good), rng if rng.random() < .3 else None)
