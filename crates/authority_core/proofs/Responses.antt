@@ -12,6 +12,7 @@ use Rattle.jws_form.specs.declared.compact.Compact.{Compact}
 use Rattle.jws_form.specs.declared.fault.FormFault.{FormFault}
 use Rattle.jws_form.specs.Compact.{max_bytes}
 use Rattle.jws_form.proofs.Laws.{IsCompact-unique, only}
+use Rattle.fed_base.specs.declared.algorithm.Alg.TheVariants.{Small}
 use Rattle.slh_dsa.specs.Keys.{Keys}
 use Rattle.key_ring.specs.Rings.{Ring, ring_pair}
 use Rattle.key_ring.specs.Sets.{IsNamedIn, live_set}
@@ -38,7 +39,7 @@ use Rattle.trust_mark.specs.declared.status.MarkStatus.{MarkStatus}
 use Rattle.authority_core.proofs.BelowLaws.{found-below}
 
 signer-is : (node : Node) (keys : Keys) → signer_keys node.ring ≡ Some keys → keys ≡ node_signer node
-signer-is node keys signs = sym (ap (λ o. unwrap_or o (ring_pair [])) signs)
+signer-is node keys signs = sym (ap (λ o. unwrap_or o (ring_pair Small [])) signs)
 
 signed-by : (node : Node) (typ : List ℕ) (keys : Keys) (claims : Json) → signer_keys node.ring ≡ Some keys → sealed_text keys typ claims ≡ signed_by node typ claims
 signed-by node typ keys claims signs = ap (λ k. sealed_text k typ claims) (signer-is node keys signs)

@@ -1,6 +1,7 @@
 -- A node: what its configuration sets, and its ring of keys.
 use Rattle.std.specs.Prelude.{List, [], ℕ, Option, find, bytes_eq, Bool, unwrap_or}
 use Rattle.std.specs.List.{AllByRecursion}
+use Rattle.fed_base.specs.declared.algorithm.Alg.TheVariants.{Small}
 use Rattle.slh_dsa.specs.Keys.{Keys}
 use Rattle.key_ring.specs.Rings.{Ring, ring_pair}
 use Rattle.key_ring.specs.Sets.{signer_keys}
@@ -19,7 +20,7 @@ node_of config ring = record { settings = told config; ring = ring }
 
 -- the key pair that signs what the node issues: the newest live one, of which every ring has one
 abbrev pub node_signer : Node → Keys
-node_signer node = unwrap_or (signer_keys node.ring) (ring_pair [])
+node_signer node = unwrap_or (signer_keys node.ring) (ring_pair Small [])
 
 -- each configured claim has its form and a text
 pub record IsStatable (config : NodeConfig) : Type 0 where

@@ -5,7 +5,7 @@ ghost use Rattle.fed_json.specs.Forms.{IsWellFormed};
 use crate::words::{add_named, add_number, add_word};
 use fed_base::{Duplicate, Memory, Text};
 use fed_json::{Json, TreeFault, read_tree};
-use node_config::{ConfigFault, NodeConfig, ResolverConfig};
+use node_config::{AnchorPart, ConfigFault, NodeConfig, ResolverConfig};
 use std::alloc::Global;
 
 /// What a configuration says, or the first member that isn't of its form.
@@ -67,8 +67,19 @@ fn add_address(alloc: Global, told: &mut Text, ip: [u8; 4], port: u16) -> Result
     add_number(alloc, told, port as u64)
 }
 
+// Of each anchor, how far searches up to it go.
+fn add_bounds(alloc: Global, told: &mut Text, anchors: &[AnchorPart]) -> Result<(), Memory> {
+    for anchor in anchors {
+        add_number(alloc, told, anchor.depth)?;
+        add_number(alloc, told, anchor.calls)?;
+        add_number(alloc, told, anchor.paths)?;
+    }
+    Ok(())
+}
+
 fn resolves(alloc: Global, told: &mut Text, resolver: &ResolverConfig) -> Result<(), Memory> {
     add_named(alloc, told, b"anchors", resolver.anchors.len() as u64)?;
+    add_bounds(alloc, told, resolver.anchors.as_slice())?;
     add_named(alloc, told, b"age", resolver.age)?;
     add_named(alloc, told, b"workers", resolver.workers)?;
     for route in resolver.routes.as_slice() {

@@ -38,7 +38,7 @@ pub(crate) fn read_chain<T: HoldsText>(
                 reason: Reason::Form,
             });
         }
-        match SignedStatement::read(alloc, holder.text().as_slice())? {
+        match SignedStatement::read_text(alloc, holder.text())? {
             Some(entry) => entries.push(entry)?,
             None => return Err(Stop::Refused {
                 place: j as u64,

@@ -6,15 +6,16 @@ use crate::seals::{Signer, sealed_claims};
 use fed_base::{Alg, Memory, Text};
 use std::alloc::Global;
 use std::str;
+use std::thread::Threads;
 
 /// The status, what is written and the file `r` after the command of these words, this file, and the chain of these texts.
-pub fn told(alloc: Global, given: &str) -> Result<String, Memory> {
+pub fn told<R: Threads + Sync>(rt: &R, alloc: Global, given: &str) -> Result<String, Memory> {
     let (words, given) = given.split_once('\t').unwrap_or((given, ""));
     let (file, texts) = given.split_once('\t').unwrap_or((given, ""));
     match chain_of(alloc, texts)? {
         Some(chain) => {
             let input = str::from_utf8(chain.as_slice()).unwrap_or("");
-            run_rows::answered(alloc, words, run_rows::faults_of("none"), file, input)
+            run_rows::answered(rt, alloc, words, run_rows::faults_of("none"), file, input)
         }
         None => copied(alloc, "no claims"),
     }

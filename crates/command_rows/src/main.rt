@@ -18,8 +18,9 @@ fn main(rt: HostRuntime) -> io::Result<()> {
         let line = line?;
         let row = line.as_str();
         let told = match row.split_once('\t') {
-            Some(("run", given)) => run_rows::told(alloc, given),
-            Some(("chain", given)) => chain_rows::told(alloc, given),
+            Some(("run", given)) => run_rows::told(&rt, alloc, given),
+            Some(("alike", given)) => run_rows::compared(&rt, alloc, given),
+            Some(("chain", given)) => chain_rows::told(&rt, alloc, given),
             Some(("judge", given)) => judge_rows::told(alloc, given),
             _ => judge_rows::copied(alloc, row),
         };

@@ -7,6 +7,7 @@ use fed_words::{Call, Command, read_call};
 use plain_notes::Notes;
 use std::alloc::Global;
 use std::str;
+use std::thread::Threads;
 
 // The call that fails where none is to fail.
 const NEVER: u64 = 99;
@@ -97,7 +98,8 @@ fn command_of(alloc: Global, words: &Seq<Text>) -> Result<Command, Memory> {
 }
 
 // The status, what is written and the file `r` after the words' command.
-fn ran(
+fn ran<R: Threads + Sync>(
+    rt: &R,
     alloc: Global,
     words: &Seq<Text>,
     input: &mut MemorySource,
@@ -107,7 +109,9 @@ fn ran(
     let command = command_of(alloc, words)?;
     let mut clock = MemoryClock::new(alloc, &[])?;
     let mut notes = Notes::new(alloc, None);
-    let status = perform_command(alloc, &command, input, out, store, &mut clock, &mut notes);
+    let status = perform_command(
+        rt, alloc, &command, input, out, store, &mut clock, &mut notes,
+    );
     drop(clock);
     let written = printed(out.as_slice());
     let kept = match store.file(b"r") {
@@ -118,7 +122,8 @@ fn ran(
 }
 
 // The same with a sink and a store of their own.
-fn ran_from(
+fn ran_from<R: Threads + Sync>(
+    rt: &R,
     alloc: Global,
     words: &Seq<Text>,
     file: &str,
@@ -128,7 +133,7 @@ fn ran_from(
     let mut out = MemorySink::new(alloc, faults.room as usize, &[faults.sink], 99)?;
     let told = match store_of(alloc, file, faults) {
         Ok(mut store) => {
-            let told = ran(alloc, words, input, &mut out, &mut store);
+            let told = ran(rt, alloc, words, input, &mut out, &mut store);
             drop(store);
             told
         }
@@ -145,15 +150,16 @@ fn source_of(alloc: Global, input: &str, faults: Faults) -> Result<MemorySource,
 }
 
 /// The status, what is written and the file `r` after the command of these words, this fault, this file and this input with a line end.
-pub fn told(alloc: Global, given: &str) -> Result<String, Memory> {
+pub fn told<R: Threads + Sync>(rt: &R, alloc: Global, given: &str) -> Result<String, Memory> {
     let (words, given) = given.split_once('\t').unwrap_or((given, ""));
     let (fault, given) = given.split_once('\t').unwrap_or((given, ""));
     let (file, input) = given.split_once('\t').unwrap_or((given, ""));
-    answered(alloc, words, faults_of(fault), file, input)
+    answered(rt, alloc, words, faults_of(fault), file, input)
 }
 
 /// The same of these parts.
-pub fn answered(
+pub fn answered<R: Threads + Sync>(
+    rt: &R,
     alloc: Global,
     words: &str,
     faults: Faults,
@@ -162,7 +168,25 @@ pub fn answered(
 ) -> Result<String, Memory> {
     let words = words_of(alloc, words)?;
     let mut input = source_of(alloc, input, faults)?;
-    let told = ran_from(alloc, &words, file, faults, &mut input);
+    let told = ran_from(rt, alloc, &words, file, faults, &mut input);
     drop(input);
     told
+}
+
+/// What two commands answer over one file and input: the first one's status, how long its answer is, and whether the other's is the same.
+pub fn compared<R: Threads + Sync>(rt: &R, alloc: Global, given: &str) -> Result<String, Memory> {
+    let (words, given) = given.split_once('\t').unwrap_or((given, ""));
+    let (others, given) = given.split_once('\t').unwrap_or((given, ""));
+    let (file, input) = given.split_once('\t').unwrap_or((given, ""));
+    let faults = faults_of("room 40000");
+    let told = answered(rt, alloc, words, faults, file, input)?;
+    let other = answered(rt, alloc, others, faults, file, input)?;
+    let (status, _) = told.as_str().split_once(' ').unwrap_or(("", ""));
+    let bytes = told.len();
+    let said = if told.as_str() == other.as_str() {
+        "the same"
+    } else {
+        "another"
+    };
+    Ok(format!(in alloc; "{status} {bytes} {said}")?)
 }

@@ -12,7 +12,7 @@ use Rattle.key_ring.specs.Files.{reason_word}
 use Rattle.key_ring.specs.declared.key.KeyState.{KeyState}
 use Rattle.key_ring.specs.declared.key.KeyState.TheVariants.{Live, Retired, Revoked}
 use Rattle.key_ring.specs.declared.term.KeyTerm.{KeyTerm}
-use Rattle.node_config.specs.Nodes.{Entity, Resolver, Settings, Subordinate}
+use Rattle.node_config.specs.Nodes.{Anchor, Bounds, Resolver, Settings, Subordinate}
 use Rattle.trust_mark.specs.Marks.{mark_of}
 use Rattle.trust_mark.specs.declared.mark.Mark.{Mark}
 use Rattle.plain_notes.specs.Moments.{moment_text}
@@ -54,8 +54,13 @@ mark_line entry = option_map_or (λ mark. line (codes "mark ") (mark_words entry
 abbrev pub subordinate_line : Subordinate → List ℕ
 subordinate_line s = line (codes "subordinate ") s.entity.id
 
-abbrev pub anchor_line : Entity → List ℕ
-anchor_line anchor = line (codes "anchor ") anchor.id
+-- how far searches up to an anchor go
+abbrev pub bound_words : Bounds → List ℕ
+bound_words bounds =
+    codes " depth " ++ (decimal bounds.depth ++ (codes " calls " ++ (decimal bounds.calls ++ (codes " paths " ++ decimal bounds.paths))))
+
+abbrev pub anchor_line : Anchor → List ℕ
+anchor_line anchor = line (codes "anchor ") (anchor.entity.id ++ bound_words anchor.bounds)
 
 -- the four numbers of an address, and its port
 abbrev pub address_text : Address → List ℕ

@@ -1,8 +1,8 @@
 // The entities that a node knows, and how it reaches hosts.
 
 ghost use Rattle.std.specs.Prelude.{◌≡◌, ◌++◌, ◌∷◌, [], codes, decimal, flat_map, map, OnOk};
-ghost use Rattle.node_config.specs.Told.{told_entity, told_resolver, told_subordinate};
-ghost use Rattle.config_summary.specs.Summaries.{address_text, anchor_line, resolver_lines, route_line, subordinate_line};
+ghost use Rattle.node_config.specs.Told.{told_anchor, told_resolver, told_subordinate};
+ghost use Rattle.config_summary.specs.Summaries.{address_text, anchor_line, bound_words, resolver_lines, route_line, subordinate_line};
 
 use crate::lines::{append_line, append_number};
 use fed_base::{Memory, Text};
@@ -33,17 +33,38 @@ pub(crate) fn append_resolver(
 ) -> Result<(), Memory>
     ensures { OnOk result (out.new ≡ out.old ++ resolver_lines (told_resolver resolver.now)) }
 {
-    append_anchors(out, resolver.anchors.as_slice())?;
+    append_anchors(alloc, out, resolver.anchors.as_slice())?;
     append_routes(alloc, out, resolver.routes.as_slice())
 }
 
-fn append_anchors(out: &mut Text, anchors: &[AnchorPart]) -> Result<(), Memory>
-    ensures { OnOk result (out.new ≡ out.old ++ flat_map anchor_line (map told_entity anchors.now)) }
+fn append_anchors(alloc: Global, out: &mut Text, anchors: &[AnchorPart]) -> Result<(), Memory>
+    ensures { OnOk result (out.new ≡ out.old ++ flat_map anchor_line (map told_anchor anchors.now)) }
 {
     for anchor in anchors {
-        append_line(out, b"anchor ", anchor.anchor.text())?;
+        append_anchor(alloc, out, anchor)?;
     }
     Ok(())
+}
+
+fn append_anchor(alloc: Global, out: &mut Text, anchor: &AnchorPart) -> Result<(), Memory>
+    ensures { OnOk result (out.new ≡ out.old ++ anchor_line (told_anchor anchor.now)) }
+{
+    out.append(b"anchor ")?;
+    out.append(anchor.anchor.text())?;
+    append_bounds(alloc, out, anchor)?;
+    out.push(b'\n')
+}
+
+// How far searches up to an anchor go.
+fn append_bounds(alloc: Global, out: &mut Text, anchor: &AnchorPart) -> Result<(), Memory>
+    ensures { OnOk result (out.new ≡ out.old ++ bound_words (told_anchor anchor.now).bounds) }
+{
+    out.append(b" depth ")?;
+    append_number(alloc, out, anchor.depth)?;
+    out.append(b" calls ")?;
+    append_number(alloc, out, anchor.calls)?;
+    out.append(b" paths ")?;
+    append_number(alloc, out, anchor.paths)
 }
 
 fn append_routes(alloc: Global, out: &mut Text, routes: &[Route]) -> Result<(), Memory>

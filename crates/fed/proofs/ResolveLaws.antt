@@ -1,6 +1,8 @@
 -- What is told of a call, and the pass that is held then.
 use Rattle.std.proofs.Common.{◌≡◌, ◌≢◌, ◌≤◌, ◌<◌, ◌⊎◌, ℕ, List, [], Option, Some, None, Result, Ok, Err, IfSome, refl, subst, sym, inl, inr, arith, lit<}
-use Rattle.fed_serve.specs.Moments.{PeerAt}
+use Rattle.authority_core.specs.Nodes.{Node}
+use Rattle.node_service.specs.Connections.{Connection}
+use Rattle.node_service.specs.Streams.{IsAnsweredBy}
 use Rattle.node_files.specs.Orders.{Order}
 use Rattle.node_files.specs.declared.fault.NodeFault.{NodeFault}
 use Rattle.node_files.specs.declared.fault.NodeFault.TheVariants as fault
@@ -37,8 +39,8 @@ lines-other status line old new before now result (inr (four, written, rose)) sm
 pub silent-other : (status : ℕ) (before now : Written) (result : ℕ) → IsSilent status before now result → status < 8 → result ≢ 8
 silent-other status before now result (is, same) small eight = absurd (omega (arith, is, small, eight))
 
-pub authority-other : {P : Type 0} (at : P → PeerAt) (order : Order) (before now : Outside P) (status : ℕ) → RunsAuthority at order before now status → status ≢ 8
-authority-other at order before now status runs eight = other runs.range
+pub authority-other : {P A : Type 0} (answers : Node → Connection P A → Type 0) (order : Order) (before now : Outside P) (status : ℕ) → RunsAuthority answers order before now status → status ≢ 8
+authority-other answers order before now status runs eight = other runs.range
   where
     other : (status ≡ 0) ⊎ ((status ≡ 2) ⊎ ((status ≡ 4) ⊎ ((status ≡ 5) ⊎ ((status ≡ 6) ⊎ (status ≡ 7))))) → ⊥
     other (inl is) = absurd (omega (arith, is, eight))
@@ -97,8 +99,8 @@ resolves_service views service before now joined status config sub anchor types 
 
 -- ---- memory was wanting for the words
 
-unserved : {P : Type 0} (at : P → PeerAt) (order : Order) (o : Outside P) → RunsAuthority at order o o 5
-unserved at order o = record {
+unserved : {P A : Type 0} (answers : Node → Connection P A → Type 0) (order : Order) (o : Outside P) → RunsAuthority answers order o o 5
+unserved answers order o = record {
   done = λ zero. absurd (omega (arith, zero));
   input = λ two. absurd (omega (arith, two));
   cut = λ four. absurd (omega (arith, four));
@@ -139,7 +141,7 @@ module _ {P N C S T : Type 0} (views : ServiceViews P N C) (joined : Option (Gro
   }
 
   unrun : (service : Service) (o : Outside P) → RunsService views service o o joined 5
-  unrun (Authority config port connections) o = (unserved views.peer (record { config = config; post = record { port = port; connections = connections } }) o, none)
+  unrun (Authority config port connections stream) o = (unserved (IsAnsweredBy stream views.peer) (record { config = config; post = record { port = port; connections = connections } }) o, none)
   unrun (Resolver config port connections) o = unserved_resolver (record { config = config; post = record { port = port; connections = connections } }) o
   unrun (Resolve config sub anchor) o = (unresolved (record { config = config; request = record { sub = sub; anchor = anchor; types = [] } }) o, none)
   unrun (Rehearse params) o = (unrehearsed params o, none)

@@ -5,7 +5,7 @@ use Rattle.fed_ports.specs.Exchanges.{Exchange}
 use Rattle.authority_core.specs.Nodes.{Node}
 use Rattle.fed_commands.specs.Answers.{Tells}
 pub use Rattle.fed_inspect.specs.Outputs.{WritesLine}
-use Rattle.fed_serve.specs.Moments.{PeerAt}
+use Rattle.node_service.specs.Connections.{Connection}
 use Rattle.node_service.specs.Ends.{At, HasDropped, HasFailed, HasServed}
 use Rattle.node_files.specs.Orders.{Order}
 use Rattle.node_files.specs.NodeFiles.{IsAuthorityAlone, IsNodeOf}
@@ -34,14 +34,14 @@ pub record HasNoNode {P : Type 0} (order : Order) (before now : At P) : Type 0 w
   pub none : (node : Node) → IsNodeOf before.files order.config node → IsAuthorityAlone node → before.files ≡ None
   pub unserved : now.around.service ≡ before.around.service
 
--- one field for each status
-pub record RunsAuthority {P : Type 0} (at : P → PeerAt) (order : Order) (before now : Outside P) (status : ℕ) : Type 0 where
+-- one field for each status; `answers` says how an authority answers a connection
+pub record RunsAuthority {P A : Type 0} (answers : Node → Connection P A → Type 0) (order : Order) (before now : Outside P) (status : ℕ) : Type 0 where
   -- all connections were served by the node of the file, and the line says so
-  pub done : status ≡ 0 → HasServed at order before.node now.node × Appends before.held now.held (served_line order.post.connections)
+  pub done : status ≡ 0 → HasServed answers order before.node now.node × Appends before.held now.held (served_line order.post.connections)
   -- there is no such node, and the line says so
   pub input : status ≡ 2 → HasNoNode order before.node now.node × Appends before.held now.held input_line
   -- the sink failed, and a beginning of one of the two lines is written, each only where it was due
-  pub cut : status ≡ 4 → (n : ℕ) × ((HasServed at order before.node now.node × Appends before.held now.held (take n (served_line order.post.connections)))
+  pub cut : status ≡ 4 → (n : ℕ) × ((HasServed answers order before.node now.node × Appends before.held now.held (take n (served_line order.post.connections)))
       ⊎ (HasNoNode order before.node now.node × Appends before.held now.held (take n input_line)))
   -- each of these comes only where the count of faults rose, and always where it grew
   pub sink : Tells 4 before.write_faults now.write_faults status
@@ -49,8 +49,8 @@ pub record RunsAuthority {P : Type 0} (at : P → PeerAt) (order : Order) (befor
   pub network : Tells 7 before.node.around.faults now.node.around.faults status
   -- who was served before one of these, and before memory was wanting
   pub unread : status ≡ 6 → now.node.around.service ≡ before.node.around.service
-  pub failed : status ≡ 7 → HasFailed at order before.node now.node
-  pub dropped : status ≡ 5 → (now.node.around.service ≡ before.node.around.service) ⊎ HasDropped at order before.node now.node
+  pub failed : status ≡ 7 → HasFailed answers order before.node now.node
+  pub dropped : status ≡ 5 → (now.node.around.service ≡ before.node.around.service) ⊎ HasDropped answers order before.node now.node
   -- after these and want of memory nothing is written
   pub silent : (status ≡ 5) ⊎ ((status ≡ 6) ⊎ (status ≡ 7)) → now.held ≡ before.held
   -- no connection is opened

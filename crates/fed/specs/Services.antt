@@ -8,6 +8,7 @@ use Rattle.statement_shelf.specs.declared.calls.ShelfCall.{ShelfCall}
 use Rattle.statement_shelf.specs.declared.calls.ShelfReply.{ShelfReply}
 use Rattle.statement_shelf.specs.declared.calls.BookCall.{BookCall}
 use Rattle.statement_shelf.specs.declared.calls.BookReply.{BookReply}
+use Rattle.node_service.specs.Streams.{IsAnsweredBy}
 use Rattle.resolver_service.specs.Batches.{ServiceViews}
 use Rattle.fed_words.specs.declared.service.Service.{Service}
 use Rattle.fed_words.specs.declared.service.Service.TheVariants.{Authority, Rehearse, Resolve, Resolver}
@@ -18,8 +19,8 @@ use Rattle.fed.specs.Resolving.{RunsResolve}
 
 module _ {P N C S T : Type 0} where
   abbrev pub RunsService : ServiceViews P N C → Service → Outside P → Outside P → Option (Group (PassSeat S Part ShelfCall ShelfReply) (PassSeat T Book BookCall BookReply)) → ℕ → Type 0
-  RunsService views (Authority config port connections) before now joined status =
-      RunsAuthority views.peer (record { config = config; post = record { port = port; connections = connections } }) before now status × (joined ≡ None)
+  RunsService views (Authority config port connections stream) before now joined status =
+      RunsAuthority (IsAnsweredBy stream views.peer) (record { config = config; post = record { port = port; connections = connections } }) before now status × (joined ≡ None)
   RunsService views (Resolver config port connections) before now joined status =
       RunsResolver views (record { config = config; post = record { port = port; connections = connections } }) before now joined status
   RunsService views (Resolve config sub anchor) before now joined status =

@@ -4,6 +4,7 @@ ghost use Rattle.std.specs.Prelude.{◌≡◌, IfOk};
 ghost use Rattle.fed.specs.Authorities.{RunsAuthority, served_line};
 ghost use Rattle.fed.specs.Orders.{order_of};
 ghost use Rattle.fed.specs.Ports.{node_views, peer_seen, ports_found, ports_left};
+ghost use Rattle.node_service.specs.Streams.{IsAnsweredBy};
 
 use crate::ports::{Order, Ports};
 use fed_inspect::write_line;
@@ -12,6 +13,7 @@ use node_service::{ServiceEnd, serve_authority};
 use plain_notes::{Notes, explain_memory};
 use std::alloc::Global;
 use std::sync::Wait;
+use std::thread::Threads;
 
 /// The line that is written once all connections are served.
 pub(crate) fn served_line(alloc: Global, connections: u64) -> Result<Text, Memory>
@@ -24,16 +26,17 @@ pub(crate) fn served_line(alloc: Global, connections: u64) -> Result<Text, Memor
     Ok(line)
 }
 
-/// Serves as the authority of the configuration file, and gives the exit status.
-pub(crate) fn serve<R: Wait, S, K: Sink, D: Store, N: Network + Drop, C: Clock>(
+/// Serves as the authority of the configuration file, a stream of requests a connection or one, and gives the exit status.
+pub(crate) fn serve<R: Wait + Threads + Sync, S, K: Sink, D: Store, N: Network + Drop, C: Clock>(
     rt: &R,
     alloc: Global,
     order: Order<'_>,
+    stream: bool,
     ports: Ports<'_, S, K, D, N, C>,
     notes: &mut Notes,
 ) -> u8
     ensures input { ports.exit.0.now ≡ ports.entry.input.now }
-    ensures runs { RunsAuthority (peer_seen N.Peer.Source N.Peer.Sink) (order_of order.entry)
+    ensures runs { RunsAuthority (IsAnsweredBy stream (peer_seen N.Peer.Source N.Peer.Sink)) (order_of order.entry)
         (ports_found (node_views K.Sink D.Store N.Network C.Clock) ports.entry) (ports_left (node_views K.Sink D.Store N.Network C.Clock) ports.exit) result }
 {
     let Ports {
@@ -53,6 +56,7 @@ pub(crate) fn serve<R: Wait, S, K: Sink, D: Store, N: Network + Drop, C: Clock>(
         order.config,
         order.port,
         order.connections,
+        stream,
         store,
         net,
         clock,

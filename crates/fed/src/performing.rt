@@ -63,7 +63,7 @@ where
                 clock,
             } = ports;
             explain_command(alloc, words.as_slice(), &command, notes);
-            let status = perform_command(alloc, &command, input, out, store, clock, notes);
+            let status = perform_command(rt, alloc, &command, input, out, store, clock, notes);
             drop(command);
             status
         }
@@ -118,13 +118,16 @@ where
             config_file,
             port,
             connections,
+            stream,
         } => {
             let order = Order {
                 config: &config_file,
                 port,
                 connections,
             };
-            serve(rt, alloc, order, ports, notes)
+            let status = serve(rt, alloc, order, stream, ports, notes);
+            drop(config_file);
+            status
         }
         Service::Resolver {
             config_file,
@@ -136,7 +139,9 @@ where
                 port,
                 connections,
             };
-            serve_as_resolver(rt, alloc, order, ports, passes, notes)
+            let status = serve_as_resolver(rt, alloc, order, ports, passes, notes);
+            drop(config_file);
+            status
         }
         Service::Resolve {
             config_file,
@@ -150,7 +155,10 @@ where
                 request: &request,
             };
             let Passes { worn, joined: _ } = passes;
-            resolve(rt, alloc, question, ports, worn, notes)
+            let status = resolve(rt, alloc, question, ports, worn, notes);
+            drop(request);
+            drop(config_file);
+            status
         }
         Service::Rehearse { params } => {
             let Ports {

@@ -12,9 +12,10 @@ use rehearsal::{RehearsalFault, Summary};
 use statement_shelf::FedPass;
 use std::alloc::Global;
 use std::sync::Wait;
+use std::thread::Threads;
 
 /// Resolves the leaf of a federation in memory twice, whose metadata has so many parameters, and gives the exit status.
-pub(crate) fn rehearse<R: Wait, K: Sink>(
+pub(crate) fn rehearse<R: Wait + Threads + Sync, K: Sink>(
     rt: &R,
     alloc: Global,
     params: u64,

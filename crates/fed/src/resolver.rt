@@ -68,7 +68,9 @@ where
         notes,
     );
     let Passes { worn, joined } = passes;
-    tell_end(alloc, end, line.as_slice(), out, worn, joined, notes)
+    let status = tell_end(alloc, end, line.as_slice(), out, worn, joined, notes);
+    drop(line);
+    status
 }
 
 // Writes how it ended, hands a pass out, and gives the status.

@@ -16,6 +16,7 @@ use resolver_service::resolve_once;
 use statement_shelf::FedPass;
 use std::alloc::Global;
 use std::sync::Wait;
+use std::thread::Threads;
 
 const NO_ANCHOR: &[u8] =
     b"{\"error\":\"invalid_trust_anchor\",\"error_description\":\"no such trust anchor\"}\n";
@@ -36,7 +37,7 @@ pub(crate) struct Question<'a> {
 }
 
 /// Resolves what is asked as the resolver of the configuration file, and gives the exit status.
-pub(crate) fn resolve<R: Wait, S, K: Sink, D: Store, N: Network + Drop, C: Clock>(
+pub(crate) fn resolve<R: Wait + Threads + Sync, S, K: Sink, D: Store, N: Network + Drop, C: Clock>(
     rt: &R,
     alloc: Global,
     question: Question<'_>,

@@ -1,6 +1,7 @@
 -- A command has one reply on its file and its input, and what was read gives it.
 use Rattle.std.proofs.Common.{◌≡◌, ◌≤◌, ℕ, List, [], ◌∷◌, ◌++◌, codes, lit≤, Option, Some, None, false, refl, sym, ap, ◌∙◌, subst, inl, inr, arith}
 use Rattle.std.specs.Prelude.{IsTrue, IfSome, unwrap_or}
+use Rattle.fed_base.specs.declared.algorithm.Alg.{Alg}
 use Rattle.fed_ports.specs.Stores.{Files, IsFile}
 use Rattle.fed_ports.specs.Times.{ClockAt}
 use Rattle.ring_commands.specs.Issues.{issue_reply}
@@ -73,9 +74,9 @@ check_awaits file found anchor copied at keys is same keyed bytes of_file =
 ring_once : (make : Option Ring → Prepared) (file : Option (List ℕ)) (a b : Prepared) → IsRingPrepared make file a → IsRingPrepared make file b → a ≡ b
 ring_once make file a b (k, r, e) (l, s, d) = e ∙ (ap make (found_once file k l r s) ∙ sym d)
 
-keygen_once : (at exp : ℕ) (file : Option (List ℕ)) (a b : Prepared) → IsKeygenPrepared at exp file a → IsKeygenPrepared at exp file b → a ≡ b
-keygen_once at exp None a b p q = p ∙ sym q
-keygen_once at exp (Some bytes) a b p q = p ∙ sym q
+keygen_once : (alg : Alg) (at exp : ℕ) (file : Option (List ℕ)) (a b : Prepared) → IsKeygenPrepared alg at exp file a → IsKeygenPrepared alg at exp file b → a ≡ b
+keygen_once alg at exp None a b p q = p ∙ sym q
+keygen_once alg at exp (Some bytes) a b p q = p ∙ sym q
 
 -- the same file, where one is named
 abbrev SameFile : Command → Option (List ℕ) → Option (List ℕ) → Type 0
@@ -101,9 +102,9 @@ checks_once anchor at k l (Some text) r s same (p, kept) (q, also) =
 done_once : (work : Operation) (text : Option (List ℕ)) (r s : Reply) → IsPerformed work text r → IsPerformed work text s → r ≡ s
 done_once work None r s p q = p ∙ sym q
 done_once (operation.Verify key) (Some text) r s (f, p, e) (g, q, d) = e ∙ (ap (λ z. plain (status_of z) (line_of z)) (finding_once key text f g p q) ∙ sym d)
-done_once (operation.Keygen at exp) (Some text) r s p q = p ∙ sym q
-done_once (operation.Issue ring typ) (Some text) r s (a, k, p) (b, l, q) = let same : Some a ≡ Some b = sym k ∙ l in p ∙ (ap (λ z. issue_reply z typ text) (cc same) ∙ sym q)
-done_once (operation.Add ring at exp) (Some text) r s p q = p ∙ sym q
+done_once (operation.Keygen alg at exp) (Some text) r s p q = p ∙ sym q
+done_once (operation.Issue ring typ workers) (Some text) r s (a, k, p) (b, l, q) = let same : Some a ≡ Some b = sym k ∙ l in p ∙ (ap (λ z. issue_reply z typ text) (cc same) ∙ sym q)
+done_once (operation.Add ring alg at exp) (Some text) r s p q = p ∙ sym q
 done_once (operation.Check anchor keys at) (Some text) r s p q = checks_once anchor at keys keys (Some text) r s refl p q
 
 outcome_once : (prepared : Prepared) (text : Option (List ℕ)) (r s : Reply) → IsOutcome prepared text r → IsOutcome prepared text s → r ≡ s
@@ -131,8 +132,8 @@ check_once anchor at (Some bytes) a b text r s (inr (none, e)) (inr (none', d)) 
 reply_once : (c : Command) (moment : ℕ) (x y : Option (List ℕ)) (a b : Prepared) (text : Option (List ℕ)) (r s : Reply) → SameFile c x y → IsPrepared c moment x a → IsPrepared c moment y b
     → IsOutcome a text r → IsOutcome b text s → r ≡ s
 reply_once (Verify key) moment x y a b text r s same p q out other = by_prepared a b text r s (p ∙ sym q) out other
-reply_once (Keygen ring at exp) moment x y a b text r s same p q out other = by_prepared a b text r s (keygen_once at exp y a b (subst (λ z. IsKeygenPrepared at exp z a) same p) q) out other
-reply_once (Issue ring typ) moment x y a b text r s same p q out other = by_prepared a b text r s (ring_once (issue_prepared typ) y a b (subst (λ z. IsRingPrepared (issue_prepared typ) z a) same p) q) out other
+reply_once (Keygen ring alg at exp) moment x y a b text r s same p q out other = by_prepared a b text r s (keygen_once alg at exp y a b (subst (λ z. IsKeygenPrepared alg at exp z a) same p) q) out other
+reply_once (Issue ring typ workers) moment x y a b text r s same p q out other = by_prepared a b text r s (ring_once (issue_prepared typ workers) y a b (subst (λ z. IsRingPrepared (issue_prepared typ workers) z a) same p) q) out other
 reply_once (Rotate ring act) moment x y a b text r s same p q out other =
     by_prepared a b text r s (ring_once (rotate_prepared act) y a b (subst (λ z. IsRingPrepared (rotate_prepared act) z a) same p) q) out other
 reply_once (Check anchor keys at) moment x y a b text r s same p q out other =
@@ -192,9 +193,9 @@ reached_once c moment files left left' file input r s reached fixed wanted is =
 done_small : (work : Operation) (text : Option (List ℕ)) (r : Reply) → IsPerformed work text r → r.status ≤ 2
 done_small work None r p = subst (λ z. z.status ≤ 2) (sym p) (lit≤ tt)
 done_small (operation.Verify key) (Some text) r (f, p, e) = let few = status_small f in subst (λ z. z.status ≤ 2) (sym e) (omega (arith, few))
-done_small (operation.Keygen at exp) (Some text) r p = subst (λ z. z.status ≤ 2) (sym p) (keygen_small at exp text)
-done_small (operation.Issue ring typ) (Some text) r (keys, k, p) = subst (λ z. z.status ≤ 2) (sym p) (issue_small keys typ text)
-done_small (operation.Add ring at exp) (Some text) r p = subst (λ z. z.status ≤ 2) (sym p) (add_small ring at exp text)
+done_small (operation.Keygen alg at exp) (Some text) r p = subst (λ z. z.status ≤ 2) (sym p) (keygen_small alg at exp text)
+done_small (operation.Issue ring typ workers) (Some text) r (keys, k, p) = subst (λ z. z.status ≤ 2) (sym p) (issue_small keys typ text)
+done_small (operation.Add ring alg at exp) (Some text) r p = subst (λ z. z.status ≤ 2) (sym p) (add_small ring alg at exp text)
 done_small (operation.Check anchor keys at) (Some text) r (p, kept) = checked_small anchor at (Some keys.keys) (chain_in text) r.status r.text p
 
 done_at : (prepared : Prepared) (reply : Reply) (text : Option (List ℕ)) (r : Reply) → prepared ≡ Answered reply → IsOutcome prepared text r → r ≡ reply
@@ -203,23 +204,23 @@ done_at prepared reply text r e out = subst (λ s. IsOutcome s text r) e out
 small_at : (prepared : Prepared) (reply : Reply) (text : Option (List ℕ)) (r : Reply) → reply.status ≤ 2 → prepared ≡ Answered reply → IsOutcome prepared text r → r.status ≤ 2
 small_at prepared reply text r small e out = subst (λ z. z.status ≤ 2) (sym (done_at prepared reply text r e out)) small
 
-issue_prepared_small : (typ : TextType) (found : Option Ring) (prepared : Prepared) (text : Option (List ℕ)) (r : Reply) → prepared ≡ issue_prepared typ found → IsOutcome prepared text r → r.status ≤ 2
-issue_prepared_small typ None prepared text r is out = small_at prepared bad_input text r (lit≤ tt) is out
-issue_prepared_small typ (Some ring) prepared text r is out = done_small (operation.Issue ring typ) text r (awaits prepared (operation.Issue ring typ) text r is out)
+issue_prepared_small : (typ : TextType) (workers : ℕ) (found : Option Ring) (prepared : Prepared) (text : Option (List ℕ)) (r : Reply) → prepared ≡ issue_prepared typ workers found → IsOutcome prepared text r → r.status ≤ 2
+issue_prepared_small typ workers None prepared text r is out = small_at prepared bad_input text r (lit≤ tt) is out
+issue_prepared_small typ workers (Some ring) prepared text r is out = done_small (operation.Issue ring typ workers) text r (awaits prepared (operation.Issue ring typ workers) text r is out)
 
 rotate_prepared_small : (act : Act) (found : Option Ring) (prepared : Prepared) (text : Option (List ℕ)) (r : Reply) → prepared ≡ rotate_prepared act found → IsOutcome prepared text r → r.status ≤ 2
-rotate_prepared_small (Add at exp) None prepared text r is out = small_at prepared bad_input text r (lit≤ tt) is out
+rotate_prepared_small (Add alg at exp) None prepared text r is out = small_at prepared bad_input text r (lit≤ tt) is out
 rotate_prepared_small (Retire kid) None prepared text r is out = small_at prepared bad_input text r (lit≤ tt) is out
 rotate_prepared_small (Revoke kid at reason) None prepared text r is out = small_at prepared bad_input text r (lit≤ tt) is out
-rotate_prepared_small (Add at exp) (Some ring) prepared text r is out = done_small (operation.Add ring at exp) text r (awaits prepared (operation.Add ring at exp) text r is out)
+rotate_prepared_small (Add alg at exp) (Some ring) prepared text r is out = done_small (operation.Add ring alg at exp) text r (awaits prepared (operation.Add ring alg at exp) text r is out)
 rotate_prepared_small (Retire kid) (Some ring) prepared text r is out =
     small_at prepared (change_reply ring (retire_key kid) (codes "done")) text r (change_small ring (retire_key kid) (codes "done")) is out
 rotate_prepared_small (Revoke kid at reason) (Some ring) prepared text r is out =
     small_at prepared (change_reply ring (revoke_key kid at reason) (codes "done")) text r (change_small ring (revoke_key kid at reason) (codes "done")) is out
 
-keygen_prepared_small : (at exp : ℕ) (file : Option (List ℕ)) (prepared : Prepared) (text : Option (List ℕ)) (r : Reply) → IsKeygenPrepared at exp file prepared → IsOutcome prepared text r → r.status ≤ 2
-keygen_prepared_small at exp None prepared text r p out = done_small (operation.Keygen at exp) text r (awaits prepared (operation.Keygen at exp) text r p out)
-keygen_prepared_small at exp (Some bytes) prepared text r p out = small_at prepared (refused (codes "Exists")) text r (lit≤ tt) p out
+keygen_prepared_small : (alg : Alg) (at exp : ℕ) (file : Option (List ℕ)) (prepared : Prepared) (text : Option (List ℕ)) (r : Reply) → IsKeygenPrepared alg at exp file prepared → IsOutcome prepared text r → r.status ≤ 2
+keygen_prepared_small alg at exp None prepared text r p out = done_small (operation.Keygen alg at exp) text r (awaits prepared (operation.Keygen alg at exp) text r p out)
+keygen_prepared_small alg at exp (Some bytes) prepared text r p out = small_at prepared (refused (codes "Exists")) text r (lit≤ tt) p out
 
 check_prepared_small : (anchor : List ℕ) (at : ℕ) (file : Option (List ℕ)) (prepared : Prepared) (text : Option (List ℕ)) (r : Reply) → IsCheckPrepared anchor at file prepared → IsOutcome prepared text r
     → r.status ≤ 2
@@ -230,8 +231,8 @@ check_prepared_small anchor at (Some bytes) prepared text r (inr (none, e)) out 
 -- a reply has a status up to 2
 pub reply_small : (c : Command) (moment : ℕ) (file : Option (List ℕ)) (prepared : Prepared) (text : Option (List ℕ)) (r : Reply) → IsPrepared c moment file prepared → IsOutcome prepared text r → r.status ≤ 2
 reply_small (Verify key) moment file prepared text r p out = done_small (operation.Verify key) text r (awaits prepared (operation.Verify key) text r p out)
-reply_small (Keygen ring at exp) moment file prepared text r p out = keygen_prepared_small at exp file prepared text r p out
-reply_small (Issue ring typ) moment file prepared text r (found, of_file, is) out = issue_prepared_small typ found prepared text r is out
+reply_small (Keygen ring alg at exp) moment file prepared text r p out = keygen_prepared_small alg at exp file prepared text r p out
+reply_small (Issue ring typ workers) moment file prepared text r (found, of_file, is) out = issue_prepared_small typ workers found prepared text r is out
 reply_small (Rotate ring act) moment file prepared text r (found, of_file, is) out = rotate_prepared_small act found prepared text r is out
 reply_small (Check anchor keys at) moment file prepared text r p out = check_prepared_small anchor (unwrap_or at moment) file prepared text r p out
 reply_small Help moment file prepared text r p out = small_at prepared (plain 0 HELP.now) text r (lit≤ tt) p out

@@ -186,7 +186,7 @@ pub run_stopped : {S D C : Type 0} → (c : Command) (stop : Stop) (before after
     → (reads_clock c ≡ false → after.clock ≡ before.clock) → IsRun c before after (stop_status stop)
 run_stopped c stop before after moment files held sink faults uses input store clock = record {
   answers = stopped_answers c after.readings.last (told_of before) (told_of after) stop files held;
-  sealed = λ name typ is done. absurd (not_done stop done);
+  sealed = λ name typ workers is done. absurd (not_done stop done);
   source = stopped_source stop before.read_faults after.read_faults before.store_faults after.store_faults faults;
   sink = subst (λ n. Tells 4 before.write_faults n (stop_status stop)) (sym sink) (stopped_sink stop before.write_faults);
   store = stopped_store stop before.read_faults after.read_faults before.store_faults after.store_faults faults;
@@ -201,7 +201,7 @@ run_stopped c stop before after moment files held sink faults uses input store c
 pub run_unread : {S D C : Type 0} → (c : Command) (before : World S D C) → IsRun c before before 5
 run_unread c before = record {
   answers = stopped_answers c before.readings.last (told_of before) (told_of before) Memory refl refl;
-  sealed = λ name typ is done. absurd (not_done Memory done);
+  sealed = λ name typ workers is done. absurd (not_done Memory done);
   source = stopped_source Memory before.read_faults before.read_faults before.store_faults before.store_faults (refl, refl);
   sink = stopped_sink Memory before.write_faults;
   store = stopped_store Memory before.read_faults before.read_faults before.store_faults before.store_faults (refl, refl);

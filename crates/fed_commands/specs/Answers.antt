@@ -22,8 +22,8 @@ use Rattle.fed_commands.specs.Streams.{without_line_end}
 
 -- the file that a command names: each looks at it, and `keygen` and `rotate` keep it
 abbrev pub named : Command → Option (List ℕ)
-named (Keygen ring at exp) = Some ring
-named (Issue ring typ) = Some ring
+named (Keygen ring alg at exp) = Some ring
+named (Issue ring typ workers) = Some ring
 named (Rotate ring act) = Some ring
 named (Check anchor keys at) = Some keys
 named command = None

@@ -24,11 +24,11 @@ IsSealedFrom name files reply = reply.status ≡ 0
 
 -- the reply of `issue` is so sealed by the signer of the ring in the file that the command names
 abbrev pub RepliesSealed : Command → Option Files → Reply → Type 0
-RepliesSealed command files reply = (name : List ℕ) (typ : TextType) → command ≡ Issue name typ → IsSealedFrom name files reply
+RepliesSealed command files reply = (name : List ℕ) (typ : TextType) (workers : ℕ) → command ≡ Issue name typ workers → IsSealedFrom name files reply
 
--- after `issue` has answered 0 it has written a text and its line end, and the text is sealed by each set in which the newest live key
--- of the ring file that the command names stands under its thumbprint (RFC 7515 section 5.2, RFC 7638)
+-- after `issue` has answered 0, whatever the number of workers, it has written a text and its line end, and the text is sealed by each
+-- set in which the newest live key of the ring file that the command names stands under its thumbprint (RFC 7515 section 5.2, RFC 7638)
 abbrev pub IssuesSealed : Command → Option Files → Option (List ℕ) → Option (List ℕ) → ℕ → Type 0
-IssuesSealed command files held held' status = (name : List ℕ) (typ : TextType) → command ≡ Issue name typ → status ≡ 0
+IssuesSealed command files held held' status = (name : List ℕ) (typ : TextType) (workers : ℕ) → command ≡ Issue name typ workers → status ≡ 0
     → (bytes : List ℕ) × (ring : Ring) × (keys : Keys) × (line : List ℕ) × IsFile files name (Some bytes) × IsOpened bytes ring
     × (signer_keys ring ≡ Some keys) × Appends held held' line × IsSealedLine keys line

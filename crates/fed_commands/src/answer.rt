@@ -10,11 +10,13 @@ ghost use Rattle.fed_commands.specs.Streams.{without_line_end};
 ghost use Rattle.ring_commands.specs.RingFiles.{IsFileOf};
 
 use crate::operation::{Prepared, perform, prepare};
+use fed_notes::{explain_migration, is_old_ring};
 use fed_ports::{Failed, Memory, ReadEnd, Source, Store, StoreFault, Text, read_all};
 use fed_words::Command;
 use plain_notes::{Notes, explain_source, explain_unkept_file, explain_unread_file};
 use ring_commands::{File, Reply};
 use std::alloc::Global;
+use std::thread::Threads;
 
 /// Why there is no reply.
 #[derive(Clone, Copy, Debug, PartialEq, Eq)]
@@ -129,7 +131,8 @@ fn without_line_end(mut bytes: Text) -> Text
 }
 
 /// The command's reply on its file and its input, at a moment in seconds since 1970, with what is said of it. No file is changed.
-pub fn reply_to<S: Source, D: Store>(
+pub fn reply_to<R: Threads + Sync, S: Source, D: Store>(
+    rt: &R,
     alloc: Global,
     command: &Command,
     moment: u64,
@@ -148,13 +151,43 @@ pub fn reply_to<S: Source, D: Store>(
 {
     let file = load(alloc, command, store, notes)?;
     let prepared = prepare(alloc, command, moment, &file, notes);
+    let is_old = is_old(alloc, command, &file);
     drop(file);
     match prepared? {
-        Prepared::Answered(reply) => Ok(reply),
+        Prepared::Answered(reply) => {
+            tell_of_version(alloc, command, is_old, &reply, notes);
+            Ok(reply)
+        }
         Prepared::WantsInput(operation) => {
             let text = read_text(alloc, input, notes)?;
-            Ok(perform(alloc, operation, text, notes)?)
+            let reply = perform(rt, alloc, operation, text, notes)?;
+            tell_of_version(alloc, command, is_old, &reply, notes);
+            Ok(reply)
         }
+    }
+}
+
+// Whether the command changes a ring whose file is of version 1.
+fn is_old(alloc: Global, command: &Command, file: &File) -> bool {
+    match (command, file) {
+        (Command::Rotate { .. }, File::Whole(bytes)) => is_old_ring(alloc, bytes.as_slice()),
+        _ => false,
+    }
+}
+
+// Says that the ring's file, which was of version 1, is written in version 2, where the reply has a file to keep.
+fn tell_of_version(
+    alloc: Global,
+    command: &Command,
+    is_old: bool,
+    reply: &Reply,
+    notes: &mut Notes,
+) {
+    if is_old
+        && reply.kept.is_some()
+        && let Some(name) = named(command)
+    {
+        explain_migration(alloc, name, notes);
     }
 }
 

@@ -15,7 +15,7 @@ use fed_notes::{
     explain_absent_file, explain_existing_file, explain_keys_file, explain_long_file,
     explain_long_input, warn_of_ended_signer,
 };
-use fed_ports::{Duplicate, Memory, Text};
+use fed_ports::{Alg, Duplicate, Memory, Text};
 use fed_words::{Act, Command, Moment, TextType, moment_or};
 use jwk_set::JwkSet;
 use key_ring::KeyRing;
@@ -24,25 +24,29 @@ use ring_commands::{
     File, Reply, add, explain_no_ring, issue, keygen, open_ring, plain, retire, revoke,
 };
 use std::alloc::Global;
+use std::thread::Threads;
 
 /// What is done with an input.
 #[derive(Drop)]
 pub enum Operation {
     /// To check a configuration under this public key.
     Verify([u8; 32]),
-    /// To make a ring file for these moments.
+    /// To make a ring file of a key of this algorithm, for these moments.
     Keygen {
+        alg: Alg,
         at: Moment,
         exp: Moment,
     },
-    /// To seal claims by the signer of this ring, as a text of this type.
+    /// To seal claims by the signer of this ring, as a text of this type, by so many workers.
     Issue {
         ring: KeyRing,
         typ: TextType,
+        workers: u64,
     },
-    /// To add a key to this ring, for these moments.
+    /// To add a key of this algorithm to this ring, for these moments.
     Add {
         ring: KeyRing,
+        alg: Alg,
         at: Moment,
         exp: Moment,
     },
@@ -75,10 +79,17 @@ pub fn prepare(
 {
     match command {
         Command::Verify(key) => Ok(Prepared::WantsInput(Operation::Verify(*key))),
-        Command::Keygen { ring_file, at, exp } => prepare_keygen(
-            alloc, ring_file, *at, *exp, file, notes,
-        ),
-        Command::Issue { ring_file, typ } => prepare_issue(alloc, ring_file, *typ, file, notes),
+        Command::Keygen {
+            ring_file,
+            alg,
+            at,
+            exp,
+        } => prepare_keygen(alloc, ring_file, *alg, *at, *exp, file, notes),
+        Command::Issue {
+            ring_file,
+            typ,
+            workers,
+        } => prepare_issue(alloc, ring_file, *typ, *workers, file, notes),
         Command::Rotate { ring_file, act } => prepare_rotate(alloc, ring_file, act, file, notes),
         Command::Check {
             anchor,
@@ -108,15 +119,16 @@ fn answered(alloc: Global, status: u8, text: &[u8]) -> Result<Prepared, Memory>
 fn prepare_keygen(
     alloc: Global,
     name: &Text,
+    alg: Alg,
     at: Moment,
     exp: Moment,
     file: &File,
     notes: &mut Notes,
 ) -> Result<Prepared, Memory>
-    ensures { (bytes : Option (List ℕ)) → IsFileOf file.now bytes → IfOk result (IsKeygenPrepared at exp bytes) }
+    ensures { (bytes : Option (List ℕ)) → IsFileOf file.now bytes → IfOk result (IsKeygenPrepared alg at exp bytes) }
 {
     match file {
-        File::Absent => Ok(Prepared::WantsInput(Operation::Keygen { at, exp })),
+        File::Absent => Ok(Prepared::WantsInput(Operation::Keygen { alg, at, exp })),
         File::TooLong | File::Whole(_) => {
             explain_existing_file(alloc, name, notes);
             answered(alloc, 1, b"refused Exists\n")
@@ -137,15 +149,16 @@ fn prepare_issue(
     alloc: Global,
     name: &Text,
     typ: TextType,
+    workers: u64,
     file: &File,
     notes: &mut Notes,
 ) -> Result<Prepared, Memory>
-    ensures { (bytes : Option (List ℕ)) → IsFileOf file.now bytes → IfOk result (IsRingPrepared (issue_prepared typ) bytes) }
+    ensures { (bytes : Option (List ℕ)) → IsFileOf file.now bytes → IfOk result (IsRingPrepared (issue_prepared typ workers) bytes) }
 {
     match open_ring(alloc, file)? {
         Some(ring) => {
             warn_of_signer(alloc, name, &ring, notes);
-            Ok(Prepared::WantsInput(Operation::Issue { ring, typ }))
+            Ok(Prepared::WantsInput(Operation::Issue { ring, typ, workers }))
         }
         None => no_ring(alloc, name, file, notes),
     }
@@ -179,8 +192,9 @@ fn change(alloc: Global, act: &Act, ring: KeyRing, notes: &mut Notes) -> Result<
     ensures { IfOk result (λ prepared. prepared ≡ rotate_prepared act.now (Some ring)) }
 {
     match act {
-        Act::Add { at, exp } => Ok(Prepared::WantsInput(Operation::Add {
+        Act::Add { alg, at, exp } => Ok(Prepared::WantsInput(Operation::Add {
             ring,
+            alg: *alg,
             at: *at,
             exp: *exp,
         })),
@@ -234,14 +248,15 @@ fn no_keys(alloc: Global, name: &Text, file: &File, notes: &mut Notes) -> Result
 
 /// What is answered on the input, without its line end; an input that is too long is `None`. Claims and chains free its memory once they
 /// are read from it.
-pub fn perform(
+pub fn perform<R: Threads + Sync>(
+    rt: &R,
     alloc: Global,
     operation: Operation,
     input: Option<Text>,
     notes: &mut Notes,
 ) -> Result<Reply, Memory>
     ensures performed { IfOk result (IsPerformed operation input) }
-    ensures sealed { (ring : Ring) (typ : TextType) → operation ≡ Operation.Issue ring typ → IfOk result (IsSealedBySigner ring) }
+    ensures sealed { (ring : Ring) (typ : TextType) (workers : ℕ) → operation ≡ Operation.Issue ring typ workers → IfOk result (IsSealedBySigner ring) }
 {
     let Some(input) = input else {
         drop(operation);
@@ -250,9 +265,21 @@ pub fn perform(
     };
     match operation {
         Operation::Verify(key) => verify(alloc, &key, input.as_slice(), notes),
-        Operation::Keygen { at, exp } => keygen(alloc, at, exp, input.as_slice(), notes),
-        Operation::Issue { ring, typ } => issue(alloc, ring.signer(), typ, input, notes),
-        Operation::Add { ring, at, exp } => add(alloc, ring, at, exp, input.as_slice(), notes),
+        Operation::Keygen { alg, at, exp } => {
+            keygen(alloc, alg, at, exp, input.as_slice(), notes)
+        }
+        Operation::Issue { ring, typ, workers } => {
+            issue(rt, alloc, ring.signer(), typ, workers, input, notes)
+        }
+        Operation::Add { ring, alg, at, exp } => add(
+            alloc,
+            ring,
+            alg,
+            at,
+            exp,
+            input.as_slice(),
+            notes,
+        ),
         Operation::Check { anchor, keys, at } => check(alloc, &anchor, &keys, at, input, notes),
     }
 }

@@ -10,11 +10,13 @@ use fed_words::Command;
 use plain_notes::{Notes, explain_memory, explain_sink};
 use ring_commands::Reply;
 use std::alloc::Global;
+use std::thread::Threads;
 
-/// Does the command, adds what a person is to read of it to the notes, and gives the exit status.
+/// Does the command, adds what a person is to read of it to the notes, and gives the exit status. The runtime is asked for threads where
+/// `issue` signs by several workers.
 ///
 /// The clock is looked at first, then the file that the command names, and the input. What is written goes to `out`, refusals too. What
-/// `issue` seals verifies under the key of its ring file.
+/// `issue` seals verifies under the key of its ring file; the runtime starts the threads of its workers.
 ///
 /// | Status | Comes | Written |
 /// |---|---|---|
@@ -25,7 +27,8 @@ use std::alloc::Global;
 /// | 4 | the sink failed | a beginning of the text |
 /// | 5 | memory was wanting | nothing |
 /// | 6 | the store failed | nothing |
-pub fn perform_command<S: Source, K: Sink, D: Store, C: Clock>(
+pub fn perform_command<R: Threads + Sync, S: Source, K: Sink, D: Store, C: Clock>(
+    rt: &R,
     alloc: Global,
     command: &Command,
     input: &mut S,
@@ -38,7 +41,7 @@ pub fn perform_command<S: Source, K: Sink, D: Store, C: Clock>(
         (world (views S.Source K.Sink D.Store C.Clock) input.new out.new store.new clock.new) result }
 {
     let moment = moment_for(command, clock);
-    match reply_to(alloc, command, moment, input, store, notes) {
+    match reply_to(rt, alloc, command, moment, input, store, notes) {
         Ok(reply) => conclude(alloc, command, &reply, store, out, notes),
         Err(stop) => stopped(alloc, stop, notes),
     }

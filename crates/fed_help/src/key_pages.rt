@@ -1,13 +1,17 @@
 // The pages of the commands that make keys, change and show them, and seal by them.
 
 /// The page of `keygen`.
-pub(crate) const KEYGEN: &[u8] = b"fed keygen --ring FILE --at T --exp T < SEEDS
+pub(crate) const KEYGEN: &[u8] = b"fed keygen --ring FILE --at T --exp T [--alg ALG] < SEEDS
 
 Makes a ring file of one key, and writes its public key.
 
 words    --ring FILE  the ring file to make; no file may have this name
          --at T       from when the key is for, in seconds since 1970
          --exp T      until when
+         --alg ALG    128s, the default, for SLH-DSA-SHA2-128s, or 128f for
+                      SLH-DSA-SHA2-128f, whose signatures are made some 20 times
+                      as fast, are twice as long and take 3 times as long to
+                      check
 input    96 hexadecimal digits: SK.seed, SK.prf and PK.seed (FIPS 205), from a
          good source of chance; who knows them can sign in the node's name
 output   {\"alg\":..}     the public key, a JWK whose kid is its thumbprint
@@ -22,7 +26,7 @@ example  head -c 48 /dev/urandom | od -An -v -tx1 | tr -d ' \\n' |
 ";
 
 /// The page of `issue`.
-pub(crate) const ISSUE: &[u8] = b"fed issue --ring FILE --typ TYP < CLAIMS
+pub(crate) const ISSUE: &[u8] = b"fed issue --ring FILE --typ TYP [--workers W] < CLAIMS
 
 Signs claims by the newest live key of a ring file, which isn't changed.
 
@@ -30,6 +34,9 @@ words    --ring FILE  the ring file
          --typ TYP    entity-statement+jwt, trust-mark+jwt or
                       trust-mark-delegation+jwt; it says which claims there
                       must be
+         --workers W  by how many workers the signature is made, 1 to 16; 1 is
+                      the default, the text is the same by each number, and more
+                      than there are processors gain nothing
 input    the claims, a JSON object
 output   a line          the text in JWS compact serialization
          refused Form    the claims aren't those of such a text, or a number of
@@ -43,7 +50,8 @@ example  fed issue --ring rp.ring --typ entity-statement+jwt < claims.json
 ";
 
 /// The page of `rotate`.
-pub(crate) const ROTATE: &[u8] = b"fed rotate --ring FILE --act add --at T --exp T < SEEDS
+pub(crate) const ROTATE: &[u8] =
+    b"fed rotate --ring FILE --act add --at T --exp T [--alg ALG] < SEEDS
 fed rotate --ring FILE --act retire --kid KID
 fed rotate --ring FILE --act revoke --kid KID --at T --reason R
 
@@ -56,6 +64,8 @@ words    --ring FILE  the ring file
          --at T       from when the new key is for, or since when the key is
                       revoked, in seconds since 1970
          --exp T      until when the new key is for
+         --alg ALG    the algorithm of the new key, 128s, the default, or 128f,
+                      as keygen takes it; a ring may have keys of both
          --kid KID    the name of the key, its thumbprint
          --reason R   unspecified, compromised or superseded
 input    for add the seeds of the new key, as keygen takes them; else none

@@ -10,9 +10,10 @@ words    --config FILE the configuration, a JSON object; man 5 fed-config
          --at T        the moment for which it is told, in seconds since 1970;
                        without it, now
 input    none is read
-output   lines         the entity, its keys and their ends, its marks, its
-                       subordinates, its trust anchors, its routes, what it
-                       serves where, and what ends within 30 days
+output   lines         the entity, its keys, each with its algorithm and its
+                       end, its marks, its subordinates, its trust anchors, its
+                       routes, what it serves where, and what ends within 30
+                       days
          refused M R   the first member M at fault, and why: Shape, or of the
                        ring Absent, TooLong, Shape or Known, or of the trust
                        mark at a place the reason why it is none of the node's
@@ -23,7 +24,8 @@ example  fed check-config --config node.json
 ";
 
 /// The page of `authority`.
-pub(crate) const AUTHORITY: &[u8] = b"fed authority --config FILE --port P --connections N
+pub(crate) const AUTHORITY: &[u8] =
+    b"fed authority --config FILE --port P --connections N [--stream yes]
 
 Answers connections over HTTP as the authority of a configuration: its entity
 configuration, statements about its subordinates, their list, its historical
@@ -34,6 +36,9 @@ words    --config FILE   the configuration; man 5 fed-config
                          in the environment variable FED_LISTEN
          --connections N how many connections are answered, 1 to 1000000, one
                          after the other
+         --stream yes    a connection may ask up to 100 times, as nginx in front
+                         does, and is shut where it asks nothing for a second;
+                         without it each is answered once
 input    none is read
 output   served N        all were answered
          input           the configuration or its ring isn't there or isn't of

@@ -4,16 +4,16 @@
 pub const HELP: &[u8] = b"fed: an authority and trust chain resolver of OpenID Federation 1.0
 
 usage: fed verify PUB < TEXT
-       fed keygen --ring FILE --at T --exp T < SEEDS
-       fed issue --ring FILE --typ TYP < CLAIMS
-       fed rotate --ring FILE --act add --at T --exp T < SEEDS
+       fed keygen --ring FILE --at T --exp T [--alg ALG] < SEEDS
+       fed issue --ring FILE --typ TYP [--workers W] < CLAIMS
+       fed rotate --ring FILE --act add --at T --exp T [--alg ALG] < SEEDS
        fed rotate --ring FILE --act retire --kid KID
        fed rotate --ring FILE --act revoke --kid KID --at T --reason R
        fed public --ring FILE [--kid KID]
        fed check --anchor ID --keys FILE [--at T] < CHAIN
        fed show < TEXT
        fed check-config --config FILE [--at T]
-       fed authority --config FILE --port P --connections N
+       fed authority --config FILE --port P --connections N [--stream yes]
        fed resolver --config FILE --port P --connections N
        fed resolve --config FILE --sub ID --anchor ID
        fed rehearse --params N

@@ -23,12 +23,19 @@ pub enum Form {
     Act,
     /// A reason of a revocation.
     Reason,
+    /// A signature algorithm.
+    Alg,
+    /// By how many workers a text is signed.
+    Workers,
+    /// Whether a connection may ask more than once.
+    Stream,
 }
 
 /// An option.
 #[derive(Clone, Copy, PartialEq, Eq, Drop)]
 pub enum OptionName {
     Act,
+    Alg,
     Anchor,
     At,
     Config,
@@ -40,8 +47,10 @@ pub enum OptionName {
     Port,
     Reason,
     Ring,
+    Stream,
     Sub,
     Typ,
+    Workers,
 }
 
 impl OptionName {
@@ -49,6 +58,7 @@ impl OptionName {
     pub fn word(self) -> &'static [u8] {
         match self {
             OptionName::Act => b"--act",
+            OptionName::Alg => b"--alg",
             OptionName::Anchor => b"--anchor",
             OptionName::At => b"--at",
             OptionName::Config => b"--config",
@@ -60,8 +70,10 @@ impl OptionName {
             OptionName::Port => b"--port",
             OptionName::Reason => b"--reason",
             OptionName::Ring => b"--ring",
+            OptionName::Stream => b"--stream",
             OptionName::Sub => b"--sub",
             OptionName::Typ => b"--typ",
+            OptionName::Workers => b"--workers",
         }
     }
 
@@ -69,6 +81,7 @@ impl OptionName {
     pub fn value(self) -> &'static [u8] {
         match self {
             OptionName::Act => b"ACT",
+            OptionName::Alg => b"ALG",
             OptionName::Anchor | OptionName::Sub => b"ID",
             OptionName::At | OptionName::Exp => b"T",
             OptionName::Config | OptionName::Keys | OptionName::Ring => b"FILE",
@@ -76,7 +89,9 @@ impl OptionName {
             OptionName::Kid => b"KID",
             OptionName::Port => b"P",
             OptionName::Reason => b"R",
+            OptionName::Stream => b"yes",
             OptionName::Typ => b"TYP",
+            OptionName::Workers => b"W",
         }
     }
 
@@ -84,6 +99,7 @@ impl OptionName {
     pub fn form(self) -> Form {
         match self {
             OptionName::Act => Form::Act,
+            OptionName::Alg => Form::Alg,
             OptionName::Anchor | OptionName::Sub => Form::Identifier,
             OptionName::At | OptionName::Exp => Form::Moment,
             OptionName::Config | OptionName::Keys | OptionName::Kid | OptionName::Ring =>
@@ -92,7 +108,9 @@ impl OptionName {
             OptionName::Params => Form::Params,
             OptionName::Port => Form::Port,
             OptionName::Reason => Form::Reason,
+            OptionName::Stream => Form::Stream,
             OptionName::Typ => Form::TextType,
+            OptionName::Workers => Form::Workers,
         }
     }
 }
@@ -117,14 +135,14 @@ pub const USAGES: [Usage; 13] = [
         verb: Verb::Keygen,
         act: "",
         needed: &[OptionName::Ring, OptionName::At, OptionName::Exp],
-        free: &[],
+        free: &[OptionName::Alg],
         input: "SEEDS",
     },
     Usage {
         verb: Verb::Issue,
         act: "",
         needed: &[OptionName::Ring, OptionName::Typ],
-        free: &[],
+        free: &[OptionName::Workers],
         input: "CLAIMS",
     },
     Usage {
@@ -136,7 +154,7 @@ pub const USAGES: [Usage; 13] = [
             OptionName::At,
             OptionName::Exp,
         ],
-        free: &[],
+        free: &[OptionName::Alg],
         input: "SEEDS",
     },
     Usage {
@@ -195,7 +213,7 @@ pub const USAGES: [Usage; 13] = [
             OptionName::Port,
             OptionName::Connections,
         ],
-        free: &[],
+        free: &[OptionName::Stream],
         input: "",
     },
     Usage {

@@ -15,7 +15,7 @@ pub(crate) fn code_of(alloc: Global, tree: &Json) -> Result<Vec<u8>, Memory>
 {
     let mut code = Text::new(alloc);
     add_code(alloc, &mut code, tree)?;
-    Ok(code.into_vec())
+    code.into_vec()
 }
 
 #[cycle(code)]

@@ -23,6 +23,6 @@ pub use inputs::{
     explain_unless_list, explain_unless_object,
 };
 pub use marks::explain_mark_claims;
-pub use ring_files::{warn_of_ended_key, warn_of_ended_signer};
+pub use ring_files::{explain_migration, is_old_ring, warn_of_ended_key, warn_of_ended_signer};
 pub use statement_notes::{explain_claims, explain_verify, warn_of_statement};
 pub use warnings::warn_of_claims;

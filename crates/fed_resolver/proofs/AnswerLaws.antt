@@ -6,6 +6,7 @@ use Rattle.jwk_set.specs.declared.set.JwkSet.{JwkSet}
 use Rattle.entity_statement.specs.Claims.{Claims, Identifier}
 use Rattle.entity_statement.specs.Signed.{statement_of}
 use Rattle.chain_check.specs.Chains.{Texts, statements_of}
+use Rattle.chain_check.specs.Verdicts.{least_exp}
 use Rattle.chain_check.specs.Judging.{seal_keys, seal_place}
 use Rattle.chain_climb.specs.Elements.{Among}
 use Rattle.chain_climb.proofs.Elements.{among-left}
@@ -13,7 +14,8 @@ use Rattle.resolve_reply.specs.declared.issuers.Issuer.{Issuer}
 use Rattle.resolve_reply.specs.declared.marks.GoodMarks.{GoodMarks}
 use Rattle.resolve_reply.specs.declared.reply.Reply.{Reply}
 use Rattle.resolve_reply.specs.declared.signer.Signer.{Signer}
-use Rattle.resolve_reply.specs.Marks.{AreGood, Judging, judging_by, keys_of, looked_at, searched_issuers, tests_of_marks}
+use Rattle.resolve_reply.specs.Bounds.{bounds_for}
+use Rattle.resolve_reply.specs.Marks.{AreConfigs, AreGood, Judging, judging_by, keys_of, looked_at, searched_issuers, tests_of_marks, text_of}
 use Rattle.resolve_reply.specs.Replies.{IsReplyOf, cut_to}
 use Rattle.resolve_round.specs.declared.request.ResolveRequest.{ResolveRequest}
 use Rattle.resolve_round.specs.declared.trace.Check.{Check}
@@ -26,16 +28,16 @@ use Rattle.resolve_round.specs.Told.{IsTrueSoFar, ProvesGood, ShowsSeals}
 use Rattle.resolve_round.specs.Traces.{IsWork}
 use Rattle.resolve_search.specs.declared.round.FoundChain.{FoundChain}
 use Rattle.resolve_search.specs.Turning.{query_at}
-use Rattle.fed_resolver.specs.Going.{HasIssuers, HasLeaf, first_text, last_text, usual_aim}
-use Rattle.fed_resolver.specs.Outcomes.{IsReply, IsResult, LastReplies, asked_query}
+use Rattle.fed_resolver.specs.Going.{HasIssuers, HasLeaf, first_aim, first_text, last_text}
+use Rattle.fed_resolver.specs.Outcomes.{HasChainEnd, HasConfigs, IsReply, IsResult, LastReplies, asked_query}
 use Rattle.fed_resolver.specs.Refusals.{outcome_of}
 use Rattle.fed_resolver.specs.Replying.{IsMarked}
-use Rattle.fed_resolver.specs.Searches.{Ends, both_ends, ends_of, found_keys, issuers_after, judging_after, marks_tested}
+use Rattle.fed_resolver.specs.Searches.{Ends, both_ends, ends_of, found_keys, found_texts, issuers_after, judging_after, keys_said, marks_tested}
 use Rattle.fed_resolver.specs.Stretches.{SameKeys}
-use Rattle.fed_resolver.specs.Told.{Situation, ToldWhole, situation_of, usual}
+use Rattle.fed_resolver.specs.Told.{Situation, ToldWhole, situation_of}
 use Rattle.fed_resolver.specs.Uses.{CountsAll}
 use Rattle.fed_resolver.proofs.EndTexts.{Says, first-says, last-says}
-use Rattle.fed_resolver.proofs.MarkCounts.{good-along, tests-along}
+use Rattle.fed_resolver.proofs.MarkCounts.{configs-along, good-along, tests-along}
 use Rattle.fed_resolver.proofs.WholeLaws.{whole-query, whole_told}
 use Rattle.fed_base.specs.Counts.{counted}
 use Rattle.sealed.specs.Tests.{key_in}
@@ -55,12 +57,12 @@ shown-later old new checks more keys are events chain shown i less =
 same-claims : (text : List ℕ) (a b : Claims) → statement_of text ≡ Some a → statement_of text ≡ Some b → a ≡ b
 same-claims text a b one two = let both : Some a ≡ Some b = sym one ∙ two in cc both
 
-module _ (request : ResolveRequest) (age t : ℕ) (signer : Signer) (mid new : Trace) (chain : FoundChain) (leaf : HasLeaf (situation_of request age t) mid chain) (same : SameKeys mid new) (more : List Event)
+module _ (request : ResolveRequest) (signer : Signer) (t : ℕ) (mid new : Trace) (chain : FoundChain) (leaf : HasLeaf (situation_of request signer t) mid chain) (same : SameKeys mid new) (more : List Event)
     (events : new.events ≡ mid.events ++ more) (works : (event : Event) → Among event more → IsWork event) (checks : List Check) (are : new.checks ≡ mid.checks ++ checks)
-    (told : IsTrueSoFar age new) (good : ProvesGood new) (own anchor : Claims) (own_reads : statement_of (first_text chain.texts) ≡ Some own) (anchor_reads : statement_of (last_text chain.texts) ≡ Some anchor)
-    (kept : List Issuer) (has : HasIssuers (usual_aim request.sub request.anchor age) (searched_issuers own.marks anchor) mid new kept) where
+    (told : IsTrueSoFar signer.age new) (good : ProvesGood new) (own anchor : Claims) (own_reads : statement_of (first_text chain.texts) ≡ Some own) (anchor_reads : statement_of (last_text chain.texts) ≡ Some anchor)
+    (kept : List Issuer) (has : HasIssuers (first_aim request.sub request.anchor signer) (searched_issuers own.marks anchor) mid new kept) where
   abbrev here : Situation
-  here = situation_of request age t
+  here = situation_of request signer t
 
   abbrev last : Course
   last = leaf.rounds.last
@@ -89,8 +91,8 @@ module _ (request : ResolveRequest) (age t : ℕ) (signer : Signer) (mid new : T
   searched : issuers_after query last ≡ searched_issuers own.marks anchor
   searched = ap (λ o. option_map_or (λ (e : Ends). searched_issuers e.leaf.marks e.anchor) o []) ends-are
 
-  aimed : query_at (usual_aim request.sub request.anchor age) mid ≡ query
-  aimed = ap (λ m. record { entity = request.sub; anchor = request.anchor; keys = mid.keys.keys; moment = m; bounds = usual }) leaf.rounds.moment
+  aimed : query_at (first_aim request.sub request.anchor signer) mid ≡ query
+  aimed = ap (λ m. record { entity = request.sub; anchor = request.anchor; keys = mid.keys.keys; moment = m; bounds = bounds_for signer.bounds request.anchor }) leaf.rounds.moment
 
   rounds : AreRoundsForEach query (issuers_after query last) has.others
   rounds = subst (λ ids. AreRoundsForEach query ids has.others) (sym searched) (subst (λ q. AreRoundsForEach q (searched_issuers own.marks anchor) has.others) aimed has.rounds)
@@ -128,7 +130,7 @@ module _ (request : ResolveRequest) (age t : ℕ) (signer : Signer) (mid new : T
   abbrev texts : Texts
   texts = chain_of (pages_in last) leaf.path
 
-  module _ (reply : Reply) (marked : IsMarked by_kept own.marks request signer chain reply) where
+  module _ (reply : Reply) (marked : IsMarked (record { judging = by_kept; texts = text_of kept }) own.marks request signer chain reply) where
     abbrev is_reply : IsReply query request.types signer last has.others reply
     is_reply = record {
       path = leaf.path;
@@ -145,11 +147,35 @@ module _ (request : ResolveRequest) (age t : ℕ) (signer : Signer) (mid new : T
       says = subst (λ ts. IsReplyOf signer (record { sub = request.sub; iat = t; exp = marked.good.exp; metadata = cut_to request.types chain.resolved.metadata; chain = ts; marks = marked.good.entries }) reply) leaf.is_found.are marked.says;
     }
 
-    replies : LastReplies query request.types signer new leaf.rounds.leaf has.others reply
+    abbrev replies : LastReplies query request.types signer new leaf.rounds.leaf has.others reply
     replies = record { last = last; is_last = leaf.rounds.is_last; is_reply = is_reply; shown = shown-later mid new checks more same.keys are events texts leaf.is_found.shown }
 
-    result : IsResult here signer new told_whole (Ok reply)
-    result = subst (λ q. LastReplies q request.types signer new leaf.rounds.leaf has.others reply) now replies
+    -- the reply, and what stands beside it, by what a query is after
+    pub record Stands (q : Query) : Type 0 where
+      pub replies : LastReplies q request.types signer new leaf.rounds.leaf has.others reply
+      pub exp : reply.chain_exp ≡ least_exp (statements_of replies.is_reply.chain)
+      pub configs : AreConfigs (found_texts has.others) replies.is_reply.good.entries reply.configs
+      pub keys : (issuer : Identifier) → found_keys q has.others issuer ≡ keys_said (found_texts has.others issuer)
+
+    stands : Stands query
+    stands = record {
+      replies = replies;
+      exp = marked.chain_exp ∙ leaf.is_found.verdict.1.exp;
+      configs = marked.configs ∙ configs-along (text_of kept) (found_texts has.others) has.texts marked.good.entries;
+      keys = λ issuer. subst (λ q. found_keys q has.others issuer ≡ keys_said (found_texts has.others issuer)) aimed (has.said issuer);
+    }
+
+    stands-now : Stands (asked_query here new)
+    stands-now = subst Stands now stands
+
+    abbrev result : IsResult here signer new told_whole (Ok reply)
+    result = stands-now.replies
+
+    pub reply-end : HasChainEnd here signer new reply
+    reply-end = record { whole = record { told = told_whole; result = result }; exp = stands-now.exp }
+
+    pub reply-configs : HasConfigs here signer new reply
+    reply-configs = record { whole = record { told = told_whole; result = result }; are = stands-now.configs; keys = stands-now.keys }
 
     -- the reply is that of a whole trace, and each test was counted
     pub reply-all : (before now_ticks : ℕ) → now_ticks ≡ counted (length new.checks + tests_of_marks by_kept (looked_at own.marks)) before → CountsAll here signer (outcome_of (Ok reply) new) before now_ticks

@@ -50,7 +50,7 @@ bare-count trace before none = sym (ap (λ cs. counted (length cs) before) none)
 
 -- ---- the book wasn't read
 
-module _ (here : Situation) (signer : Signer) (trace : Trace) (blank : IsBlank here.moment trace) (h : Halt) (refusal : Refusal) (is : refusal ≡ broken_off h) where
+module _ (here : Situation) (signer : Signer) (trace : Trace) (blank : IsBlank here.bounds here.moment trace) (h : Halt) (refusal : Refusal) (is : refusal ≡ broken_off h) where
   pub blank-resolves : (old new : CommonsKnown) → GainsEvents old new trace.events → ((anchors : List AnchorKeys) → IsFresh anchors old trace) → IsHalt new h
       → Resolves here signer old new (outcome_of (Err refusal) trace)
   blank-resolves old new gains fresh halts =
@@ -70,7 +70,7 @@ module _ (here : Situation) (signer : Signer) (trace : Trace) (blank : IsBlank h
 
 -- ---- the book was read
 
-module _ (here : Situation) (first mid : Trace) (blank : IsBlank here.moment first) (read : HasRead here.request.anchor first mid) where
+module _ (here : Situation) (first mid : Trace) (blank : IsBlank here.bounds here.moment first) (read : HasRead here.request.anchor first mid) where
   mid-events : mid.events ≡ Book (Read here.request.anchor) read.answer ∷ []
   mid-events = ap (λ (t : Trace). t.events) read.is
 
@@ -87,6 +87,9 @@ module _ (here : Situation) (first mid : Trace) (blank : IsBlank here.moment fir
   module _ (last : Trace) (result : Result (Unit {0}) Refusal) (takes : TakesKeys mid last result) where
     last-moment : last.moment ≡ here.moment
     last-moment = ap (λ (t : Trace). t.moment) takes.same ∙ ap (λ (t : Trace). t.moment) read.is ∙ blank.moment_is
+
+    last-bounds : last.bounds ≡ here.bounds
+    last-bounds = ap (λ (t : Trace). t.bounds) takes.same ∙ ap (λ (t : Trace). t.bounds) read.is ∙ blank.bounds_is
 
     pub last-searches : last.searches ≡ []
     last-searches = ap (λ (t : Trace). t.searches) takes.same ∙ ap (λ (t : Trace). t.searches) read.is ∙ blank.searches
@@ -107,6 +110,7 @@ module _ (here : Situation) (first mid : Trace) (blank : IsBlank here.moment fir
   pub taken-begun : (last : Trace) → TakesKeys mid last (Ok tt) → IsBegun here last
   taken-begun last takes = record {
     moment = last-moment last (Ok tt) takes;
+    bounds = last-bounds last (Ok tt) takes;
     searches = last-searches last (Ok tt) takes;
     checks = last-checks last (Ok tt) takes;
     events = last-events last (Ok tt) takes ∙ ap (λ a. Book (Read here.request.anchor) a ∷ []) (takes.took here.request.anchor read.answer mid-events);
@@ -123,7 +127,7 @@ module _ (here : Situation) (first mid : Trace) (blank : IsBlank here.moment fir
     unlisted : (takes : TakesKeys mid last (Err NoAnchor)) (before : ℕ) → CountsAll here signer (outcome_of (Err NoAnchor) last) before before
     unlisted takes before =
         let took = takes.took here.request.anchor read.answer mid-events in
-        unlisted-all here signer last (last-moment last (Err NoAnchor) takes)
+        unlisted-all here signer last (last-moment last (Err NoAnchor) takes) (last-bounds last (Err NoAnchor) takes)
         (last-events last (Err NoAnchor) takes ∙ ap (λ a. Book (Read here.request.anchor) a ∷ []) took.0)
         (ap (λ (t : Trace). t.epoch) took.1 ∙ ap (λ (t : Trace). t.epoch) read.is ∙ blank.epoch)
         (ap (λ (t : Trace). t.keys.keys) took.1 ∙ ap (λ (t : Trace). t.keys.keys) read.is ∙ blank.keys)
@@ -138,7 +142,7 @@ module _ (here : Situation) (first mid : Trace) (blank : IsBlank here.moment fir
       untested = (bare-true last (last-bare last (Err NoAnchor) takes) here.age).untested;
     }
     taken-resolves Memory takes = record {
-      tells = part-read here last read.answer [] (last-moment last (Err Memory) takes) (last-events last (Err Memory) takes) (takes.took here.request.anchor read.answer mid-events) (λ event among. absurd among)
+      tells = part-read here last read.answer [] (last-moment last (Err Memory) takes) (last-bounds last (Err Memory) takes) (last-events last (Err Memory) takes) (takes.took here.request.anchor read.answer mid-events) (λ event among. absurd among)
           (bare-true last (last-bare last (Err Memory) takes) here.age);
       events = gains-last Memory takes;
       worn = tt;

@@ -89,9 +89,10 @@ module _ (trace : Trace) (bare : IsBare trace) where
 
 -- ---- told in part
 
-pub told-part : (here : Situation) (trace : Trace) → trace.moment ≡ here.moment → BeginsSo here trace trace.events → IsTrueSoFar here.age trace → ToldInPart here trace
-told-part here trace moment begins told = record {
+pub told-part : (here : Situation) (trace : Trace) → trace.moment ≡ here.moment → trace.bounds ≡ here.bounds → BeginsSo here trace trace.events → IsTrueSoFar here.age trace → ToldInPart here trace
+told-part here trace moment bounds begins told = record {
   moment = moment;
+  bounds = bounds;
   begins = begins;
   looks = told.looks;
   hits = told.hits;
@@ -101,18 +102,18 @@ told-part here trace moment begins told = record {
   counts = told.counts;
 }
 
-pub part-blank : (here : Situation) (trace : Trace) → IsBlank here.moment trace → ToldInPart here trace
+pub part-blank : (here : Situation) (trace : Trace) → IsBlank here.bounds here.moment trace → ToldInPart here trace
 part-blank here trace blank =
-    told-part here trace blank.moment_is (subst (BeginsSo here trace) (sym blank.events) (blank.epoch, blank.keys))
+    told-part here trace blank.moment_is blank.bounds_is (subst (BeginsSo here trace) (sym blank.events) (blank.epoch, blank.keys))
     (bare-true trace (bare-blank trace blank.searches blank.checks blank.events) here.age)
 
-pub part-read : (here : Situation) (trace : Trace) (answer : BookReply) (work : List Event) → trace.moment ≡ here.moment → trace.events ≡ Book (Read here.request.anchor) answer ∷ work
+pub part-read : (here : Situation) (trace : Trace) (answer : BookReply) (work : List Event) → trace.moment ≡ here.moment → trace.bounds ≡ here.bounds → trace.events ≡ Book (Read here.request.anchor) answer ∷ work
     → GaveSome answer trace.epoch trace.keys.keys → ((event : Event) → Among event work → IsWork event) → IsTrueSoFar here.age trace → ToldInPart here trace
-part-read here trace answer work moment events gave works told = told-part here trace moment (subst (BeginsSo here trace) (sym events) (refl, gave, works)) told
+part-read here trace answer work moment bounds events gave works told = told-part here trace moment bounds (subst (BeginsSo here trace) (sym events) (refl, gave, works)) told
 
 -- ---- an anchor that isn't listed
 
-module _ (here : Situation) (signer : Signer) (trace : Trace) (moment : trace.moment ≡ here.moment) (events : trace.events ≡ Book (Read here.request.anchor) book.NoAnchor ∷ []) (epoch : trace.epoch ≡ 0)
+module _ (here : Situation) (signer : Signer) (trace : Trace) (moment : trace.moment ≡ here.moment) (bounds : trace.bounds ≡ here.bounds) (events : trace.events ≡ Book (Read here.request.anchor) book.NoAnchor ∷ []) (epoch : trace.epoch ≡ 0)
     (keys : trace.keys.keys ≡ []) (searches : trace.searches ≡ []) (checks : trace.checks ≡ []) where
   bare : IsBare trace
   bare = bare-read trace (Read here.request.anchor) book.NoAnchor searches checks events
@@ -121,6 +122,7 @@ module _ (here : Situation) (signer : Signer) (trace : Trace) (moment : trace.mo
   unlisted_told = record {
     base = record {
       moment = moment;
+      bounds = bounds;
       answer = book.NoAnchor;
       work = [];
       begins = events;

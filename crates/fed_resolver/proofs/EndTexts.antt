@@ -22,7 +22,7 @@ use Rattle.resolve_round.proofs.WordLaws.{statement-words}
 use Rattle.resolve_search.specs.declared.round.FoundChain.{FoundChain}
 use Rattle.resolve_search.specs.Judging.{IsFound}
 use Rattle.fed_resolver.specs.Going.{first_text, last_text}
-use Rattle.fed_resolver.specs.Searches.{if_found, said_in}
+use Rattle.fed_resolver.specs.Searches.{first_text_of, if_found, said_in, text_by}
 
 -- ---- texts at a place of some that were tried
 
@@ -131,6 +131,18 @@ module _ (query : Query) (course : Course) (round : Round query course) (path : 
         reads = ap statement_of (first-tried chain.texts words.text (filter_map (pages_in course) urls.0) texts) ∙ words.reads;
         of = words.names;
       }
+
+  -- it is the first text of the chain that the round found
+  pub first-there : first_text_of course ≡ Some (first_text chain.texts)
+  unfolding chain_of first_text_of
+  first-there =
+      let own = leaf-good (good_in query course) query.entity query.anchor query.bounds.depth whole in
+      let words = statement-words (pages_in course) query.moment (configuration_of query.entity) own.0 own.1 in
+      let urls = chain-begins (good_in query course) query.entity query.anchor query.bounds.depth path whole in
+      let got : filter_map (pages_in course) (chain_urls path) ≡ words.text ∷ filter_map (pages_in course) urls.0 =
+      ap (filter_map (pages_in course)) urls.1 ∙ then-text (pages_in course) (well_known_of query.entity) words.text urls.0 words.there in
+      ap (text_by (pages_in course)) stop ∙ ap (λ ts. slice_get ts 0) got
+      ∙ ap Some (sym (first-tried chain.texts words.text (filter_map (pages_in course) urls.0) (is.are ∙ got)))
 
   -- the last one is the anchor's
   pub last-says : Says query course query.anchor (last_text chain.texts)

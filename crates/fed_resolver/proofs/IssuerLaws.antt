@@ -8,12 +8,14 @@ use Rattle.fed_json.proofs.Order.{bytes_eq-itself, equal-bytes_eq}
 use Rattle.jwk_set.specs.declared.jwk.Jwk.{Jwk}
 use Rattle.entity_statement.specs.Claims.{Claims, Identifier}
 use Rattle.entity_statement.specs.Forms.{all_differ}
+use Rattle.entity_statement.specs.Signed.{statement_of}
 use Rattle.entity_statement.proofs.Hints.{once_after-differ}
 use Rattle.chain_climb.specs.Elements.{Among}
 use Rattle.chain_climb.proofs.ClimbLaws.{any-among}
 use Rattle.chain_climb.proofs.Elements.{among-split}
 use Rattle.resolve_reply.specs.declared.issuers.Issuer.{Issuer}
-use Rattle.resolve_reply.specs.Marks.{each_named, keys_of}
+use Rattle.resolve_reply.specs.declared.signer.Signer.{Signer}
+use Rattle.resolve_reply.specs.Marks.{each_named, keys_of, text_of}
 use Rattle.resolve_round.specs.declared.trace.Trace.{Trace}
 use Rattle.resolve_round.specs.Courses.{Course}
 use Rattle.resolve_round.specs.Pages.{Query}
@@ -21,8 +23,8 @@ use Rattle.resolve_round.specs.Rounds.{AreRounds, AreRoundsForEach, IsLast, for_
 use Rattle.resolve_round.proofs.HintLaws.{and-left, and-right}
 use Rattle.resolve_round.specs.declared.aim.Aim.{Aim}
 use Rattle.resolve_search.specs.Turning.{query_at}
-use Rattle.fed_resolver.specs.Going.{HasIssuer, HasIssuers, KeepsBy, usual_aim}
-use Rattle.fed_resolver.specs.Searches.{found_keys, rounds_for, said_in}
+use Rattle.fed_resolver.specs.Going.{HasIssuer, HasIssuers, KeepsBy, first_aim}
+use Rattle.fed_resolver.specs.Searches.{first_text_of, found_keys, found_texts, keys_said, rounds_for, said_in}
 use Rattle.fed_resolver.specs.Stretches.{SameKeys}
 use Rattle.fed_resolver.proofs.CourseLaws.{adds-none, adds-then, same-query}
 
@@ -75,14 +77,40 @@ keys-other : (kept : List Issuer) (issuer : Issuer) (id : Identifier) → bytes_
 keys-other [] issuer id apart = rw apart refl
 keys-other (x ∷ kept) issuer id apart = ap (λ o. cond (bytes_eq x.id id) (Some x.keys.keys) o) (keys-other kept issuer id apart)
 
-kept-own : (id : Identifier) (said : Option Claims) (before after : List Issuer) → KeepsBy id said before after → keys_of before id ≡ None → keys_of after id ≡ option_map (λ (c : Claims). c.keys) said
-kept-own id None before after same none = ap (λ l. keys_of l id) same ∙ none
-kept-own id (Some claims) before after (keys, is, are) none =
-    ap (λ l. keys_of l id) is ∙ keys-own before (record { id = id; keys = keys }) none ∙ ap Some are
+nothing-said : keys_said None ≡ None
+unfolding keys_said
+nothing-said = refl
 
-kept-other : (id other : Identifier) (said : Option Claims) (before after : List Issuer) → KeepsBy id said before after → bytes_eq id other ≡ false → keys_of after other ≡ keys_of before other
+kept-own : (id : Identifier) (text : Option (List ℕ)) (before after : List Issuer) → KeepsBy id text before after → keys_of before id ≡ None → keys_of after id ≡ keys_said text
+kept-own id None before after same none = ap (λ l. keys_of l id) same ∙ none ∙ sym nothing-said
+kept-own id (Some text) before after (keys, is, are) none =
+    ap (λ l. keys_of l id) is ∙ keys-own before (record { id = id; keys = keys; text = text }) none ∙ sym are
+
+kept-other : (id other : Identifier) (text : Option (List ℕ)) (before after : List Issuer) → KeepsBy id text before after → bytes_eq id other ≡ false → keys_of after other ≡ keys_of before other
 kept-other id other None before after same apart = ap (λ l. keys_of l other) same
-kept-other id other (Some claims) before after (keys, is, are) apart = ap (λ l. keys_of l other) is ∙ keys-other before (record { id = id; keys = keys }) other apart
+kept-other id other (Some text) before after (keys, is, are) apart = ap (λ l. keys_of l other) is ∙ keys-other before (record { id = id; keys = keys; text = text }) other apart
+
+-- ---- their configurations
+
+text-own-by : (b : Bool) (first second : List ℕ) (rest more : Option (List ℕ)) → cond b (Some first) rest ≡ None → (rest ≡ None → more ≡ Some second) → cond b (Some first) more ≡ Some second
+text-own-by true first second rest more none later = cc none
+text-own-by false first second rest more none later = later none
+
+text-own : (kept : List Issuer) (issuer : Issuer) → text_of kept issuer.id ≡ None → text_of (kept ++ issuer ∷ []) issuer.id ≡ Some issuer.text
+text-own [] issuer none = rw (bytes_eq-itself issuer.id) refl
+text-own (x ∷ kept) issuer none = text-own-by (bytes_eq x.id issuer.id) x.text issuer.text (text_of kept issuer.id) (text_of (kept ++ issuer ∷ []) issuer.id) none (text-own kept issuer)
+
+text-other : (kept : List Issuer) (issuer : Issuer) (id : Identifier) → bytes_eq issuer.id id ≡ false → text_of (kept ++ issuer ∷ []) id ≡ text_of kept id
+text-other [] issuer id apart = rw apart refl
+text-other (x ∷ kept) issuer id apart = ap (λ o. cond (bytes_eq x.id id) (Some x.text) o) (text-other kept issuer id apart)
+
+config-own : (id : Identifier) (text : Option (List ℕ)) (before after : List Issuer) → KeepsBy id text before after → text_of before id ≡ None → text_of after id ≡ text
+config-own id None before after same none = ap (λ l. text_of l id) same ∙ none
+config-own id (Some text) before after (keys, is, are) none = ap (λ l. text_of l id) is ∙ text-own before (record { id = id; keys = keys; text = text }) none
+
+config-other : (id other : Identifier) (text : Option (List ℕ)) (before after : List Issuer) → KeepsBy id text before after → bytes_eq id other ≡ false → text_of after other ≡ text_of before other
+config-other id other None before after same apart = ap (λ l. text_of l other) same
+config-other id other (Some text) before after (keys, is, are) apart = ap (λ l. text_of l other) is ∙ text-other before (record { id = id; keys = keys; text = text }) other apart
 
 module _ (query : Query) (ids : List Identifier) (others : List Course) (earlier : AreRoundsForEach query ids others) (id : Identifier) (fresh : ¬ Among id ids) (courses : List Course)
     (here : AreRounds (for_entity query id) courses) where
@@ -121,32 +149,65 @@ module _ (query : Query) (ids : List Identifier) (others : List Course) (earlier
   found-other entity apart =
       ap (λ cs. option_and_then (λ (round : Course). option_map (λ (c : Claims). c.keys) (said_in query round entity)) (last_course cs)) (other-rounds entity apart)
 
-  keys-step : (last : Course) → IsLast courses last → (before after : List Issuer) → KeepsBy id (said_in query last id) before after
-      → ((issuer : Identifier) → keys_of before issuer ≡ found_keys query others issuer) → (issuer : Identifier) → keys_of after issuer ≡ found_keys query (others ++ courses) issuer
-  keys-step last is_last before after keeps all issuer = by_test (bytes_eq id issuer)
-      (λ same. subst (λ e. keys_of after e ≡ found_keys query (others ++ courses) e) (equal-bytes_eq id issuer same)
-      (kept-own id (said_in query last id) before after keeps (all id ∙ found-before) ∙ sym (found-own last is_last)))
-      (λ apart. kept-other id issuer (said_in query last id) before after keeps apart ∙ all issuer ∙ sym (found-other issuer apart))
+  texts-before : found_texts others id ≡ None
+  unfolding found_texts
+  texts-before = ap (λ cs. option_and_then first_text_of (last_course cs)) none-before
+
+  texts-own : (last : Course) → IsLast courses last → found_texts (others ++ courses) id ≡ first_text_of last
+  unfolding found_texts
+  texts-own last is_last = ap (λ cs. option_and_then first_text_of (last_course cs)) own-rounds ∙ ap (option_and_then first_text_of) is_last
+
+  texts-other : (entity : Identifier) → bytes_eq id entity ≡ false → found_texts (others ++ courses) entity ≡ found_texts others entity
+  unfolding found_texts
+  texts-other entity apart = ap (λ cs. option_and_then first_text_of (last_course cs)) (other-rounds entity apart)
+
+  -- what holds of the issuer itself, and of each other one
+  by-entity : (P : Identifier → Type 0) → P id → ((entity : Identifier) → bytes_eq id entity ≡ false → P entity) → (entity : Identifier) → P entity
+  by-entity P own other entity = by_test (bytes_eq id entity) (λ same. subst P (equal-bytes_eq id entity same) own) (other entity)
+
+  module _ (last : Course) (is_last : IsLast courses last) (says : said_in query last id ≡ option_and_then statement_of (first_text_of last)) where
+    own-said : found_keys query (others ++ courses) id ≡ keys_said (first_text_of last)
+    unfolding keys_said
+    own-said = found-own last is_last ∙ ap (option_map (λ (c : Claims). c.keys)) says
+
+    said-step : ((issuer : Identifier) → found_keys query others issuer ≡ keys_said (found_texts others issuer))
+        → (issuer : Identifier) → found_keys query (others ++ courses) issuer ≡ keys_said (found_texts (others ++ courses) issuer)
+    said-step all = by-entity (λ e. found_keys query (others ++ courses) e ≡ keys_said (found_texts (others ++ courses) e))
+        (own-said ∙ ap keys_said (sym (texts-own last is_last)))
+        (λ e apart. found-other e apart ∙ all e ∙ ap keys_said (sym (texts-other e apart)))
+
+    module _ (before after : List Issuer) (keeps : KeepsBy id (first_text_of last) before after) where
+      keys-step : ((issuer : Identifier) → keys_of before issuer ≡ found_keys query others issuer) → (issuer : Identifier) → keys_of after issuer ≡ found_keys query (others ++ courses) issuer
+      keys-step all = by-entity (λ e. keys_of after e ≡ found_keys query (others ++ courses) e)
+          (kept-own id (first_text_of last) before after keeps (all id ∙ found-before) ∙ sym own-said)
+          (λ e apart. kept-other id e (first_text_of last) before after keeps apart ∙ all e ∙ sym (found-other e apart))
+
+      texts-step : ((issuer : Identifier) → text_of before issuer ≡ found_texts others issuer) → (issuer : Identifier) → text_of after issuer ≡ found_texts (others ++ courses) issuer
+      texts-step all = by-entity (λ e. text_of after e ≡ found_texts (others ++ courses) e)
+          (config-own id (first_text_of last) before after keeps (all id ∙ texts-before) ∙ sym (texts-own last is_last))
+          (λ e apart. config-other id e (first_text_of last) before after keeps apart ∙ all e ∙ sym (texts-other e apart))
 
 -- ---- one issuer more
 
 pub issuers-none : (aim : Aim) (t : Trace) → HasIssuers aim [] t t []
-unfolding found_keys
-issuers-none aim t = record { others = []; added = adds-none aim.age t; rounds = refl; keys = λ issuer. refl }
+unfolding found_keys found_texts keys_said
+issuers-none aim t = record { others = []; added = adds-none aim.age t; rounds = refl; keys = λ issuer. refl; texts = λ issuer. refl; said = λ issuer. refl }
 
-pub issuers-more : (leaf anchor : Identifier) (age : ℕ) (ids : List Identifier) (id : Identifier) (start mid new : Trace) (before after : List Issuer)
-    → HasIssuers (usual_aim leaf anchor age) ids start mid before → ¬ Among id ids → SameKeys start mid → HasIssuer (usual_aim id anchor age) mid new before after
-    → HasIssuers (usual_aim leaf anchor age) (ids ++ id ∷ []) start new after
-issuers-more leaf anchor age ids id start mid new before after has fresh same one =
-    let query = query_at (usual_aim leaf anchor age) start in
-    let there : query_at (usual_aim id anchor age) mid ≡ for_entity query id = same-query (usual_aim id anchor age) start mid same.moment same.keys in
+pub issuers-more : (leaf anchor : Identifier) (signer : Signer) (ids : List Identifier) (id : Identifier) (start mid new : Trace) (before after : List Issuer)
+    → HasIssuers (first_aim leaf anchor signer) ids start mid before → ¬ Among id ids → SameKeys start mid → HasIssuer (first_aim id anchor signer) mid new before after
+    → HasIssuers (first_aim leaf anchor signer) (ids ++ id ∷ []) start new after
+issuers-more leaf anchor signer ids id start mid new before after has fresh same one =
+    let query = query_at (first_aim leaf anchor signer) start in
+    let there : query_at (first_aim id anchor signer) mid ≡ for_entity query id = same-query (first_aim id anchor signer) start mid same.moment same.keys in
     let rounds : AreRounds (for_entity query id) one.courses = subst (λ q. AreRounds q one.courses) there one.are in
-    let keeps : KeepsBy id (said_in query one.last id) before after = subst (λ q. KeepsBy id (said_in q one.last id) before after) there one.kept in
+    let says : said_in query one.last id ≡ option_and_then statement_of (first_text_of one.last) = subst (λ q. said_in q one.last id ≡ option_and_then statement_of (first_text_of one.last)) there one.said in
     record {
       others = has.others ++ one.courses;
-      added = adds-then age has.others one.courses start mid new same.moment has.added one.added;
+      added = adds-then signer.age has.others one.courses start mid new same.moment has.added one.added;
       rounds = each-more query ids has.others id one.courses has.rounds rounds;
-      keys = keys-step query ids has.others has.rounds id fresh one.courses rounds one.last one.is_last before after keeps has.keys;
+      keys = keys-step query ids has.others has.rounds id fresh one.courses rounds one.last one.is_last says before after one.kept has.keys;
+      texts = texts-step query ids has.others has.rounds id fresh one.courses rounds one.last one.is_last says before after one.kept has.texts;
+      said = said-step query ids has.others has.rounds id fresh one.courses rounds one.last one.is_last says has.said;
     }
 
 -- ---- each issuer once

@@ -1,6 +1,6 @@
 -- What the good marks of a leaf and their tests have to do with the keys of their issuers.
-use Rattle.std.proofs.Common.{◌≡◌, ◌≤◌, ◌+◌, ◌*◌, ℕ, List, [], ◌∷◌, length, take, Bool, true, false, Option, Some, None, refl, sym, ap, ap₂, ◌∙◌, inl, inr, arith}
-use Rattle.std.specs.Prelude.{if◌then◌else◌, is_some}
+use Rattle.std.proofs.Common.{◌≡◌, ◌≤◌, ◌+◌, ◌*◌, ℕ, List, [], ◌∷◌, length, map, take, Bool, true, false, Option, Some, None, refl, sym, ap, ap₂, ◌∙◌, inl, inr, arith}
+use Rattle.std.specs.Prelude.{if◌then◌else◌, is_some, option_and_then}
 use Rattle.std.specs.Option.{option_map_or}
 use Rattle.std.proofs.lemmas.List.{length-take}
 use Rattle.std.proofs.lemmas.List.Sums.{sum_by-cons}
@@ -14,7 +14,7 @@ use Rattle.trust_mark.specs.Counts.{delegation_tests, mark_tests, tests_from_sig
 use Rattle.trust_mark.specs.Marks.{Case, delegation_of, mark_of, owner_of}
 use Rattle.trust_mark.specs.declared.mark.Mark.{Mark}
 use Rattle.resolve_reply.specs.declared.marks.GoodMarks.{GoodMarks}
-use Rattle.resolve_reply.specs.Marks.{AreGood, AreThose, IsReturned, IssuerKeys, Judging, case_by, looked_at, tests_by, tests_for, tests_of_marks}
+use Rattle.resolve_reply.specs.Marks.{AreGood, AreThose, IsReturned, IssuerKeys, IssuerTexts, Judging, case_by, config_of, looked_at, tests_by, tests_for, tests_of_marks}
 
 module _ {X Y : Type 0} (P Q : X → Y → Type 0) (there : (x : X) (y : Y) → P x y → Q x y) (back : (x : X) (y : Y) → Q x y → P x y) where
   those-along : (xs : List X) (those : List (X × Y)) → AreThose P xs those → AreThose Q xs those
@@ -53,6 +53,20 @@ module _ (leaf : Identifier) (anchor : Claims) (t : ℕ) (one two : IssuerKeys) 
   tests-along [] = refl
   tests-along (entry ∷ entries) =
       sum_by-cons (tests_for (by one)) entry entries ∙ ap₂ (λ a b. a + b) (one-tests entry) (tests-along entries) ∙ sym (sum_by-cons (tests_for (by two)) entry entries)
+
+-- two ways to tell the configurations of issuers that say the same
+module _ (one two : IssuerTexts) (same : (issuer : Identifier) → one issuer ≡ two issuer) where
+  config-at : (o : Option Mark) → option_and_then (λ (mark : Mark). one mark.iss) o ≡ option_and_then (λ (mark : Mark). two mark.iss) o
+  config-at None = refl
+  config-at (Some mark) = same mark.iss
+
+  one-config : (entry : MarkEntry) → config_of one entry ≡ config_of two entry
+  unfolding config_of
+  one-config entry = config-at (mark_of entry.text)
+
+  pub configs-along : (entries : List MarkEntry) → map (config_of one) entries ≡ map (config_of two) entries
+  configs-along [] = refl
+  configs-along (entry ∷ entries) = ap₂ (λ o os. o ∷ os) (one-config entry) (configs-along entries)
 
 -- ---- a mark costs two tests at most
 

@@ -199,6 +199,7 @@ module _ (here : Situation) (trace : Trace) (told : ToldWhole here trace) where
   pub whole-part : ToldInPart here trace
   whole-part = record {
     moment = told.base.moment;
+    bounds = told.base.bounds;
     begins = begins;
     looks = looks;
     hits = hits;

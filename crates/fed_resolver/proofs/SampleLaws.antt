@@ -7,6 +7,7 @@ use Rattle.fed_json.proofs.Order.{bytes_eq-itself}
 use Rattle.sealed.specs.Seals.{Pair}
 use Rattle.entity_id.specs.Urls.{well_known_of}
 use Rattle.entity_statement.specs.Claims.{Identifier}
+use Rattle.chain_climb.specs.declared.want.Bounds.{Bounds}
 use Rattle.chain_climb.specs.Elements.{Among}
 use Rattle.fed_ports.specs.declared.page.Page.TheVariants.{Document}
 use Rattle.statement_shelf.specs.declared.calls.ShelfCall.TheVariants.{Look, Put, Prove}
@@ -81,6 +82,7 @@ refused-whole here signer epoch set room =
       told = record {
         base = record {
           moment = refl;
+          bounds = refl;
           answer = Keys epoch set;
           work = Shelf (Look (well_known_of here.request.sub) here.moment) reply.Miss ∷ [];
           begins = refl;
@@ -108,6 +110,7 @@ unlisted-whole here signer set empty = record {
   told = record {
     base = record {
       moment = refl;
+      bounds = refl;
       answer = NoAnchor;
       work = [];
       begins = refl;
@@ -129,9 +132,9 @@ unlisted-whole here signer set empty = record {
 prove-seal : (url at : List ℕ) (seal pair : Pair) (r s : ShelfReply) → Shelf (Prove url seal) r ≡ Shelf (Prove at pair) s → seal ≡ pair
 prove-seal url at seal pair r s same = cc same
 
-module _ (request : ResolveRequest) (age moment : ℕ) (signer : Signer) (epoch : ℕ) (set : JwkSet) (self : IsSelf (self_situation request age moment) set) where
+module _ (request : ResolveRequest) (bounds : Bounds) (age moment : ℕ) (signer : Signer) (epoch : ℕ) (set : JwkSet) (self : IsSelf (self_situation request bounds age moment) set) (calls : 1 ≤ bounds.calls) (paths : 1 ≤ bounds.paths) where
   abbrev here : Situation
-  here = self_situation request age moment
+  here = self_situation request bounds age moment
 
   abbrev anchor : Identifier
   anchor = request.anchor
@@ -183,8 +186,8 @@ module _ (request : ResolveRequest) (age moment : ℕ) (signer : Signer) (epoch 
     invalid = λ path among. absurd among;
     counts = record { hits = refl; faults = refl; calls = refl };
     paths = refl;
-    few_calls = omega arith;
-    few_paths = omega arith;
+    few_calls = calls;
+    few_paths = paths;
     ended = refl;
   }
 
@@ -259,6 +262,7 @@ module _ (request : ResolveRequest) (age moment : ℕ) (signer : Signer) (epoch 
     told = record {
       base = record {
         moment = refl;
+        bounds = refl;
         answer = Keys epoch set;
         work = self_work anchor here.moment self.text self.until self.public;
         begins = refl;
@@ -292,7 +296,7 @@ module _ (request : ResolveRequest) (age moment : ℕ) (signer : Signer) (epoch 
         resolves = self.resolves;
         ends = record { leaf = self.own; anchor = self.own };
         are_ends = own-ends;
-        good = record { entries = []; exp = least_exp (statements_of (self.text ∷ [])) };
+        good = record { entries = []; exp = least_exp (statements_of (self.text ∷ [])); configs = [] };
         are_good = rw no-marks (record { marks = []; those = refl; entries_are = refl; exp_is = refl });
         says = record { claims = refl; text = refl };
       };

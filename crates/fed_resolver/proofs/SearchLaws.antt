@@ -21,7 +21,7 @@ use Rattle.resolve_search.specs.Turning.{IsChain, query_at}
 use Rattle.fed_resolver.specs.declared.outcome.Refusal.{Refusal}
 use Rattle.fed_resolver.specs.declared.outcome.Refusal.TheVariants.{NoAnchor, NotFound, PolicyOnly, NoChain, Unavailable, Budget, Worn, Memory}
 use Rattle.fed_resolver.specs.Calls.{IsFresh, Resolves, WornOnly}
-use Rattle.fed_resolver.specs.Going.{HasLeaf, HasRounds, IsBegun, faults_in, last_search, usual_aim}
+use Rattle.fed_resolver.specs.Going.{HasLeaf, HasRounds, IsBegun, faults_in, first_aim, last_search}
 use Rattle.fed_resolver.specs.Outcomes.{Tells, asked_query}
 use Rattle.fed_resolver.specs.Refusals.{GoesBy, WholeBy, outcome_of, refused_by}
 use Rattle.fed_resolver.specs.Stretches.{Goes, Moment, moment_at}
@@ -44,29 +44,29 @@ begun-good here trace begun = bare-good trace (begun-bare here trace begun)
 
 -- ---- the leaf's rounds
 
-module _ (request : ResolveRequest) (age t : ℕ) (old new : Trace) (before after : CommonsKnown) (seen now : LinkSeen) (begun : IsBegun (situation_of request age t) old)
-    (goes : Goes age 0 (moment_at old before seen) (moment_at new after now)) (ended : RoundEnd) (has : HasRounds (usual_aim request.sub request.anchor age) old new ended) where
-  query : query_at (usual_aim request.sub request.anchor age) old ≡ asked_query (situation_of request age t) new
-  query = leaf-query request age t old new begun goes.call goes.continues.more goes.continues.are goes.continues.works ended has
+module _ (request : ResolveRequest) (signer : Signer) (t : ℕ) (old new : Trace) (before after : CommonsKnown) (seen now : LinkSeen) (begun : IsBegun (situation_of request signer t) old)
+    (goes : Goes signer.age 0 (moment_at old before seen) (moment_at new after now)) (ended : RoundEnd) (has : HasRounds (first_aim request.sub request.anchor signer) old new ended) where
+  query : query_at (first_aim request.sub request.anchor signer) old ≡ asked_query (situation_of request signer t) new
+  query = leaf-query request signer t old new begun goes.call goes.continues.more goes.continues.are goes.continues.works ended has
 
   -- a chain was found
-  pub leaf-found : (chain : FoundChain) → ended.chain ≡ Some chain → HasLeaf (situation_of request age t) new chain
+  pub leaf-found : (chain : FoundChain) → ended.chain ≡ Some chain → HasLeaf (situation_of request signer t) new chain
   leaf-found chain is =
-      let found = subst (IsChain (query_at (usual_aim request.sub request.anchor age) old) new has.last) is has.chain in
+      let found = subst (IsChain (query_at (first_aim request.sub request.anchor signer) old) new has.last) is has.chain in
       record {
-        rounds = leaf_rounds request age t old new begun goes.call goes.continues.more goes.continues.are goes.continues.works ended has;
+        rounds = leaf_rounds request signer t old new begun goes.call goes.continues.more goes.continues.are goes.continues.works ended has;
         path = found.0;
         is_path = found.1;
         is_found = subst (λ q. IsFound new (case_in q (pages_in has.last) found.0) chain.texts chain.resolved) query found.2;
       }
 
   -- none was
-  pub leaf-refused : (signer : Signer) → ended.chain ≡ None → ProvesGood new → (faults : ℕ) → faults ≡ faults_in (last_search new.searches) → (first last : ℕ) → last ≡ counted (length new.checks) first
-      → CountsAll (situation_of request age t) signer (outcome_of (Err (refused_by ended.end faults)) new) first last
-  leaf-refused signer is good faults are first last count =
-      let leaf = leaf_rounds request age t old new begun goes.call goes.continues.more goes.continues.are goes.continues.works ended has in
-      let none : ¬ FoundPath has.last = subst (IsChain (query_at (usual_aim request.sub request.anchor age) old) new has.last) is has.chain in
-      refused-all (situation_of request age t) signer new leaf goes.told good none ended.end faults
+  pub leaf-refused : ended.chain ≡ None → ProvesGood new → (faults : ℕ) → faults ≡ faults_in (last_search new.searches) → (first last : ℕ) → last ≡ counted (length new.checks) first
+      → CountsAll (situation_of request signer t) signer (outcome_of (Err (refused_by ended.end faults)) new) first last
+  leaf-refused is good faults are first last count =
+      let leaf = leaf_rounds request signer t old new begun goes.call goes.continues.more goes.continues.are goes.continues.works ended has in
+      let none : ¬ FoundPath has.last = subst (IsChain (query_at (first_aim request.sub request.anchor signer) old) new has.last) is has.chain in
+      refused-all (situation_of request signer t) signer new leaf goes.told good none ended.end faults
       (sym (are ∙ ap faults_in (ap last_search leaf.searches ∙ last-told has.courses has.last has.is_last)))
       (subst (λ q. EndsAs q has.last ended.end) query has.ends) first last count
 
@@ -96,19 +96,19 @@ goes-any age old new (Err Memory) (inl goes) = (0, goes)
 goes-any age old new (Err Memory) (inr goes) = (1, goes)
 
 -- the outcome of a call that searched
-pub searched-resolves : (request : ResolveRequest) (age t : ℕ) (signer : Signer) (old mid new : CommonsKnown) (start last : Trace) (seen now : LinkSeen) (result : Result Reply Refusal)
-    → IsBegun (situation_of request age t) start → GainsEvents old mid start.events → ((anchors : List AnchorKeys) → IsFresh anchors old start)
-    → GoesBy age (moment_at start mid seen) (moment_at last new now) result → WholeBy (situation_of request age t) signer last result → WornOnly new result
-    → Resolves (situation_of request age t) signer old new (outcome_of result last)
-searched-resolves request age t signer old mid new start last seen now result begun gains fresh by whole worn =
-    let any = goes-any age (moment_at start mid seen) (moment_at last new now) result by in
+pub searched-resolves : (request : ResolveRequest) (signer : Signer) (t : ℕ) (old mid new : CommonsKnown) (start last : Trace) (seen now : LinkSeen) (result : Result Reply Refusal)
+    → IsBegun (situation_of request signer t) start → GainsEvents old mid start.events → ((anchors : List AnchorKeys) → IsFresh anchors old start)
+    → GoesBy signer.age (moment_at start mid seen) (moment_at last new now) result → WholeBy (situation_of request signer t) signer last result → WornOnly new result
+    → Resolves (situation_of request signer t) signer old new (outcome_of result last)
+searched-resolves request signer t old mid new start last seen now result begun gains fresh by whole worn =
+    let any = goes-any signer.age (moment_at start mid seen) (moment_at last new now) result by in
     let goes = any.1 in
     let more = goes.continues.more in
     let begins : last.events ≡ Book (Read request.anchor) (Keys last.epoch last.keys) ∷ more =
     goes.continues.are ∙ ap (λ l. l ++ more) begun.events ∙ ap₂ (λ n k. Book (Read request.anchor) (Keys n k) ∷ more) (sym goes.call.epoch) (sym goes.call.keys) in
-    let part = part-read (situation_of request age t) last (Keys last.epoch last.keys) more (goes.call.moment ∙ begun.moment) begins (refl, inl refl) goes.continues.works goes.told in
+    let part = part-read (situation_of request signer t) last (Keys last.epoch last.keys) more (goes.call.moment ∙ begun.moment) (goes.call.bounds ∙ begun.bounds) begins (refl, inl refl) goes.continues.works goes.told in
     record {
-      tells = tells-by (situation_of request age t) signer last result whole part;
+      tells = tells-by (situation_of request signer t) signer last result whole part;
       events = gains-later old mid new start.events last.events goes.continues gains;
       worn = worn;
       fresh = λ anchors. fresh-later anchors old start last more (fresh anchors) goes.continues.are goes.continues.works;

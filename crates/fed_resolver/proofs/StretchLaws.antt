@@ -102,12 +102,12 @@ rounds-then extra a b c first mid last one two =
 -- ---- stretches
 
 keys-then : (a b c : Trace) → SameKeys a b → SameKeys b c → SameKeys a c
-keys-then a b c one two = record { moment = two.moment ∙ one.moment; epoch = two.epoch ∙ one.epoch; keys = two.keys ∙ one.keys }
+keys-then a b c one two = record { moment = two.moment ∙ one.moment; epoch = two.epoch ∙ one.epoch; keys = two.keys ∙ one.keys; bounds = two.bounds ∙ one.bounds }
 
 -- nothing is done
 pub goes-still : (age : ℕ) (m : Moment) → IsTrueSoFar age m.trace → Goes age 0 m m
 goes-still age m told = record {
-  call = record { moment = refl; epoch = refl; keys = refl };
+  call = record { moment = refl; epoch = refl; keys = refl; bounds = refl };
   told = told;
   continues = continues-none m.trace.events m.known;
   used = rounds-none m.link m.trace.searches m.trace.searches refl;
@@ -135,7 +135,7 @@ goes-on_to age a b c halt.Memory one (inr two) = inr (goes-then age 1 a b c one 
 -- one round
 module _ (age : ℕ) (old new : Trace) (before after : CommonsKnown) (seen now : LinkSeen) (same : SameBut old new) (told : IsTrueSoFar age new) (continues : Continues old.events new.events before after) where
   goes-by : (extra : ℕ) → UsesRounds extra seen now old.searches new.searches → Goes age extra (moment_at old before seen) (moment_at new after now)
-  goes-by extra used = record { call = record { moment = same.moment; epoch = same.epoch; keys = same.keys }; told = told; continues = continues; used = used }
+  goes-by extra used = record { call = record { moment = same.moment; epoch = same.epoch; keys = same.keys; bounds = same.bounds }; told = told; continues = continues; used = used }
 
   pub goes-round : UsesLinkOnce 0 seen now old new → Goes age 0 (moment_at old before seen) (moment_at new after now)
   goes-round once = goes-by 0 (round-uses seen now old new once)

@@ -15,6 +15,7 @@ use Rattle.statement_shelf.specs.declared.calls.BookReply.TheVariants.{Keys}
 use Rattle.statement_shelf.specs.Passes.{CommonsKnown}
 use Rattle.resolve_reply.specs.declared.signer.Signer.{Signer}
 use Rattle.resolve_reply.specs.declared.reply.Reply.{Reply}
+use Rattle.resolve_reply.specs.Bounds.{bounds_for}
 use Rattle.resolve_reply.specs.Marks.{searched_issuers}
 use Rattle.resolve_round.specs.declared.request.ResolveRequest.{ResolveRequest}
 use Rattle.resolve_round.specs.declared.trace.Event.{Event}
@@ -22,8 +23,8 @@ use Rattle.resolve_round.specs.declared.trace.Event.TheVariants.{Book}
 use Rattle.resolve_round.specs.declared.trace.Search.{Search}
 use Rattle.resolve_round.specs.declared.trace.Trace.{Trace}
 use Rattle.resolve_round.specs.Courses.{Course, Stop, finished, found, out_of_calls, out_of_paths, search_of}
-use Rattle.resolve_round.specs.Pages.{Query}
-use Rattle.resolve_round.specs.Rounds.{AreRounds, AreRoundsForEach, EndsAs, FoundPath, IsLast, Round}
+use Rattle.resolve_round.specs.Pages.{Pages, Query}
+use Rattle.resolve_round.specs.Rounds.{AreRounds, AreRoundsForEach, EndsAs, FoundPath, IsLast, Round, pages_in}
 use Rattle.resolve_round.specs.Told.{IsTrueSoFar, ProvesGood}
 use Rattle.resolve_round.specs.Traces.{IsWork}
 use Rattle.resolve_search.specs.declared.round.RoundEnd.{RoundEnd}
@@ -31,12 +32,12 @@ use Rattle.resolve_search.specs.Turning.{query_at}
 use Rattle.fed_resolver.specs.declared.outcome.Refusal.{Refusal}
 use Rattle.fed_resolver.specs.declared.outcome.Refusal.TheVariants.{NoAnchor, NotFound, PolicyOnly, NoChain, Unavailable, Budget, Worn, Memory}
 use Rattle.fed_resolver.specs.Calls.{WornOnly}
-use Rattle.fed_resolver.specs.Going.{AddsCourses, HasLeafRounds, HasRounds, IsBegun, last_search, usual_aim}
+use Rattle.fed_resolver.specs.Going.{AddsCourses, HasLeafRounds, HasRounds, IsBegun, first_aim, last_search}
 use Rattle.fed_resolver.specs.Outcomes.{IsAnswered, IsResult, IsWhole, asked_query}
 use Rattle.fed_resolver.specs.Refusals.{WholeBy, outcome_of, refused_by}
-use Rattle.fed_resolver.specs.Searches.{Ends, both_ends, ends_of, if_found, issuers_after, marks_tested, said_in}
+use Rattle.fed_resolver.specs.Searches.{Ends, both_ends, ends_of, first_text_of, if_found, issuers_after, marks_tested, said_in, text_by}
 use Rattle.fed_resolver.specs.Stretches.{SameKeys}
-use Rattle.fed_resolver.specs.Told.{DidRounds, Situation, ToldSearches, ToldWhole, query_of, situation_of, usual}
+use Rattle.fed_resolver.specs.Told.{DidRounds, Situation, ToldSearches, ToldWhole, query_of, situation_of}
 use Rattle.fed_resolver.specs.Uses.{CountsAll, CountsTests}
 use Rattle.fed_resolver.proofs.CourseLaws.{adds-none, did-then}
 use Rattle.fed_base.specs.Counts.{counted}
@@ -60,30 +61,31 @@ last-told (course ∷ next ∷ courses) last is =
 
 -- ---- the leaf's rounds
 
-module _ (request : ResolveRequest) (age t : ℕ) (old new : Trace) (begun : IsBegun (situation_of request age t) old) (same : SameKeys old new) (more : List Event) (events : new.events ≡ old.events ++ more)
-    (works : (event : Event) → Among event more → IsWork event) (end : RoundEnd) (has : HasRounds (usual_aim request.sub request.anchor age) old new end) where
+module _ (request : ResolveRequest) (signer : Signer) (t : ℕ) (old new : Trace) (begun : IsBegun (situation_of request signer t) old) (same : SameKeys old new) (more : List Event) (events : new.events ≡ old.events ++ more)
+    (works : (event : Event) → Among event more → IsWork event) (end : RoundEnd) (has : HasRounds (first_aim request.sub request.anchor signer) old new end) where
   pub begins-with : new.events ≡ Book (Read request.anchor) (Keys new.epoch new.keys) ∷ more
   begins-with =
       events ∙ ap (λ l. l ++ more) begun.events ∙ ap₂ (λ n k. Book (Read request.anchor) (Keys n k) ∷ more) (sym same.epoch) (sym same.keys)
 
-  pub leaf-query : query_at (usual_aim request.sub request.anchor age) old ≡ asked_query (situation_of request age t) new
+  pub leaf-query : query_at (first_aim request.sub request.anchor signer) old ≡ asked_query (situation_of request signer t) new
   leaf-query =
-      ap₂ (λ (k : JwkSet) m. record { entity = request.sub; anchor = request.anchor; keys = k.keys; moment = m; bounds = usual }) (sym same.keys) begun.moment
+      ap₂ (λ (k : JwkSet) m. record { entity = request.sub; anchor = request.anchor; keys = k.keys; moment = m; bounds = bounds_for signer.bounds request.anchor }) (sym same.keys) begun.moment
 
-  abbrev pub leaf_rounds : HasLeafRounds (situation_of request age t) new
+  abbrev pub leaf_rounds : HasLeafRounds (situation_of request signer t) new
   leaf_rounds = record {
     moment = same.moment ∙ begun.moment;
+    bounds = same.bounds ∙ begun.bounds;
     work = more;
     begins = begins-with;
     works = works;
     leaf = has.courses;
     searches = has.added.searches ∙ ap (λ l. l ++ map search_of has.courses) begun.searches;
-    did = subst (DidRounds t age has.courses) (append_cancel_left old.events has.added.more more (sym has.added.events ∙ events))
-        (subst (λ m. DidRounds m age has.courses has.added.more) begun.moment has.added.did);
+    did = subst (DidRounds t signer.age has.courses) (append_cancel_left old.events has.added.more more (sym has.added.events ∙ events))
+        (subst (λ m. DidRounds m signer.age has.courses has.added.more) begun.moment has.added.did);
     rounds = subst (λ q. AreRounds q has.courses) leaf-query has.are;
     last = has.last;
     is_last = has.is_last;
-    last_round = round-last (asked_query (situation_of request age t) new) has.courses has.last (subst (λ q. AreRounds q has.courses) leaf-query has.are) has.is_last;
+    last_round = round-last (asked_query (situation_of request signer t) new) has.courses has.last (subst (λ q. AreRounds q has.courses) leaf-query has.are) has.is_last;
   }
 
 -- ---- the whole trace
@@ -106,6 +108,7 @@ module _ (here : Situation) (mid new : Trace) (leaf : HasLeafRounds here mid) (s
   abbrev whole_base : ToldSearches here new
   whole_base = record {
     moment = same.moment ∙ leaf.moment;
+    bounds = same.bounds ∙ leaf.bounds;
     answer = Keys new.epoch new.keys;
     work = leaf.work ++ more;
     begins = whole-begins;
@@ -137,6 +140,16 @@ said-by-stop (out_of_paths path) said none = refl
 pub said-none : (query : Query) (last : Course) (entity : Identifier) → ¬ FoundPath last → said_in query last entity ≡ None
 said-none query last entity none = said-by-stop last.stop _ (λ path is. none (path, is))
 
+text-by-stop : (pages : Pages) (stop : Stop) → ((path : Path) → ¬ (stop ≡ found path)) → text_by pages stop ≡ None
+text-by-stop pages (found path) none = absurd (none path refl)
+text-by-stop pages finished none = refl
+text-by-stop pages (out_of_calls page) none = refl
+text-by-stop pages (out_of_paths path) none = refl
+
+pub no-text : (last : Course) → ¬ FoundPath last → first_text_of last ≡ None
+unfolding first_text_of
+no-text last none = text-by-stop (pages_in last) last.stop (λ path is. none (path, is))
+
 no-ends : (query : Query) (last : Course) → ¬ FoundPath last → ends_of query last ≡ None
 no-ends query last none =
     ap (λ o. both_ends o (said_in query last query.anchor)) (said-none query last query.entity none)
@@ -150,7 +163,7 @@ no-tests query leaf others last is none = rw (is, no-ends query last none) refl
 
 module _ (here : Situation) (signer : Signer) (new : Trace) (leaf : HasLeafRounds here new) (told : IsTrueSoFar here.age new) (good : ProvesGood new) (none : ¬ FoundPath leaf.last) where
   still : SameKeys new new
-  still = record { moment = refl; epoch = refl; keys = refl }
+  still = record { moment = refl; epoch = refl; keys = refl; bounds = refl }
 
   no-rounds : AreRoundsForEach (asked_query here new) (issuers_after (asked_query here new) leaf.last) []
   no-rounds = subst (λ ids. AreRoundsForEach (asked_query here new) ids []) (sym (no-issuers (asked_query here new) leaf.last none)) refl

@@ -1,11 +1,12 @@
 -- What holds of a call between its rounds, and what its rounds have added.
-use Rattle.std.specs.Prelude.{◌≡◌, ◌-◌, ℕ, List, [], ◌∷◌, ◌++◌, length, map, nat_eq, slice_get, Bool, true, ◌||◌, is_some, Option, Some, None, Result, Ok, Err}
+use Rattle.std.specs.Prelude.{◌≡◌, ◌-◌, ℕ, List, [], ◌∷◌, ◌++◌, length, map, nat_eq, slice_get, Bool, true, ◌||◌, is_some, Option, Some, None, option_and_then, Result, Ok, Err}
 use Rattle.std.specs.Option.{option_map_or}
 use Rattle.jwk_set.specs.declared.set.JwkSet.{JwkSet}
-use Rattle.entity_statement.specs.Claims.{Claims, Identifier}
+use Rattle.entity_statement.specs.Claims.{Identifier}
 use Rattle.entity_statement.specs.Signed.{statement_of}
 use Rattle.entity_statement.specs.Told.{told}
 use Rattle.chain_climb.specs.declared.path.Path.{Path}
+use Rattle.chain_climb.specs.declared.want.Bounds.{Bounds}
 use Rattle.chain_climb.specs.Elements.{Among}
 use Rattle.chain_check.specs.declared.tried.Tried.{Tried}
 use Rattle.statement_shelf.specs.declared.calls.BookCall.TheVariants.{Read}
@@ -13,7 +14,9 @@ use Rattle.statement_shelf.specs.declared.calls.BookReply.{BookReply}
 use Rattle.statement_shelf.specs.declared.calls.BookReply.TheVariants.{Keys}
 use Rattle.statement_shelf.specs.declared.calls.BookReply.TheVariants as book
 use Rattle.resolve_reply.specs.declared.issuers.Issuer.{Issuer}
-use Rattle.resolve_reply.specs.Marks.{keys_of}
+use Rattle.resolve_reply.specs.declared.signer.Signer.{Signer}
+use Rattle.resolve_reply.specs.Bounds.{bounds_for}
+use Rattle.resolve_reply.specs.Marks.{keys_of, text_of}
 use Rattle.resolve_round.specs.declared.trace.Event.{Event}
 use Rattle.resolve_round.specs.declared.trace.Event.TheVariants.{Book}
 use Rattle.resolve_round.specs.declared.trace.Search.{Search}
@@ -31,14 +34,15 @@ use Rattle.fed_resolver.specs.declared.outcome.Refusal.{Refusal}
 use Rattle.fed_resolver.specs.declared.texts.Ends.{Ends}
 use Rattle.fed_resolver.specs.declared.outcome.Refusal.TheVariants as refusal
 use Rattle.fed_resolver.specs.Outcomes.{asked_query}
-use Rattle.fed_resolver.specs.Searches.{found_keys, said_in}
-use Rattle.fed_resolver.specs.Told.{DidRounds, GaveSome, Situation, usual}
+use Rattle.fed_resolver.specs.Searches.{first_text_of, found_keys, found_texts, keys_said, said_in}
+use Rattle.fed_resolver.specs.Told.{DidRounds, GaveSome, Situation}
 
 -- ---- the beginning
 
 -- nothing was done yet
-pub record IsBlank (moment : ℕ) (trace : Trace) : Type 0 where
+pub record IsBlank (bounds : Bounds) (moment : ℕ) (trace : Trace) : Type 0 where
   pub moment_is : trace.moment ≡ moment
+  pub bounds_is : trace.bounds ≡ bounds
   pub epoch : trace.epoch ≡ 0
   pub keys : trace.keys.keys ≡ []
   pub searches : trace.searches ≡ []
@@ -48,6 +52,7 @@ pub record IsBlank (moment : ℕ) (trace : Trace) : Type 0 where
 -- the book replied the anchor's keys, and nothing else was done
 pub record IsBegun (here : Situation) (trace : Trace) : Type 0 where
   pub moment : trace.moment ≡ here.moment
+  pub bounds : trace.bounds ≡ here.bounds
   pub searches : trace.searches ≡ []
   pub checks : trace.checks ≡ []
   pub events : trace.events ≡ Book (Read here.request.anchor) (Keys trace.epoch trace.keys) ∷ []
@@ -88,9 +93,9 @@ pub record TakesKeys (old new : Trace) (result : Result (Unit {0}) Refusal) : Ty
 
 -- ---- rounds
 
--- what a first round for an entity is after
-abbrev pub usual_aim : Identifier → Identifier → ℕ → Aim
-usual_aim leaf anchor age = record { leaf = leaf; anchor = anchor; bounds = usual; age = age; looks = true }
+-- what a first round for an entity is after, within the signer's bounds for the anchor
+abbrev pub first_aim : Identifier → Identifier → Signer → Aim
+first_aim leaf anchor signer = record { leaf = leaf; anchor = anchor; bounds = bounds_for signer.bounds anchor; age = signer.age; looks = true }
 
 -- the hits and the faults of a round, where there is one
 abbrev pub hits_in : Option Search → ℕ
@@ -126,10 +131,11 @@ pub record HasRounds (aim : Aim) (old new : Trace) (end : RoundEnd) : Type 0 whe
   pub ends : EndsAs (query_at aim old) last end.end
   pub chain : IsChain (query_at aim old) new last end.chain
 
--- an issuer is kept with the keys that its configuration says, where that was found
-abbrev pub KeepsBy : Identifier → Option Claims → List Issuer → List Issuer → Type 0
+-- an issuer is kept with its configuration and the keys that this says, where it was found
+abbrev pub KeepsBy : Identifier → Option (List ℕ) → List Issuer → List Issuer → Type 0
 KeepsBy id None before after = after ≡ before
-KeepsBy id (Some claims) before after = (keys : JwkSet) × (after ≡ before ++ record { id = id; keys = keys } ∷ []) × (keys.keys ≡ claims.keys)
+KeepsBy id (Some text) before after =
+    (keys : JwkSet) × (after ≡ before ++ record { id = id; keys = keys; text = text } ∷ []) × (keys_said (Some text) ≡ Some keys.keys)
 
 -- the rounds for an issuer were added, and it is kept where the last of them found a chain
 pub record HasIssuer (aim : Aim) (old new : Trace) (before after : List Issuer) : Type 0 where
@@ -138,20 +144,26 @@ pub record HasIssuer (aim : Aim) (old new : Trace) (before after : List Issuer) 
   pub are : AreRounds (query_at aim old) courses
   pub last : Course
   pub is_last : IsLast courses last
-  pub kept : KeepsBy aim.leaf (said_in (query_at aim old) last aim.leaf) before after
+  pub kept : KeepsBy aim.leaf (first_text_of last) before after
+  -- the first text of its chain is the configuration that the round found
+  pub said : said_in (query_at aim old) last aim.leaf ≡ option_and_then statement_of (first_text_of last)
 
--- the rounds for each of these issuers were added, and those whose chain was found are kept with the keys of their configurations
+-- the rounds for each of these issuers were added, and those whose chain was found are kept with their configurations and the keys of these
 pub record HasIssuers (aim : Aim) (issuers : List Identifier) (old new : Trace) (kept : List Issuer) : Type 0 where
   pub others : List Course
   pub added : AddsCourses aim.age others old new
   pub rounds : AreRoundsForEach (query_at aim old) issuers others
   pub keys : (issuer : Identifier) → keys_of kept issuer ≡ found_keys (query_at aim old) others issuer
+  pub texts : (issuer : Identifier) → text_of kept issuer ≡ found_texts others issuer
+  -- the keys are those that the configuration says
+  pub said : (issuer : Identifier) → found_keys (query_at aim old) others issuer ≡ keys_said (found_texts others issuer)
 
 -- ---- the leaf's chain
 
 -- the trace tells the leaf's rounds, behind the reading of the book
 pub record HasLeafRounds (here : Situation) (trace : Trace) : Type 0 where
   pub moment : trace.moment ≡ here.moment
+  pub bounds : trace.bounds ≡ here.bounds
   pub work : List Event
   pub begins : trace.events ≡ Book (Read here.request.anchor) (Keys trace.epoch trace.keys) ∷ work
   pub works : (event : Event) → Among event work → IsWork event

@@ -1,6 +1,7 @@
 -- Which result a call has, by what its trace tells: each comes only where it says, and no two say the same.
 use Rattle.std.specs.Prelude.{◌≡◌, ℕ, List, Some, Result, Ok, Err}
 use Rattle.fed_json.specs.declared.tree.Json.{Json}
+use Rattle.entity_statement.specs.Claims.{Identifier}
 use Rattle.chain_check.specs.Chains.{Texts, statements_of}
 use Rattle.chain_check.specs.Validity.{IsValid, ResolvesTo, case_of}
 use Rattle.chain_check.specs.Verdicts.{least_exp}
@@ -18,9 +19,9 @@ use Rattle.resolve_round.specs.Courses.{Course, found}
 use Rattle.resolve_round.specs.Pages.{Query, chain_of}
 use Rattle.resolve_reply.specs.declared.marks.GoodMarks.{GoodMarks}
 use Rattle.resolve_reply.specs.declared.said.Said.{Said}
-use Rattle.resolve_reply.specs.Marks.{AreGood, looked_at}
+use Rattle.resolve_reply.specs.Marks.{AreConfigs, AreGood, looked_at}
 use Rattle.resolve_reply.specs.Replies.{IsReplyOf, cut_to}
-use Rattle.fed_resolver.specs.Searches.{Ends, ends_of, judging_after}
+use Rattle.fed_resolver.specs.Searches.{Ends, ends_of, found_keys, found_texts, judging_after, keys_said}
 use Rattle.resolve_round.specs.Rounds.{EndsAs, FoundPath, HadFault, IsLast, pages_in}
 use Rattle.resolve_round.specs.Told.{ShowsSeals}
 use Rattle.fed_resolver.specs.Told.{Situation, ToldInPart, ToldWhole, query_of}
@@ -97,6 +98,19 @@ IsResult here signer trace told (Err Memory) = ⊥
 pub record IsWhole (here : Situation) (signer : Signer) (outcome : Outcome) : Type 0 where
   pub told : ToldWhole here outcome.trace
   pub result : IsResult here signer outcome.trace told outcome.result
+
+-- what stands beside a reply is of its chain: until when this holds without the marks
+pub record HasChainEnd (here : Situation) (signer : Signer) (trace : Trace) (reply : Reply) : Type 0 where
+  pub whole : IsWhole here signer (record { result = Ok reply; trace = trace })
+  pub exp : reply.chain_exp ≡ least_exp (statements_of whole.result.is_reply.chain)
+
+-- and the configurations of the issuers of its marks, one for each mark, in their order: the first text of the chain that the last of the
+-- issuer's rounds found, whose keys are those that the mark was judged by
+pub record HasConfigs (here : Situation) (signer : Signer) (trace : Trace) (reply : Reply) : Type 0 where
+  pub whole : IsWhole here signer (record { result = Ok reply; trace = trace })
+  pub are : AreConfigs (found_texts whole.told.base.others) whole.result.is_reply.good.entries reply.configs
+  pub keys : (issuer : Identifier)
+      → found_keys (asked_query here trace) whole.told.base.others issuer ≡ keys_said (found_texts whole.told.base.others issuer)
 
 -- what an outcome tells: of a call that ended for want of memory or at a worn object, what stands in the trace; of any other, all
 abbrev pub Tells : Situation → Signer → Outcome → Result Reply Refusal → Type 0

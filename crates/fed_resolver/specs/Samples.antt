@@ -12,6 +12,7 @@ use Rattle.entity_statement.specs.Signed.{statement_of}
 use Rattle.chain_check.specs.Chains.{statements_of}
 use Rattle.chain_check.specs.Validity.{IsValid, ResolvesTo, case_of}
 use Rattle.chain_check.specs.Verdicts.{least_exp}
+use Rattle.chain_climb.specs.declared.want.Bounds.{Bounds}
 use Rattle.chain_climb.specs.Climbs.{alone, configuration_of}
 use Rattle.statement_shelf.specs.declared.calls.ShelfCall.TheVariants.{Look, Put, Prove}
 use Rattle.statement_shelf.specs.declared.calls.ShelfReply.TheVariants as reply
@@ -29,7 +30,7 @@ use Rattle.fed_resolver.specs.declared.outcome.Refusal.TheVariants.{NoAnchor, No
 use Rattle.resolve_reply.specs.declared.said.Said.{Said}
 use Rattle.resolve_reply.specs.declared.signer.Signer.{Signer}
 use Rattle.resolve_reply.specs.Replies.{cut_to, reply_claims, reply_type}
-use Rattle.fed_resolver.specs.Told.{Situation, usual}
+use Rattle.fed_resolver.specs.Told.{Situation}
 
 -- a round whose leaf refuses its configuration
 abbrev pub refused_course : Identifier → Course
@@ -56,6 +57,7 @@ refused_outcome here epoch set = record {
     moment = here.moment;
     epoch = epoch;
     keys = set;
+    bounds = here.bounds;
     searches = (refused_course here.request.sub).search ∷ [];
     checks = [];
     events = Book (Read here.request.anchor) (book.Keys epoch set) ∷ Shelf (Look (well_known_of here.request.sub) here.moment) reply.Miss ∷ [];
@@ -70,6 +72,7 @@ unlisted_outcome here set = record {
     moment = here.moment;
     epoch = 0;
     keys = set;
+    bounds = here.bounds;
     searches = [];
     checks = [];
     events = Book (Read here.request.anchor) book.NoAnchor ∷ [];
@@ -79,8 +82,8 @@ unlisted_outcome here set = record {
 -- ---- an anchor that resolves itself
 
 -- the call: the anchor is asked for under itself
-abbrev pub self_situation : ResolveRequest → ℕ → ℕ → Situation
-self_situation request age moment = record { request = record request { sub = request.anchor }; age = age; moment = moment; bounds = usual }
+abbrev pub self_situation : ResolveRequest → Bounds → ℕ → ℕ → Situation
+self_situation request bounds age moment = record { request = record request { sub = request.anchor }; age = age; moment = moment; bounds = bounds }
 
 -- its configuration, with the key under which it is sealed, and what its chain of one text resolves to
 pub record IsSelf (here : Situation) (set : JwkSet) : Type 0 where
@@ -141,11 +144,14 @@ self_outcome here signer epoch set self = record {
   result = Ok (record {
     claims = reply_claims signer.iss (self_said here set self);
     text = sealed_text signer.keys reply_type (reply_claims signer.iss (self_said here set self));
+    chain_exp = least_exp (statements_of (self.text ∷ []));
+    configs = [];
   });
   trace = record {
     moment = here.moment;
     epoch = epoch;
     keys = set;
+    bounds = here.bounds;
     searches = (self_course here.request.anchor self.text).search ∷ [];
     checks = record { text = self.text; public = self.public; good = true } ∷ [];
     events = Book (Read here.request.anchor) (book.Keys epoch set) ∷ self_work here.request.anchor here.moment self.text self.until self.public;

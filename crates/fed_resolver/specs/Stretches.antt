@@ -26,11 +26,12 @@ pub record Moment : Type 0 where
 abbrev pub moment_at : Trace → CommonsKnown → LinkSeen → Moment
 moment_at trace known link = record { trace = trace; known = known; link = link }
 
--- the moment, the epoch and the keys stay
+-- the moment, the epoch, the keys and the bounds stay
 pub record SameKeys (old new : Trace) : Type 0 where
   pub moment : new.moment ≡ old.moment
   pub epoch : new.epoch ≡ old.epoch
   pub keys : new.keys ≡ old.keys
+  pub bounds : new.bounds ≡ old.bounds
 
 -- rounds were added, and the link was called as often as they count, and so many times more; each fault that it counts is one of theirs
 pub record UsesRounds (extra : ℕ) (seen now : LinkSeen) (old new : List Search) : Type 0 where

@@ -6,6 +6,8 @@ use Rattle.chain_climb.specs.Elements.{Among}
 use Rattle.statement_shelf.specs.declared.calls.BookCall.TheVariants.{Read}
 use Rattle.statement_shelf.specs.declared.calls.BookReply.{BookReply}
 use Rattle.statement_shelf.specs.declared.calls.BookReply.TheVariants.{Keys}
+use Rattle.resolve_reply.specs.declared.signer.Signer.{Signer}
+use Rattle.resolve_reply.specs.Bounds.{bounds_for}
 use Rattle.resolve_round.specs.declared.request.ResolveRequest.{ResolveRequest}
 use Rattle.resolve_round.specs.declared.trace.Event.{Event}
 use Rattle.resolve_round.specs.declared.trace.Event.TheVariants.{Book}
@@ -25,12 +27,14 @@ pub record Situation : Type 0 where
   pub moment : ℕ
   pub bounds : Bounds
 
--- the bounds of a round: so many statements of superiors, calls of the link, and partial paths
-abbrev pub usual : Bounds
-usual = record { depth = 8; calls = 64; paths = 4096 }
-
-abbrev pub situation_of : ResolveRequest → ℕ → ℕ → Situation
-situation_of request age moment = record { request = request; age = age; moment = moment; bounds = usual }
+-- a call by a signer: its bounds are those of the signer's first entry of the requested anchor, else the usual ones
+abbrev pub situation_of : ResolveRequest → Signer → ℕ → Situation
+situation_of request signer moment = record {
+  request = request;
+  age = signer.age;
+  moment = moment;
+  bounds = bounds_for signer.bounds request.anchor;
+}
 
 -- what the leaf's rounds are after
 abbrev pub query_of : Situation → List Jwk → Query
@@ -66,6 +70,8 @@ SearchesAfter here r leaf others = (leaf ≡ []) × (others ≡ [])
 pub record ToldSearches (here : Situation) (trace : Trace) : Type 0 where
   -- the call's one reading of the clock
   pub moment : trace.moment ≡ here.moment
+  -- its bounds
+  pub bounds : trace.bounds ≡ here.bounds
   -- its one Read, of the requested anchor, comes first, and then come Looks, Puts and Proves
   pub answer : BookReply
   pub work : List Event
@@ -116,6 +122,7 @@ BeginsSo here trace events = ⊥
 -- what stands in the trace is true
 pub record ToldInPart (here : Situation) (trace : Trace) : Type 0 where
   pub moment : trace.moment ≡ here.moment
+  pub bounds : trace.bounds ≡ here.bounds
   pub begins : BeginsSo here trace trace.events
   -- each Look is of the call's moment
   pub looks : LooksAreNow trace

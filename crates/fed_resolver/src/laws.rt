@@ -6,6 +6,7 @@ ghost use Rattle.entity_statement.specs.Claims.{Identifier};
 ghost use Rattle.chain_check.specs.Chains.{Texts};
 ghost use Rattle.chain_check.specs.Validity.{IsValid, case_of};
 ghost use Rattle.chain_climb.specs.Elements.{Among};
+ghost use Rattle.chain_climb.specs.declared.want.Bounds.{Bounds};
 ghost use Rattle.jwk_set.specs.declared.set.JwkSet.{JwkSet as KeySet};
 ghost use Rattle.resolve_round.specs.declared.request.ResolveRequest.{ResolveRequest as AnyRequest};
 ghost use Rattle.statement_shelf.specs.declared.calls.AnchorKeys.{AnchorKeys};
@@ -69,6 +70,6 @@ pub fn samples()
     // An anchor that isn't listed has no searches.
     ensures unlisted { (here : Situation) (signer : AnySigner) (set : KeySet) → set.keys ≡ [] → IsWhole here signer (unlisted_outcome here set) }
     // An anchor that resolves itself, with one look, one fetch, one put, one test, one proof and the reply.
-    ensures itself { (request : AnyRequest) (age moment : ℕ) (signer : AnySigner) (epoch : ℕ) (set : KeySet) (self : IsSelf (self_situation request age moment) set)
-        → IsWhole (self_situation request age moment) signer (self_outcome (self_situation request age moment) signer epoch set self) }
+    ensures itself { (request : AnyRequest) (bounds : Bounds) (age moment : ℕ) (signer : AnySigner) (epoch : ℕ) (set : KeySet) (self : IsSelf (self_situation request bounds age moment) set)
+        → 1 ≤ bounds.calls → 1 ≤ bounds.paths → IsWhole (self_situation request bounds age moment) signer (self_outcome (self_situation request bounds age moment) signer epoch set self) }
 {}

@@ -16,5 +16,5 @@ mod texts;
 
 pub use call::resolve;
 pub use outcome::{Outcome, Refusal};
-pub use resolve_reply::{Reply, Signer};
+pub use resolve_reply::{AnchorBounds, Reply, Signer};
 pub use resolve_round::{Ask, Check, Event, Got, ResolveRequest, Search, Trace};

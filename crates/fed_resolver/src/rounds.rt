@@ -4,38 +4,35 @@ ghost use Rattle.std.specs.Prelude.{◌≡◌, true, IfOk, OnOk};
 ghost use Rattle.resolve_round.specs.Linking.{link_view};
 ghost use Rattle.resolve_round.specs.Told.{ProvesGood};
 ghost use Rattle.resolve_round.specs.Calls.{Acts, Counted};
-ghost use Rattle.fed_resolver.specs.Going.{HasRounds, faults_in, hits_in, is_settled, last_search, usual_aim};
+ghost use Rattle.fed_resolver.specs.Going.{HasRounds, faults_in, first_aim, hits_in, is_settled, last_search};
 ghost use Rattle.fed_resolver.specs.Stretches.{CanGoOn, GoesFor, WalksFor, moment_of};
 
-use chain_climb::Bounds;
 use entity_id::EntityId;
 use fed_base::{Duplicate, Ledger, Memory};
 use fed_ports::Link;
+use resolve_reply::{Signer, bounds_for};
 use resolve_round::Search;
 use resolve_search::{Aim, Call, Halt, RoundEnd, search_round};
 use std::alloc::Global;
 use std::sync::Wait;
 
-// What a first round for an entity is after.
+// What a first round for an entity is after, within the signer's bounds for the anchor.
 pub(crate) fn aim_at(
     alloc: Global,
     leaf: &EntityId,
     anchor: &EntityId,
-    age: u64,
+    signer: &Signer,
 ) -> Result<Aim, Memory>
-    ensures { IfOk result (λ aim. aim ≡ usual_aim leaf.now anchor.now age) }
+    ensures { IfOk result (λ aim. aim ≡ first_aim leaf.now anchor.now signer.now) }
 {
+    let bounds = bounds_for(signer.bounds.as_slice(), anchor);
     let leaf = leaf.copy(alloc)?;
     let anchor = anchor.copy(alloc)?;
     Ok(Aim {
         leaf,
         anchor,
-        bounds: Bounds {
-            depth: 8,
-            calls: 64,
-            paths: 4096,
-        },
-        age,
+        bounds,
+        age: signer.age,
         looks: true,
     })
 }

@@ -8,7 +8,7 @@ ghost use Rattle.fed_resolver.specs.Going.{AreEnds, first_text, last_text};
 
 use chain_check::Tried;
 use entity_statement::{SignedStatement, Statement};
-use fed_base::{Memory, Seq, Text};
+use fed_base::{Duplicate, Memory, Seq, Text};
 use std::alloc::Global;
 
 // The statements at both ends of a chain.
@@ -45,6 +45,16 @@ pub(crate) fn first_statement(alloc: Global, chain: &[Tried]) -> Result<Statemen
     match chain.first() {
         Some(tried) => statement_in(alloc, tried.text.as_slice()),
         None => statement_in(alloc, b""),
+    }
+}
+
+// A copy of the first text.
+pub(crate) fn first_copy(alloc: Global, chain: &[Tried]) -> Result<Text, Memory>
+    ensures { IfOk result (λ text. text ≡ first_text chain.now) }
+{
+    match chain.first() {
+        Some(tried) => tried.text.copy(alloc),
+        None => Text::of(alloc, b""),
     }
 }
 

@@ -19,7 +19,7 @@ use Rattle.fed_serve.specs.declared.resolution.ResolveAnswer.{ResolveAnswer}
 use Rattle.fed_serve.specs.Resolutions.{CallAt, IsAnswerTo as IsOutcomeAnswer, IsMade as IsMadeBy, Walking}
 use Rattle.fed_serve.specs.ResolverResponses.{resolve_response}
 use Rattle.fed_serve.specs.Rotations.{Dealing, IsDealtAnswer, asked, rotation_at, stranger, untested, worn}
-use Rattle.fed_serve.specs.declared.answer.Answer.{Answer}
+use Rattle.fed_serve.specs.declared.handling.Answer.{Answer}
 use Rattle.fed_serve.specs.declared.node.Node.{Node}
 use Rattle.fed_serve.specs.Handlings.{Handles, Handling, IsIssued, Wants, dealt, issued, not_asked, resolved, unread}
 use Rattle.fed_serve.specs.Steps.{ChangesKeys, IsAnswerTo, IsKeyAnswer, IsMade, IsOf, IsResolvedAnswer, IsTold, ResolvesEntity}

@@ -29,7 +29,7 @@ use Rattle.fed_serve.specs.Handlings.{Handles, Handling, IsIssued, Wants, WantsN
 use Rattle.fed_serve.specs.Places.{place_of}
 use Rattle.fed_serve.specs.Responses.{dealt_response, issued_response, not_a_request, out_of_memory, status_of, tests_asked}
 use Rattle.fed_serve.specs.Rows.{Refuses}
-use Rattle.fed_serve.specs.Serving.{ComesWhere, IsMessage}
+use Rattle.fed_serve.specs.Answering.{ComesWhere, IsMessage}
 use Rattle.fed_serve.specs.Steps.{IsMade}
 use Rattle.fed_serve.proofs.Rows.{key_rows, other_sign, other_status, resolve_rows}
 

@@ -14,6 +14,10 @@ use Rattle.fed_serve.specs.contracts.node.Node as Node
 use Rattle.jwk_set.specs.contracts.jwk.Jwk as Jwk
 use Rattle.jwk_set.specs.contracts.set.JwkSet as JwkSet
 use Rattle.key_ring.proofs.ring.KeyRing.TheSendSync as ring
+use Rattle.node_config.specs.contracts.entities.AnchorPart as AnchorPart
+use Rattle.node_config.specs.contracts.node.NodeConfig as NodeConfig
+use Rattle.node_config.specs.contracts.resolver.ResolverConfig as ResolverConfig
+use Rattle.node_config.specs.contracts.subordinates.SubordinateConfig as SubordinateConfig
 use Rattle.resolve_round.specs.contracts.trace.Trace as Trace
 use Rattle.resolve_round.proofs.trace.Check.TheSendSync as check
 use Rattle.resolve_round.proofs.trace.Search.TheSendSync as round
@@ -51,8 +55,20 @@ keys_sync = search (jwk_sync, seq.the_sync, by_fields, sendable, crosses) depth 
 
 -- ---- what a node has
 
+anchor_sync : IsSync AnchorPart.the_row
+anchor_sync = search (keys_sync, id.the_sync, by_fields, sendable, crosses) depth 40 fits 8000
+
+subordinate_sync : IsSync SubordinateConfig.the_row
+subordinate_sync = search (tree_sync, keys_sync, text.the_sync, seq.the_sync, id.the_sync, by_fields, sendable, crosses) depth 40 fits 8000
+
+resolver_sync : IsSync ResolverConfig.the_row
+resolver_sync = search (anchor_sync, keys_sync, text.the_sync, seq.the_sync, by_fields, sendable, crosses) depth 40 fits 8000
+
+config_sync : IsSync NodeConfig.the_row
+config_sync = search (tree_sync, subordinate_sync, resolver_sync, text.the_sync, seq.the_sync, id.the_sync, by_fields, sendable, crosses) depth 40 fits 8000
+
 registry_sync : IsSync Registry.the_row
-registry_sync = search (tree_sync, keys_sync, text.the_sync, seq.the_sync, id.the_sync, ring.the_sync, by_fields, sendable, crosses) depth 40 fits 8000
+registry_sync = search (config_sync, ring.the_sync, by_fields, sendable, crosses) depth 40 fits 8000
 
 part_sync : IsSync ResolverPart.the_row
 part_sync = search (commons.the_sync, group.the_sync, kept.the_sync, shelf.the_send, keys_sync, keys_send, seq.the_send, id.the_send, id.the_sync, by_fields, sendable, crosses) depth 40 fits 8000

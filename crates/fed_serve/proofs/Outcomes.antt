@@ -1,9 +1,8 @@
 -- How serving ends, by how its parts end.
-use Rattle.std.proofs.Common.{◌≡◌, ◌≤◌, ◌<◌, ℕ, Option, Some, None, Result, Ok, Err, refl, sym, ◌∙◌, subst, inl, inr, arith, le_refl}
+use Rattle.std.proofs.Common.{◌≡◌, ◌≤◌, ◌<◌, ℕ, Option, Some, None, Result, Ok, Err, refl, sym, ap, ◌∙◌, subst, inl, inr, arith, le_refl}
 use Rattle.fed_base.specs.declared.faults.Memory.{Memory}
 use Rattle.fed_base.specs.Counts.{Rose}
 use Rattle.fed_ports.specs.Causes.{HasCause}
-use Rattle.fed_ports.specs.Times.{IsOneReading}
 use Rattle.http_messages.specs.declared.read.ReadEnd.{ReadEnd}
 use Rattle.http_messages.specs.declared.read.ReadEnd.TheVariants as read
 use Rattle.http_messages.specs.declared.request.Incoming.{Incoming}
@@ -13,17 +12,21 @@ use Rattle.http_plain.specs.Readings.{CausedBy, Taken}
 use Rattle.http_plain.specs.Writings.{Writes}
 use Rattle.authority_core.specs.Nodes.{Node as Authority}
 use Rattle.turn_log.specs.declared.worn.Worn.{Worn as WornAt}
-use Rattle.fed_serve.specs.Resolutions.{Walking}
-use Rattle.fed_serve.specs.declared.answer.Answer.{Answer}
+use Rattle.fed_serve.specs.Resolutions.{CallAt, Walking}
+use Rattle.fed_serve.specs.declared.answering.Answered.{Answered}
+use Rattle.fed_serve.specs.declared.answering.AnswerEnd.{AnswerEnd}
+use Rattle.fed_serve.specs.declared.answering.AnswerEnd.TheVariants as end
+use Rattle.fed_serve.specs.declared.handling.Answer.{Answer}
 use Rattle.fed_serve.specs.declared.node.Node.{Node}
 use Rattle.fed_serve.specs.declared.served.Served.{Served}
 use Rattle.fed_serve.specs.declared.serving.ServeFault.{ServeFault}
 use Rattle.fed_serve.specs.declared.serving.ServeFault.TheVariants.{ReadFault, WriteFault, Ended, Worn}
 use Rattle.fed_serve.specs.Handlings.{Handling, dealt, issued, not_asked, resolved, unread}
-use Rattle.fed_serve.specs.Moments.{Around, PeerAt}
-use Rattle.fed_serve.specs.Responses.{response_of, tests_asked}
-use Rattle.fed_serve.specs.Serving.{ComesWhere, HandsOut, HasCome, IsCut, IsHandled, IsMessage, IsServed, Serves, Tells}
-use Rattle.fed_serve.specs.Steps.{IsAnswer, IsMade, IsReading, IsSaid, IsSent, IsTelling, Sends, came_of}
+use Rattle.fed_serve.specs.Moments.{AnswerAt, Around, PeerAt, answer_at, answer_in}
+use Rattle.fed_serve.specs.Responses.{out_of_memory, response_of, tests_asked}
+use Rattle.fed_serve.specs.Answering.{Answers, AnswersAtMoment, Came, ComesWhere, HandsOut, IsHandledBy, IsMessage}
+use Rattle.fed_serve.specs.Serving.{HasCome, IsCut, IsServed, Serves, Tells}
+use Rattle.fed_serve.specs.Steps.{IsAnswer, IsHandedOut, IsMade, IsMadeOf, IsReading, IsSaid, IsSent, IsTelling, Sends, came_of}
 use Rattle.fed_serve.specs.Uses.{IsWornBy, Tests, TestsSome}
 use Rattle.fed_serve.proofs.Causes.{cause}
 
@@ -116,13 +119,8 @@ message node t h before now (Ok response) said is (inr wanting) = inr (wanting, 
 message node t h before now (Err m) said is (inl same) = cc same
 message node t h before now (Err m) said is (inr wanting) = inr (wanting, is)
 
--- what is answered, at the clock's one reading
-pub record IsMadeOf (node : Node) (walks : Walking) (before now : Around) (came : Option Incoming) (result : Result Answer WornAt) : Type 0 where
-  pub clock : IsOneReading before.clock now.clock
-  pub answer : IsAnswer node walks now.clock.last before.call now.call came result
-
-handled : (node : Node) (walks : Walking) (before now : Around) (came : Option Incoming) (answer : Answer) (said : Response)
-    → (is : IsMadeOf node walks before now came (Ok answer)) → IsSaid answer.response said → IsHandled node walks before now (came_of came) is.answer.handling said
+handled : (node : Node) (walks : Walking) (before now : AnswerAt) (came : Came) (answer : Answer) (said : Response)
+    → (is : IsMadeOf node walks before now came (Ok answer)) → IsSaid answer.response said → IsHandledBy node walks before now came is.answer.handling said
 handled node walks before now came answer said is says = record {
   handles = is.answer.handles;
   clock = is.clock;
@@ -131,11 +129,51 @@ handled node walks before now came answer said is says = record {
   message = message node.registry now.clock.last is.answer.handling before.call.tests now.call.tests answer.response said is.answer.does.told.3 says;
 }
 
-of_message : (node : Node) (walks : Walking) (before now : Around) (came : Option Incoming) (answer : Answer) (said : Response)
-    → (is : IsMadeOf node walks before now came (Ok answer)) → IsSaid answer.response said → ComesWhere node (came_of came) is.answer.handling said
+of_message : (node : Node) (walks : Walking) (before now : AnswerAt) (came : Came) (answer : Answer) (said : Response)
+    → (is : IsMadeOf node walks before now came (Ok answer)) → IsSaid answer.response said → ComesWhere node came is.answer.handling said
 of_message node walks before now came answer said is says =
     let h = handled node walks before now came answer said is says in
-    cause node now.clock.last before.call.tests now.call.tests (came_of came) is.answer.handling said h.handles h.message
+    cause node now.clock.last before.call.tests now.call.tests came is.answer.handling said h.handles h.message
+
+-- ---- the answer that is handed out
+
+pub handed_out : (node : Node) (walks : Walking) (before now : AnswerAt) (asked : Incoming) (made : Result Answer WornAt) (result : Result Answered AnswerEnd)
+    → IsMadeOf node walks before now (Ok asked) made → IsHandedOut made result → Answers node walks before now asked result
+handed_out node walks before now asked (Ok answer) (Ok answered) is out =
+    let h = is.answer.handling in
+    let told = is.answer.does.told in
+    let made = subst (IsMade node.registry now.clock.last h before.call.tests now.call.tests) out.0 told.3 in
+    record {
+      handling = h;
+      handled = handled node walks before now (Ok asked) answer answered.response is (inl out.0);
+      own = (made.0, made.1);
+      has_reason = made.2;
+      kind = ap (λ (s : Served). s.kind) out.1 ∙ told.1;
+      status = ap (λ (s : Served). s.status) out.1;
+      trace = subst (HandsOut h) (sym (ap (λ (s : Served). s.trace) out.1)) told.2;
+      cause = of_message node walks before now (Ok asked) answer answered.response is (inl out.0);
+    }
+handed_out node walks before now asked (Ok answer) (Err end.Memory) is out =
+    record { handling = is.answer.handling; handled = handled node walks before now (Ok asked) answer out_of_memory is (inr refl) }
+handed_out node walks before now asked (Err w) (Err (end.Worn count)) is out = record {
+  handling = is.answer.handling;
+  handles = is.answer.handles;
+  clock = is.clock;
+  uses = is.answer.does.uses;
+  worn = subst (IsWornBy is.answer.handling) out is.answer.does.told;
+}
+handed_out node walks before now asked (Ok answer) (Err (end.Worn count)) is out = absurd out
+handed_out node walks before now asked (Err w) (Ok answered) is out = absurd out
+handed_out node walks before now asked (Err w) (Err end.Memory) is out = absurd out
+
+-- what was handled at a moment that was read off a clock
+pub at_moment : (node : Node) (walks : Walking) (t : ℕ) (before now : CallAt) (asked : Incoming) (made : Result Answer WornAt) (result : Result Answered AnswerEnd)
+    → IsAnswer node walks t before now (Ok asked) made → IsHandedOut made result → AnswersAtMoment node walks t before now asked result
+at_moment node walks t before now asked made result is out clock clock' reading at =
+    handed_out node walks (answer_at clock before) (answer_at clock' now) asked made result
+    (record { clock = reading; answer = subst (λ n. IsAnswer node walks n before now (Ok asked) made) (sym at) is }) out
+
+-- ---- what is known of the peer
 
 -- a request that was read whole, or for which memory was wanting
 not_ended : {X : Type 0} (came : Option Incoming) → came_of came ≡ Err read.Ended → X
@@ -171,18 +209,18 @@ reads before mid now came is =
 -- ---- what was sent
 
 answered_whole : (node : Node) (walks : Walking) (before now : Around) (mid : PeerAt) (came : Option Incoming) (answer : Answer) (said : Response) (status : ℕ) (served : Served)
-    → Passes before.peer mid now.peer came → IsMadeOf node walks before now came (Ok answer) → IsSaid answer.response said
+    → Passes before.peer mid now.peer came → IsMadeOf node walks (answer_in before) (answer_in now) (came_of came) (Ok answer) → IsSaid answer.response said
     → Sends mid.held now.peer.held said (Ok status) → (served.kind ≡ answer.kind) × (served.status ≡ status) × (served.trace ≡ answer.trace)
     → IsServed node walks before now (came_of came) served
 answered_whole node walks before now mid came answer said status served passes made says sends telling = record {
   handling = made.answer.handling;
   response = said;
-  handled = handled node walks before now came answer said made says;
+  handled = handled node walks (answer_in before) (answer_in now) (came_of came) answer said made says;
   written = subst (λ held. Writes held now.peer.held said (Ok tt)) passes.reading.held sends.0;
   kind = telling.0 ∙ made.answer.does.told.1;
   status = telling.1 ∙ sends.1;
   trace = subst (HandsOut made.answer.handling) (sym telling.2) made.answer.does.told.2;
-  cause = of_message node walks before now came answer said made says;
+  cause = of_message node walks (answer_in before) (answer_in now) (came_of came) answer said made says;
 }
 
 served_so : (node : Node) (walks : Walking) (before now : Around) (mid : PeerAt) (came : Option Incoming) (served : Served)
@@ -219,7 +257,7 @@ cut_so node walks before now mid came passes is caused = record {
 }
 
 pub worn_so : (node : Node) (walks : Walking) (before now : Around) (came : Option Incoming) (w : WornAt)
-    → Passes before.peer now.peer now.peer came → IsMadeOf node walks before now came (Err w) → Serves node walks before now (Err (Worn w.count))
+    → Passes before.peer now.peer now.peer came → IsMadeOf node walks (answer_in before) (answer_in now) (came_of came) (Err w) → Serves node walks before now (Err (Worn w.count))
 worn_so node walks before now came w passes made = record {
   came = came_of came;
   has_come = come before.peer now.peer now.peer came passes;
@@ -231,18 +269,20 @@ worn_so node walks before now came w passes made = record {
   cut = λ e. cc e;
   write_fault = steady _ _ _ _ (λ e. cc e) passes.reading.write_faults;
   worn = λ count e. let same : w.count ≡ count = cc e in record {
-    handling = made.answer.handling;
-    handles = made.answer.handles;
-    clock = made.clock;
-    uses = made.answer.does.uses;
-    worn = subst (IsWornBy made.answer.handling) same made.answer.does.told;
+    is = record {
+      handling = made.answer.handling;
+      handles = made.answer.handles;
+      clock = made.clock;
+      uses = made.answer.does.uses;
+      worn = subst (IsWornBy made.answer.handling) same made.answer.does.told;
+    };
     held = passes.reading.held;
   };
 }
 
 answered_by : (node : Node) (walks : Walking) (before now : Around) (mid : PeerAt) (came : Option Incoming) (answer : Answer) (said : Response)
     (sent : Result ℕ ServeFault) (result : Result Served ServeFault)
-    → Passes before.peer mid now.peer came → IsMadeOf node walks before now came (Ok answer) → IsSaid answer.response said
+    → Passes before.peer mid now.peer came → IsMadeOf node walks (answer_in before) (answer_in now) (came_of came) (Ok answer) → IsSaid answer.response said
     → Sends mid.held now.peer.held said sent → IsTelling answer said sent result → HasCause mid.write_faults now.peer.write_faults result
     → Serves node walks before now result
 answered_by node walks before now mid came answer said (Ok status) (Ok served) passes made says sends telling caused =
@@ -252,7 +292,7 @@ answered_by node walks before now mid came answer said (Err WriteFault) (Err oth
     (cut_so node walks before now mid came passes (record {
       handling = made.answer.handling;
       response = said;
-      handled = handled node walks before now came answer said made says;
+      handled = handled node walks (answer_in before) (answer_in now) (came_of came) answer said made says;
       written = subst (λ held. Writes held now.peer.held said (Err write.WriteFault)) passes.reading.held sends;
     })) caused
 answered_by node walks before now mid came answer said (Err Ended) result passes made says sends telling caused = absurd sends
@@ -262,7 +302,7 @@ answered_by node walks before now mid came answer said (Ok status) (Err other) p
 answered_by node walks before now mid came answer said (Err WriteFault) (Ok served) passes made says sends telling caused = absurd telling
 
 pub answered : (node : Node) (walks : Walking) (before now : Around) (mid : PeerAt) (came : Option Incoming) (answer : Answer) (result : Result Served ServeFault)
-    → Passes before.peer mid now.peer came → IsMadeOf node walks before now came (Ok answer) → (sent : IsSent mid.held now.peer.held answer result)
+    → Passes before.peer mid now.peer came → IsMadeOf node walks (answer_in before) (answer_in now) (came_of came) (Ok answer) → (sent : IsSent mid.held now.peer.held answer result)
     → HasCause mid.write_faults now.peer.write_faults result → Serves node walks before now result
 answered node walks before now mid came answer result passes made sent cause =
     answered_by node walks before now mid came answer sent.said sent.sent result passes made sent.says sent.sends sent.telling cause

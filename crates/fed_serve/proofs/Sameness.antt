@@ -3,6 +3,7 @@ use Rattle.std.proofs.Common.{◌≡◌, ◌≢◌, ℕ, List, Option, Some, Non
 use Rattle.http_messages.specs.declared.read.ReadEnd.{ReadEnd}
 use Rattle.http_messages.specs.declared.request.Incoming.{Incoming}
 use Rattle.http_messages.specs.declared.response.Response.{Response}
+use Rattle.fed_ports.specs.Times.{clock_at}
 use Rattle.http_plain.specs.Readings.{Reads}
 use Rattle.authority_core.specs.Nodes.{Node as Authority}
 use Rattle.node_requests.specs.declared.kind.Kind.{Kind}
@@ -10,16 +11,20 @@ use Rattle.node_requests.specs.declared.place.Place.{Place}
 use Rattle.resolve_round.specs.declared.trace.Trace.{Trace}
 use Rattle.fed_serve.specs.declared.part.ResolverPart.{ResolverPart}
 use Rattle.fed_serve.specs.Resolutions.{CallAt, Walking}
+use Rattle.fed_serve.specs.declared.answering.Answered.{Answered}
+use Rattle.fed_serve.specs.declared.answering.AnswerEnd.{AnswerEnd}
+use Rattle.fed_serve.specs.declared.answering.AnswerEnd.TheVariants.{Worn as WornAnswer, Memory}
 use Rattle.fed_serve.specs.declared.node.Node.{Node}
 use Rattle.fed_serve.specs.declared.served.Served.{Served}
 use Rattle.fed_serve.specs.declared.serving.ServeFault.{ServeFault}
 use Rattle.fed_serve.specs.declared.serving.ServeFault.TheVariants.{ReadFault, WriteFault, Ended, Worn}
 use Rattle.fed_serve.specs.Authorities.{ServesAsAuthority}
 use Rattle.fed_serve.specs.Handlings.{Handles, Handling, dealt, issued, kind_of, not_asked, resolved, unread}
-use Rattle.fed_serve.specs.Moments.{Around}
+use Rattle.fed_serve.specs.Moments.{AnswerAt, Around, answer_at, answer_in}
 use Rattle.fed_serve.specs.Places.{place_of}
 use Rattle.fed_serve.specs.Responses.{response_of}
-use Rattle.fed_serve.specs.Serving.{HandsOut, IsMessage, IsServed, Serves}
+use Rattle.fed_serve.specs.Answering.{Answers, AnswersAsAuthority, AnswersAtMoment, Came, HandsOut, IsMessage, IsWornAt}
+use Rattle.fed_serve.specs.Serving.{IsServed, Serves}
 use Rattle.fed_serve.specs.Uses.{Has, IsAlone, IsWornBy, Uses}
 use Rattle.fed_serve.proofs.Causes.{not_both, one_wanted}
 
@@ -141,6 +146,37 @@ not_worn (issued a) count its is = absurd is
 not_worn (resolved resolution outcome) count its is = absurd its
 not_worn (dealt change dealing) count its is = absurd its
 
+unworn_at : {X : Type 0} (node : Node) (walks : Walking) (before now : AnswerAt) (came : Came) (count : ℕ) → node.resolver ≡ None
+    → IsWornAt node walks before now came count → X
+unworn_at node walks before now came count none is =
+    not_worn is.handling count (authoritys node walks now.clock.last before.call now.call is.handling none is.uses) is.worn
+
+pub answers_as_authority : (node : Node) (walks : Walking) (before now : AnswerAt) (asked : Incoming) (result : Result Answered AnswerEnd) → node.resolver ≡ None
+    → Answers node walks before now asked result → AnswersAsAuthority before.call now.call result
+answers_as_authority node walks before now asked (Ok a) none is =
+    let uses = is.handled.uses in
+    let its = authoritys node walks now.clock.last before.call now.call is.handling none uses in
+    record {
+      alone = alone node walks now.clock.last before.call now.call is.handling none uses;
+      unworn = λ count e. cc e;
+      untraced = λ other e. let same : a ≡ other = cc e in
+          subst (λ (x : Answered). x.served.trace ≡ None) same (untraced is.handling a.served.trace its is.trace);
+    }
+answers_as_authority node walks before now asked (Err Memory) none is = record {
+  alone = alone node walks now.clock.last before.call now.call is.handling none is.handled.uses;
+  unworn = λ count e. cc e;
+  untraced = λ other e. cc e;
+}
+answers_as_authority node walks before now asked (Err (WornAnswer count)) none is = unworn_at node walks before now (Ok asked) count none is
+
+-- at a moment that anybody read
+pub answers_alone : (node : Node) (walks : Walking) (t : ℕ) (before now : CallAt) (asked : Incoming) (result : Result Answered AnswerEnd)
+    → AnswersAtMoment node walks t before now asked result → node.resolver ≡ None → AnswersAsAuthority before now result
+answers_alone node walks t before now asked result is none =
+    let clock = clock_at 0 0 None in
+    let clock' = clock_at 1 t None in
+    answers_as_authority node walks (answer_at clock before) (answer_at clock' now) asked result none (is clock clock' (record { counted = refl; added = inl refl }) refl)
+
 pub as_authority : (node : Node) (walks : Walking) (before now : Around) (result : Result Served ServeFault) → node.resolver ≡ None → Serves node walks before now result
     → ServesAsAuthority before now result
 as_authority node walks before now (Ok served) none serves =
@@ -172,4 +208,4 @@ as_authority node walks before now (Err WriteFault) none serves =
     }
 as_authority node walks before now (Err (Worn n)) none serves =
     let is = serves.worn n refl in
-    not_worn is.handling n (authoritys node walks now.clock.last before.call now.call is.handling none is.uses) is.worn
+    unworn_at node walks (answer_in before) (answer_in now) serves.came n none is.is

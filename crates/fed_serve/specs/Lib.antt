@@ -1,3 +1,4 @@
+pub mod Answering
 pub mod Authorities
 pub mod Desks
 pub mod Handlings

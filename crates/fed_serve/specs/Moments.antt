@@ -22,3 +22,15 @@ peer_at left held read_faults write_faults = record { left = left; held = held; 
 
 abbrev pub around : PeerAt → ClockAt → CallAt → Around
 around peer clock call = record { peer = peer; clock = clock; call = call }
+
+-- what a request is answered with, whoever sent it: the clock, and what a call is made with
+pub record AnswerAt : Type 0 where
+  pub clock : ClockAt
+  pub call : CallAt
+
+abbrev pub answer_at : ClockAt → CallAt → AnswerAt
+answer_at clock call = record { clock = clock; call = call }
+
+-- the same, of a connection
+abbrev pub answer_in : Around → AnswerAt
+answer_in a = answer_at a.clock a.call

@@ -38,11 +38,11 @@ Walking = Trace → Result Reply Refusal → Type 0
 
 -- the outcome is that of one resolve call at the moment, with all that this says
 pub record IsResolved (signer : Signer) (request : ResolveRequest) (t : ℕ) (walks : Walking) (before now : CallAt) (outcome : Outcome) : Type 0 where
-  pub resolves : Resolves (situation_of request signer.age t) signer before.known now.known outcome
+  pub resolves : Resolves (situation_of request signer t) signer before.known now.known outcome
   pub link : UsesLink before.web before.calls now.calls before.faults now.faults outcome
   pub walked : walks outcome.trace outcome.result
-  pub counted : CountsTests (situation_of request signer.age t) signer outcome outcome.result before.tests now.tests
-  pub complete : IsComplete (situation_of request signer.age t) signer before.web before.faults now.faults outcome
+  pub counted : CountsTests (situation_of request signer t) signer outcome outcome.result before.tests now.tests
+  pub complete : IsComplete (situation_of request signer t) signer before.web before.faults now.faults outcome
   pub sealed : IfOk outcome.result (λ reply. IsSealedFor signer.keys reply.text)
 
 -- the response was made, and its status has a reason; or memory was wanting

@@ -1,6 +1,7 @@
 -- What each handling of a request is answered with (OpenID Federation 1.0 section 8.9).
 use Rattle.std.specs.Prelude.{ℕ, codes, Option, Some, None, is_some, if◌then◌else◌}
 use Rattle.http_messages.specs.declared.response.Response.{Response}
+pub use Rattle.http_messages.specs.Responses.{out_of_memory}
 use Rattle.authority_core.specs.Answers.{configuration_response, fetch_response, historical_response, list_response, status_response}
 use Rattle.authority_core.specs.Nodes.{Node as Authority, registered}
 use Rattle.authority_core.specs.Statuses.{status_tests}
@@ -13,10 +14,6 @@ use Rattle.fed_serve.specs.Handlings.{Handling, unread, not_asked, issued, resol
 -- it is no request of the node
 abbrev pub not_a_request : Response
 not_a_request = refusal 400 (codes "invalid_request") (codes "not a request of this node")
-
--- memory was wanting
-abbrev pub out_of_memory : Response
-out_of_memory = refusal 507 (codes "server_error") (codes "out of memory")
 
 -- what the node answers as an authority at the moment, and none where a resolver is asked
 abbrev pub issued_response : Authority → ℕ → Asked → Option Response

@@ -1,39 +1,21 @@
 -- What serving one connection does: one field for each way in which it ends.
-use Rattle.std.specs.Prelude.{◌≡◌, ◌≤◌, ◌<◌, ◌↔◌, ◌⊎◌, ℕ, List, codes, Option, Some, None, Result, Ok, Err}
+use Rattle.std.specs.Prelude.{◌≡◌, ◌≤◌, ◌<◌, ◌↔◌, ◌⊎◌, ℕ, List, Some, Result, Ok, Err}
 use Rattle.fed_base.specs.Counts.{Rose}
-use Rattle.http_messages.specs.declared.read.ReadEnd.{ReadEnd}
 use Rattle.http_messages.specs.declared.read.ReadEnd.TheVariants as read
-use Rattle.http_messages.specs.declared.request.Incoming.{Incoming}
 use Rattle.http_messages.specs.declared.response.Response.{Response}
 use Rattle.http_messages.specs.declared.write.WriteEnd.TheVariants as write
 use Rattle.http_plain.specs.Readings.{Reads, Taken}
 use Rattle.http_plain.specs.Writings.{Writes}
-use Rattle.authority_core.specs.Nodes.{Node as Authority}
-use Rattle.node_requests.specs.declared.asked.Asked.{Asked}
-use Rattle.node_requests.specs.declared.asked.Asked.TheVariants as asked
-use Rattle.node_requests.specs.declared.change.AnchorChange.{AnchorChange}
-use Rattle.resolve_round.specs.declared.request.ResolveRequest.{ResolveRequest}
-use Rattle.resolve_round.specs.declared.trace.Trace.{Trace}
-use Rattle.fed_resolver.specs.declared.outcome.Outcome.{Outcome}
 use Rattle.fed_serve.specs.Resolutions.{Walking}
-use Rattle.fed_serve.specs.Rotations.{Dealing}
 use Rattle.fed_serve.specs.declared.node.Node.{Node}
 use Rattle.fed_serve.specs.declared.served.Served.{Served}
 use Rattle.fed_serve.specs.declared.serving.ServeFault.{ServeFault}
 use Rattle.fed_serve.specs.declared.serving.ServeFault.TheVariants.{ReadFault, WriteFault, Ended, Worn}
-use Rattle.fed_serve.specs.Handlings.{Handles, Handling, IsIssued, Wants, WantsNothing, dealt, kind_of, resolved}
-use Rattle.fed_serve.specs.Moments.{Around, PeerAt}
-use Rattle.fed_serve.specs.Places.{place_of}
-use Rattle.fed_serve.specs.Responses.{not_a_request, out_of_memory, response_of, status_of}
-use Rattle.fed_serve.specs.Rows.{KeyRows, Refuses, ResolveRows}
-use Rattle.fed_serve.specs.Uses.{IsUnworn, IsWornBy, Tests, TestsSome, Uses}
-use Rattle.fed_ports.specs.Times.{IsOneReading}
+use Rattle.fed_serve.specs.Answering.{Came, ComesWhere, HandsOut, IsHandledBy, IsWornAt}
+use Rattle.fed_serve.specs.Handlings.{Handling, kind_of}
+use Rattle.fed_serve.specs.Moments.{Around, PeerAt, answer_in}
 
 -- ---- what came
-
--- what reading a request answered
-abbrev pub Came : Type 0
-Came = Result Incoming ReadEnd
 
 -- where the peer tells its bytes, this is their one answer as a request; it is that of the bytes that were taken, which stood first
 pub record HasCome (before now : PeerAt) (came : Came) : Type 0 where
@@ -42,45 +24,9 @@ pub record HasCome (before now : PeerAt) (came : Came) : Type 0 where
 
 -- ---- the message
 
--- the message to a handling is its response, for which all its signatures were tested; or memory was wanting, and no more were
-abbrev pub IsMessage : Authority → ℕ → Handling → ℕ → ℕ → Response → Type 0
-IsMessage node t handling before now response =
-    ((response_of node t handling ≡ Some response) × Tests node handling before now)
-    ⊎ ((response ≡ out_of_memory) × TestsSome node handling before now)
-
--- what came is handled so at the clock's one reading, with all that this uses, and no shared object was worn; this is the message to it
-pub record IsHandled (node : Node) (walks : Walking) (before now : Around) (came : Came) (handling : Handling) (response : Response) : Type 0 where
-  pub handles : Handles (place_of node) came handling
-  pub clock : IsOneReading before.clock now.clock
-  pub uses : Uses node walks now.clock.last before.call now.call handling
-  pub unworn : IsUnworn handling
-  pub message : IsMessage node.registry now.clock.last handling before.call.tests now.call.tests response
-
--- the response is this one, or has this status, or memory was wanting
-abbrev pub IsOrWanting : Response → Response → Type 0
-IsOrWanting expected response = (response ≡ expected) ⊎ (response ≡ out_of_memory)
-
-abbrev pub HasOrWanting : ℕ → Response → Type 0
-HasOrWanting status response = (response.status ≡ status) ⊎ (response ≡ out_of_memory)
-
--- when each answer comes
-pub record ComesWhere (node : Node) (came : Came) (handling : Handling) (response : Response) : Type 0 where
-  -- 400 invalid_request exactly where what came is no request of the node
-  pub bad_request : Refuses 400 (codes "invalid_request") response → WantsNothing (place_of node) came
-  pub refused : WantsNothing (place_of node) came → IsOrWanting not_a_request response
-  -- where an authority is asked, 404 exactly where a statement about no subordinate is asked for, and else 200
-  pub issued : (asked : Asked) → Wants (place_of node) came asked → IsIssued asked → HasOrWanting (status_of node.registry asked) response
-  -- where an entity is to be resolved, by the outcome of the one call
-  pub resolved : (resolution : ResolveRequest) → Wants (place_of node) came (asked.Resolution resolution)
-      → (response ≡ out_of_memory) ⊎ ((outcome : Outcome) × (handling ≡ resolved resolution outcome) × ResolveRows outcome.result response)
-  -- where a trust anchor is to have other keys, by how that was dealt with
-  pub dealt : (change : AnchorChange) → Wants (place_of node) came (asked.Rotation change)
-      → (response ≡ out_of_memory) ⊎ ((dealing : Dealing) × (handling ≡ dealt change dealing) × KeyRows dealing response)
-
--- the trace of a resolve call is handed out, and none where there was no such call
-abbrev pub HandsOut : Handling → Option Trace → Type 0
-HandsOut (resolved resolution outcome) trace = trace ≡ Some outcome.trace
-HandsOut handling trace = trace ≡ None
+-- what came over the connection is handled so; this is the message to it
+abbrev pub IsHandled : Node → Walking → Around → Around → Came → Handling → Response → Type 0
+IsHandled node walks before now = IsHandledBy node walks (answer_in before) (answer_in now)
 
 -- the text of the message was written, whole, and the answer tells of it
 pub record IsServed (node : Node) (walks : Walking) (before now : Around) (came : Came) (served : Served) : Type 0 where
@@ -102,11 +48,7 @@ pub record IsCut (node : Node) (walks : Walking) (before now : Around) (came : C
 
 -- what came is handled so at the clock's one reading, and a shared object that was called had counted so many calls; nothing was written
 pub record IsWorn (node : Node) (walks : Walking) (before now : Around) (came : Came) (count : ℕ) : Type 0 where
-  pub handling : Handling
-  pub handles : Handles (place_of node) came handling
-  pub clock : IsOneReading before.clock now.clock
-  pub uses : Uses node walks now.clock.last before.call now.call handling
-  pub worn : IsWornBy handling count
+  pub is : IsWornAt node walks (answer_in before) (answer_in now) came count
   pub held : now.peer.held ≡ before.peer.held
 
 -- nothing was done but to read from the peer

@@ -6,6 +6,7 @@ use Rattle.http_messages.specs.declared.read.ReadEnd.TheVariants as read
 use Rattle.http_messages.specs.declared.request.Incoming.{Incoming}
 use Rattle.http_messages.specs.declared.response.Response.{Response}
 use Rattle.http_messages.specs.declared.write.WriteEnd.TheVariants as write
+use Rattle.fed_ports.specs.Times.{IsOneReading}
 use Rattle.http_plain.specs.Readings.{CausedBy}
 use Rattle.http_plain.specs.Responses.{HasReason}
 use Rattle.http_plain.specs.Writings.{Writes}
@@ -20,16 +21,20 @@ use Rattle.fed_serve.specs.declared.part.ResolverPart.{ResolverPart}
 use Rattle.fed_serve.specs.declared.resolution.ResolveAnswer.{ResolveAnswer}
 use Rattle.fed_serve.specs.Resolutions.{CallAt, IsResolveAnswer, Walking}
 use Rattle.fed_serve.specs.Rotations.{IsRotateAnswer, RotationAt}
-use Rattle.fed_serve.specs.declared.answer.Answer.{Answer}
+use Rattle.fed_serve.specs.declared.handling.Answer.{Answer}
+use Rattle.fed_serve.specs.declared.answering.Answered.{Answered}
+use Rattle.fed_serve.specs.declared.answering.AnswerEnd.{AnswerEnd}
+use Rattle.fed_serve.specs.declared.answering.AnswerEnd.TheVariants as end
 use Rattle.fed_serve.specs.declared.node.Node.{Node}
 use Rattle.fed_serve.specs.declared.served.Served.{Served}
 use Rattle.fed_serve.specs.declared.serving.ServeFault.{ServeFault}
 use Rattle.fed_serve.specs.declared.serving.ServeFault.TheVariants as fault
 use Rattle.fed_serve.specs.Handlings.{Handles, Handling, IsIssued, dealt, issued, kind_of, resolved}
-use Rattle.fed_serve.specs.Moments.{PeerAt}
+use Rattle.fed_serve.specs.Moments.{AnswerAt, PeerAt}
 use Rattle.fed_serve.specs.Places.{place_of}
 use Rattle.fed_serve.specs.Responses.{out_of_memory, response_of}
-use Rattle.fed_serve.specs.Serving.{HandsOut, HasCome}
+use Rattle.fed_serve.specs.Answering.{Came, HandsOut}
+use Rattle.fed_serve.specs.Serving.{HasCome}
 use Rattle.fed_serve.specs.Uses.{Has, IsUnworn, IsWornBy, Tests, TestsSome, Uses}
 
 -- ---- what came
@@ -92,10 +97,23 @@ pub record IsAnswerTo (node : Node) (walks : Walking) (t : ℕ) (before now : Ca
   pub does : Does node walks t before now handling result
 
 -- what came was handled at the moment, and so an answer was made
-pub record IsAnswer (node : Node) (walks : Walking) (t : ℕ) (before now : CallAt) (came : Option Incoming) (result : Result Answer Worn) : Type 0 where
+pub record IsAnswer (node : Node) (walks : Walking) (t : ℕ) (before now : CallAt) (came : Came) (result : Result Answer Worn) : Type 0 where
   pub handling : Handling
-  pub handles : Handles (place_of node) (came_of came) handling
+  pub handles : Handles (place_of node) came handling
   pub does : Does node walks t before now handling result
+
+-- it was, at the clock's one reading
+pub record IsMadeOf (node : Node) (walks : Walking) (before now : AnswerAt) (came : Came) (result : Result Answer Worn) : Type 0 where
+  pub clock : IsOneReading before.clock now.clock
+  pub answer : IsAnswer node walks now.clock.last before.call now.call came result
+
+-- the answer is handed out with its response, or memory was wanting for one, or a shared object was worn
+abbrev pub IsHandedOut : Result Answer Worn → Result Answered AnswerEnd → Type 0
+IsHandedOut (Ok answer) (Ok answered) =
+    (answer.response ≡ Ok answered.response) × (answered.served ≡ record { kind = answer.kind; status = answered.response.status; trace = answer.trace })
+IsHandedOut (Ok answer) (Err end.Memory) = (m : Memory) × (answer.response ≡ Err m)
+IsHandedOut (Err w) (Err (end.Worn count)) = w.count ≡ count
+IsHandedOut made answered = ⊥
 
 -- what is sent: the response, or that memory was wanting
 abbrev pub IsSaid : Result Response Memory → Response → Type 0

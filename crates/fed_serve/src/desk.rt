@@ -1,6 +1,7 @@
 // What one connection of several is served with.
 
 ghost use Rattle.std.specs.Prelude.{Some, None};
+ghost use Rattle.std.specs.Thread.{IsSync};
 ghost use Rattle.fed_serve.specs.Resolutions.{call_at};
 ghost use Rattle.fed_serve.specs.declared.node.Node.{Node as AnyNode};
 ghost use Rattle.fed_serve.specs.Moments.{peer_at};
@@ -15,6 +16,7 @@ use fed_ports::{Clock, Ledger, Link, Peer, Steps};
 use statement_shelf::FedPass;
 use std::alloc::Global;
 use std::sync::Wait;
+use std::thread::Threads;
 
 /// A worker: what it serves one connection with, which no other worker has, and what came of it.
 #[derive(Drop)]
@@ -51,8 +53,9 @@ pub(crate) trait Place<P>: Sized {
         ensures { is_taken peer self.old self.new };
 
     // Serves its peer.
-    fn serve<R: Wait>(&mut self, node: &Node, rt: &R, alloc: Global)
-        requires { (peer : P) × (free : Self) × is_free node.now free × is_taken peer free self.old }
+    fn serve<R: Wait + Threads + Sync>(&mut self, node: &Node, rt: &R, alloc: Global)
+        requires sync { IsSync R.row }
+        requires came { (peer : P) × (free : Self) × is_free node.now free × is_taken peer free self.old }
         ensures { (peer : P) (free : Self) → is_free node.now free → is_taken peer free self.old → is_served node.now peer free self.new };
 }
 
@@ -73,7 +76,7 @@ impl<P: Peer, L: Link, C: Clock, G: Ledger> Place<P> for Desk<P, L, C, G> {
     }
 
     // Keeps the result there.
-    fn serve<R: Wait>(&mut self, node: &Node, rt: &R, alloc: Global) {
+    fn serve<R: Wait + Threads + Sync>(&mut self, node: &Node, rt: &R, alloc: Global) {
         let Desk {
             pass,
             peer,

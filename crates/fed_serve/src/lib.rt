@@ -7,10 +7,11 @@
 //! anchor by the word of a control key ([`answer_rotation`]; sections 8.3 and 8.9).
 #![tactic(auto)]
 
-mod answer;
+mod answering;
 mod bodies;
 mod context;
 mod desk;
+mod handling;
 mod laws;
 mod many;
 mod node;
@@ -24,6 +25,7 @@ mod served;
 mod serving;
 mod time;
 
+pub use answering::{AnswerEnd, Answered, answer, answer_request};
 pub use context::Context;
 pub use desk::Desk;
 pub use laws::{answers, authorities};

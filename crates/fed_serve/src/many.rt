@@ -61,7 +61,7 @@ fn serve_each<R: Threads + Wait + Sync, N: Network, D: Place<N::Peer> + Send>(
     let (_, result) = join_mut(
         rt,
         &mut ||
-            requires { (peer : N.Peer) × (free : D) × D.is_free node.now free × D.is_taken peer free first.now }
+            requires { IsSync R.row × (peer : N.Peer) × (free : D) × D.is_free node.now free × D.is_taken peer free first.now }
             ensures { (peer : N.Peer) (free : D) → D.is_free node.entry.now free → D.is_taken peer free first.entry.now → D.is_served node.entry.now peer free first.exit.now }
         {
             first.serve(node, rt, *alloc);

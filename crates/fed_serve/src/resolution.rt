@@ -16,6 +16,7 @@ use http_plain::{Media, Response};
 use statement_shelf::FedPass;
 use std::alloc::Global;
 use std::sync::Wait;
+use std::thread::Threads;
 use turn_log::Worn;
 
 /// What a request for an entity's metadata is answered with.
@@ -29,7 +30,7 @@ pub struct ResolveAnswer {
 
 /// The response to a request for an entity's metadata, with the trace of the one resolve call that was made for it (OpenID Federation 1.0
 /// section 8.3). `Worn` comes where a shared object had counted 2^62 calls.
-pub fn answer_resolution<R: Wait, L: Link, G: Ledger>(
+pub fn answer_resolution<R: Wait + Threads + Sync, L: Link, G: Ledger>(
     part: &ResolverPart,
     context: &Context<'_, R>,
     pass: &mut FedPass,

@@ -10,8 +10,8 @@ ghost use Rattle.fed_serve.specs.Resolutions.{call_at};
 ghost use Rattle.fed_serve.specs.Rotations.{rotation_at};
 ghost use Rattle.fed_serve.specs.Steps.{ChangesKeys, IsResolvedAnswer, ResolvesEntity};
 
-use crate::answer::{Answer, plain};
 use crate::context::Context;
+use crate::handling::{Answer, plain};
 use crate::node::Node;
 use crate::resolution::{ResolveAnswer, answer_resolution};
 use crate::rotation::answer_rotation;
@@ -21,10 +21,11 @@ use fed_resolver::ResolveRequest;
 use node_requests::{AnchorChange, Kind};
 use statement_shelf::FedPass;
 use std::sync::Wait;
+use std::thread::Threads;
 use turn_log::Worn;
 
 /// What is answered where an entity is to be resolved. The node resolves.
-pub(crate) fn resolve_entity<R: Wait, L: Link, G: Ledger>(
+pub(crate) fn resolve_entity<R: Wait + Threads + Sync, L: Link, G: Ledger>(
     node: &Node,
     context: &Context<'_, R>,
     pass: &mut FedPass,

@@ -7,12 +7,11 @@ ghost use Rattle.http_plain.specs.Responses.{HasReason};
 ghost use Rattle.fed_serve.specs.Responses.{out_of_memory};
 ghost use Rattle.fed_serve.specs.Steps.{IsSaid, IsSent, Sends};
 
-use crate::answer::Answer;
-use crate::refusals::out_of_memory;
+use crate::handling::Answer;
 use crate::served::Served;
 use crate::serving::ServeFault;
 use fed_ports::{Failed, Memory, Sink, write_all};
-use http_plain::{Response, WriteEnd, write_response};
+use http_plain::{Response, WriteEnd, out_of_memory, write_response};
 use std::alloc::Global;
 
 // Sends that memory was wanting. It takes none.

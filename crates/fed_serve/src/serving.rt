@@ -6,22 +6,24 @@ ghost use Rattle.statement_shelf.specs.Passes.{IsPassOfAll};
 ghost use Rattle.resolve_round.specs.Acts.{IsKept};
 ghost use Rattle.fed_resolver.specs.Calls.{GaveAll};
 ghost use Rattle.fed_serve.specs.Resolutions.{call_at};
-ghost use Rattle.fed_serve.specs.Moments.{around, peer_at};
+ghost use Rattle.fed_serve.specs.Moments.{answer_at, around, peer_at};
 ghost use Rattle.fed_serve.specs.Serving.{Serves};
-ghost use Rattle.fed_serve.specs.Steps.{IsReading};
+ghost use Rattle.fed_serve.specs.Steps.{IsMadeOf, IsReading, came_of};
 ghost use Rattle.fed_ports.specs.Times.{clock_at};
 
-use crate::answer::answer_to;
 use crate::context::Context;
+use crate::handling::{Answer, answer_to, plain};
 use crate::node::Node;
 use crate::send::send_answer;
 use crate::served::Served;
 use crate::time::{ByClock, TimeSource};
-use fed_ports::{Clock, Ledger, Link, Peer, Steps};
+use fed_ports::{Clock, Ledger, Link, Memory, Peer, Steps};
 use http_plain::{Incoming, ReadEnd, read_request};
+use node_requests::Kind;
 use statement_shelf::FedPass;
 use std::alloc::Global;
 use std::sync::Wait;
+use std::thread::Threads;
 use thiserror::Error;
 use turn_log::Worn;
 
@@ -63,7 +65,7 @@ fn read<P: Peer>(alloc: Global, peer: &mut P) -> Result<Option<Incoming>, ServeF
 /// nothing, and the clock isn't read then. What is no request of the node is answered 400 `invalid_request`, and want of memory 507,
 /// which takes no memory. A node that resolves makes one resolve call for a request of that kind, with the link and the pass, which is one
 /// of the node's shared objects; a node that doesn't resolve touches neither.
-pub fn serve_one<R: Wait, P: Peer, L: Link, C: Clock, G: Ledger>(
+pub fn serve_one<R: Wait + Threads + Sync, P: Peer, L: Link, C: Clock, G: Ledger>(
     node: &Node,
     rt: &R,
     alloc: Global,
@@ -88,7 +90,7 @@ pub fn serve_one<R: Wait, P: Peer, L: Link, C: Clock, G: Ledger>(
 }
 
 // `serve_one`, with the moment from any source.
-pub(crate) fn serve_by<R: Wait, P: Peer, L: Link, C, S: TimeSource<C>, G: Ledger>(
+pub(crate) fn serve_by<R: Wait + Threads + Sync, P: Peer, L: Link, C, S: TimeSource<C>, G: Ledger>(
     node: &Node,
     rt: &R,
     alloc: Global,
@@ -110,12 +112,40 @@ pub(crate) fn serve_by<R: Wait, P: Peer, L: Link, C, S: TimeSource<C>, G: Ledger
         result }
 {
     let came = read(alloc, peer)?;
-    let t = S::now(clock);
-    let context = Context { rt, alloc, t };
-    let answer = answer_to(node, &context, pass, &came, link, steps);
+    let answer = answer_came::<R, L, C, S, G>(node, rt, alloc, pass, &came, link, clock, steps);
     drop(came);
     match answer {
         Ok(answer) => send_answer(alloc, peer, answer),
         Err(Worn { count }) => Err(ServeFault::Worn(count)),
+    }
+}
+
+// What the node answers to what came at the clock's one reading, also where memory was wanting for it.
+fn answer_came<R: Wait + Threads + Sync, L: Link, C, S: TimeSource<C>, G: Ledger>(
+    node: &Node,
+    rt: &R,
+    alloc: Global,
+    pass: &mut FedPass,
+    came: &Option<Incoming>,
+    link: &mut L,
+    clock: &mut C,
+    steps: &mut Steps<G>,
+) -> Result<Answer, Worn>
+    requires of { IfSome node.now.resolver (λ part. IsPassOfAll part.commons pass.old) }
+    ensures kept { IfSome node.now.resolver (λ part. IsKept part.commons pass.old pass.new) }
+    ensures made { IsMadeOf node.now (GaveAll L.gave link.old link.new)
+        (answer_at (clock_at (S.readings clock.old) (S.last clock.old) (S.told clock.old))
+        (call_at (known pass.old) (L.web link.old) (L.calls link.old) (L.link_faults link.old) (G.count steps.old.ledger)))
+        (answer_at (clock_at (S.readings clock.new) (S.last clock.new) (S.told clock.new))
+        (call_at (known pass.new) (L.web link.new) (L.calls link.new) (L.link_faults link.new) (G.count steps.new.ledger)))
+        (came_of came.now) result }
+{
+    let t = S::now(clock);
+    match came {
+        Some(came) => {
+            let context = Context { rt, alloc, t };
+            answer_to(node, &context, pass, came, link, steps)
+        }
+        None => Ok(plain(Kind::Other, Err(Memory))),
     }
 }

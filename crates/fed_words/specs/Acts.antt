@@ -1,21 +1,26 @@
 -- The change of a ring that the words of `rotate` give.
-use Rattle.std.specs.Prelude.{ℕ, List, ◌==◌, length, codes, bytes_eq, Option, Some, None, if◌then◌else◌}
+use Rattle.std.specs.Prelude.{ℕ, List, ◌==◌, ◌&&◌, ◌||◌, length, codes, bytes_eq, Option, Some, None, is_some, if◌then◌else◌}
 use Rattle.std.specs.Option.{option_and_then}
+use Rattle.fed_base.specs.declared.algorithm.Alg.{Alg}
 use Rattle.key_ring.specs.Readings.{reason_in}
 use Rattle.key_ring.specs.declared.key.RevokeReason.{RevokeReason}
+use Rattle.fed_words.specs.Algorithms.{alg_in, alg_or_small}
 use Rattle.fed_words.specs.Options.{option_in, moment_in}
 use Rattle.fed_words.specs.declared.act.Act.{Act}
 use Rattle.fed_words.specs.declared.act.Act.TheVariants.{Add, Retire, Revoke}
 
 -- the change, where both moments are there
-abbrev pub add_with : Option ℕ → Option ℕ → Option Act
-add_with (Some at) (Some exp) = Some (Add at exp)
-add_with (Some at) None = None
-add_with None exp = None
+abbrev pub add_with : Alg → Option ℕ → Option ℕ → Option Act
+add_with alg (Some at) (Some exp) = Some (Add alg at exp)
+add_with alg (Some at) None = None
+add_with alg None exp = None
 
--- a new key: four options with their values, two of which are its moments
+-- a new key: four options with their values, two of which are its moments, or these four and its algorithm
 unfoldable pub add_in : List (List ℕ) → Option Act
-add_in words = if length words == 8 then add_with (moment_in (codes "--at") words) (moment_in (codes "--exp") words) else None
+add_in words =
+    if length words == 8 || (length words == 10 && is_some (alg_in words))
+    then add_with (alg_or_small words) (moment_in (codes "--at") words) (moment_in (codes "--exp") words)
+    else None
 
 -- the change, where the name is there
 abbrev pub retire_with : Option (List ℕ) → Option Act

@@ -1,11 +1,13 @@
 -- The command that the words behind its verb give.
-use Rattle.std.specs.Prelude.{ℕ, List, [], ◌∷◌, ◌==◌, ◌&&◌, ◌||◌, length, codes, bytes_eq, Option, Some, None, is_some, if◌then◌else◌}
+use Rattle.std.specs.Prelude.{ℕ, List, [], ◌∷◌, ◌==◌, ◌&&◌, ◌||◌, length, codes, bytes_eq, Option, Some, None, is_some, unwrap_or, if◌then◌else◌}
 use Rattle.std.specs.Option.{option_and_then}
 use Rattle.base64url.specs.Base64url.{decoded_32}
 use Rattle.entity_id.specs.Identifiers.{identifier_of}
+use Rattle.fed_base.specs.declared.algorithm.Alg.{Alg}
 use Rattle.fed_words.specs.Acts.{act_in}
+use Rattle.fed_words.specs.Algorithms.{alg_in, alg_or_small}
 use Rattle.fed_words.specs.TextTypes.{type_of}
-use Rattle.fed_words.specs.Options.{option_in, moment_in}
+use Rattle.fed_words.specs.Options.{count_in, option_in, moment_in}
 use Rattle.fed_words.specs.declared.act.Act.{Act}
 use Rattle.fed_words.specs.declared.command.Command.{Command}
 use Rattle.fed_words.specs.declared.text_type.TextType.{TextType}
@@ -28,27 +30,36 @@ verify_of (word ∷ []) = verify_with (decoded_32 word)
 verify_of (word ∷ next ∷ words) = Faulty
 
 -- the command, where all three are there
-abbrev pub keygen_with : Option (List ℕ) → Option ℕ → Option ℕ → Command
-keygen_with (Some ring) (Some at) (Some exp) = Keygen ring at exp
-keygen_with (Some ring) (Some at) None = Faulty
-keygen_with (Some ring) None exp = Faulty
-keygen_with None at exp = Faulty
+abbrev pub keygen_with : Option (List ℕ) → Alg → Option ℕ → Option ℕ → Command
+keygen_with (Some ring) alg (Some at) (Some exp) = Keygen ring alg at exp
+keygen_with (Some ring) alg (Some at) None = Faulty
+keygen_with (Some ring) alg None exp = Faulty
+keygen_with None alg at exp = Faulty
 
--- three options with their values, in any order: where three pairs have these three names, each stands once
+-- three options with their values, in any order, or these three and an algorithm: where so many pairs have these names, each stands once
 unfoldable pub keygen_of : List (List ℕ) → Command
 keygen_of words =
-    if length words == 6 then keygen_with (option_in (codes "--ring") words) (moment_in (codes "--at") words) (moment_in (codes "--exp") words) else Faulty
+    if length words == 6 || (length words == 8 && is_some (alg_in words))
+    then keygen_with (option_in (codes "--ring") words) (alg_or_small words) (moment_in (codes "--at") words) (moment_in (codes "--exp") words)
+    else Faulty
 
 -- the command, where both are there and the type is one that is issued
-abbrev pub issue_with : Option (List ℕ) → Option TextType → Command
-issue_with (Some ring) (Some typ) = Issue ring typ
-issue_with (Some ring) None = Faulty
-issue_with None typ = Faulty
+abbrev pub issue_with : Option (List ℕ) → Option TextType → ℕ → Command
+issue_with (Some ring) (Some typ) workers = Issue ring typ workers
+issue_with (Some ring) None workers = Faulty
+issue_with None typ workers = Faulty
 
--- two options with their values; the type is that of entity statements, of trust marks or of delegations (OpenID Federation 1.0
--- sections 3.1.1, 7.1 and 7.2.1)
+-- by how many workers a text is signed: from 1 to 16
+abbrev pub workers_in : List (List ℕ) → Option ℕ
+workers_in words = count_in (codes "--workers") 16 words
+
+-- two options with their values, or these two and a number of workers, which else is 1; the type is that of entity statements, of trust
+-- marks or of delegations (OpenID Federation 1.0 sections 3.1.1, 7.1 and 7.2.1)
 unfoldable pub issue_of : List (List ℕ) → Command
-issue_of words = if length words == 4 then issue_with (option_in (codes "--ring") words) (option_and_then type_of (option_in (codes "--typ") words)) else Faulty
+issue_of words =
+    if length words == 4 || (length words == 6 && is_some (workers_in words))
+    then issue_with (option_in (codes "--ring") words) (option_and_then type_of (option_in (codes "--typ") words)) (unwrap_or (workers_in words) 1)
+    else Faulty
 
 -- the command, where the file and the change are there
 abbrev pub rotate_with : Option (List ℕ) → Option Act → Command

@@ -1,4 +1,5 @@
 pub mod Acts
+pub mod Algorithms
 pub mod Calls
 pub mod Commands
 pub mod Inspections

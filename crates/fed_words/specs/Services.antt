@@ -1,23 +1,28 @@
 -- What the words behind a verb ask for over a network: to answer others, or to resolve an entity; or over one in memory.
-use Rattle.std.specs.Prelude.{ℕ, List, ◌==◌, length, codes, Option, Some, None, if◌then◌else◌}
-use Rattle.std.specs.Option.{option_and_then}
+use Rattle.std.specs.Prelude.{ℕ, List, ◌==◌, ◌&&◌, ◌||◌, length, codes, bytes_eq, Bool, false, Option, Some, None, if◌then◌else◌}
+use Rattle.std.specs.Option.{option_and_then, option_map_or}
 use Rattle.entity_id.specs.Identifiers.{identifier_of}
 use Rattle.fed_words.specs.Options.{count_in, option_in}
 use Rattle.fed_words.specs.declared.service.Service.{Service}
 use Rattle.fed_words.specs.declared.service.Service.TheVariants.{Authority, Resolve, Resolver}
 
 -- the service, where the file and both numbers are there
-abbrev pub authority_with : Option (List ℕ) → Option ℕ → Option ℕ → Option Service
-authority_with (Some config) (Some port) (Some connections) = Some (Authority config port connections)
-authority_with (Some config) (Some port) None = None
-authority_with (Some config) None connections = None
-authority_with None port connections = None
+abbrev pub authority_with : Option (List ℕ) → Option ℕ → Option ℕ → Bool → Option Service
+authority_with (Some config) (Some port) (Some connections) stream = Some (Authority config port connections stream)
+authority_with (Some config) (Some port) None stream = None
+authority_with (Some config) None connections stream = None
+authority_with None port connections stream = None
 
--- three options with their values: a file, a port (RFC 9293 section 3.1), and how many connections are served
+-- a connection may ask more than once: the option's value is `yes`
+abbrev pub streams : List (List ℕ) → Bool
+streams words = option_map_or (λ word. bytes_eq word (codes "yes")) (option_in (codes "--stream") words) false
+
+-- three options with their values: a file, a port (RFC 9293 section 3.1), and how many connections are served; or these three and that a
+-- connection may ask more than once
 unfoldable pub authority_of : List (List ℕ) → Option Service
 authority_of words =
-    if length words == 6
-    then authority_with (option_in (codes "--config") words) (count_in (codes "--port") 65535 words) (count_in (codes "--connections") 1000000 words)
+    if length words == 6 || (length words == 8 && streams words)
+    then authority_with (option_in (codes "--config") words) (count_in (codes "--port") 65535 words) (count_in (codes "--connections") 1000000 words) (streams words)
     else None
 
 -- the same for a node that resolves

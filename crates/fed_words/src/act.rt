@@ -3,17 +3,20 @@
 ghost use Rattle.std.specs.Prelude.{◌≡◌, IfOk};
 ghost use Rattle.fed_words.specs.Acts.{act_in, act_named, add_in, reason_at, retire_in, revoke_in};
 
+use crate::algorithm::alg_in;
 use crate::moment::Moment;
 use crate::options::{moment_in, option_in};
-use fed_base::{Duplicate, Memory, Text};
+use fed_base::{Alg, Duplicate, Memory, Text};
 use key_ring::RevokeReason;
 use std::alloc::Global;
 
 /// A change of a ring.
 #[derive(Drop)]
 pub enum Act {
-    /// `--act add --at T --exp T`: put a new key first, for these moments.
+    /// `--act add --at T --exp T [--alg ALG]`: put a new key of this algorithm first, for these moments.
     Add {
+        /// Small where none is named.
+        alg: Alg,
         at: Moment,
         exp: Moment,
     },
@@ -57,8 +60,16 @@ fn read_named(alloc: Global, act: &[u8], words: &[Text]) -> Result<Option<Act>, 
 fn read_add(words: &[Text]) -> Option<Act>
     ensures { result ≡ add_in words.now }
 {
+    let alg = alg_in(words);
+    if words.len() != 8 && (words.len() != 10 || alg.is_none()) {
+        return None;
+    }
     match (moment_in(words, b"--at"), moment_in(words, b"--exp")) {
-        (Some(at), Some(exp)) if words.len() == 8 => Some(Act::Add { at, exp }),
+        (Some(at), Some(exp)) => Some(Act::Add {
+            alg: alg.unwrap_or(Alg::Small),
+            at,
+            exp,
+        }),
         _ => None,
     }
 }

@@ -8,29 +8,38 @@ ghost use Rattle.fed_words.specs.Options.{option_in};
 ghost use Rattle.fed_words.specs.Commands.{verify_of, keygen_of, issue_of, rotate_of, check_of, flag_of};
 
 use crate::act::{Act, read_act};
+use crate::algorithm::alg_in;
 use crate::moment::Moment;
-use crate::options::{moment_in, option_in};
+use crate::options::{count_in, moment_in, option_in};
 use crate::text_type::TextType;
 use base64url::decode_32;
 use entity_id::EntityId;
-use fed_base::{Duplicate, Memory, Text};
+use fed_base::{Alg, Duplicate, Memory, Text};
 use std::alloc::Global;
+
+/// The most workers that sign one text.
+pub const WORKERS: u64 = 16;
 
 /// What is to be read, written and kept.
 #[derive(Drop)]
 pub enum Command {
     /// `verify PUB`: check one entity configuration under this public key.
     Verify([u8; 32]),
-    /// `keygen --ring FILE --at T --exp T`: make a ring file of one key, for these moments.
+    /// `keygen --ring FILE --at T --exp T [--alg ALG]`: make a ring file of one key of this algorithm, for these moments.
     Keygen {
         ring_file: Text,
+        /// Small where none is named.
+        alg: Alg,
         at: Moment,
         exp: Moment,
     },
-    /// `issue --ring FILE --typ TYP`: seal claims as a text of that type by the signer of a ring file.
+    /// `issue --ring FILE --typ TYP [--workers W]`: seal claims as a text of that type by the signer of a ring file, whose signature so
+    /// many workers make.
     Issue {
         ring_file: Text,
         typ: TextType,
+        /// 1 to 16; 1 where no number is given.
+        workers: u64,
     },
     /// `rotate --ring FILE --act ACT ..`: make a change of the ring of a ring file.
     Rotate {
@@ -86,13 +95,18 @@ pub(crate) fn read_verify(rest: &[Text]) -> Command
 pub(crate) fn read_keygen(alloc: Global, rest: &[Text]) -> Result<Command, Memory>
     ensures { IfOk result (λ c. c ≡ keygen_of rest.now) }
 {
+    let alg = alg_in(rest);
+    if rest.len() != 6 && (rest.len() != 8 || alg.is_none()) {
+        return Ok(Command::Faulty);
+    }
     match (
         option_in(rest, b"--ring"),
         moment_in(rest, b"--at"),
         moment_in(rest, b"--exp"),
     ) {
-        (Some(ring_file), Some(at), Some(exp)) if rest.len() == 6 => Ok(Command::Keygen {
+        (Some(ring_file), Some(at), Some(exp)) => Ok(Command::Keygen {
             ring_file: ring_file.copy(alloc)?,
+            alg: alg.unwrap_or(Alg::Small),
             at,
             exp,
         }),
@@ -105,13 +119,15 @@ pub(crate) fn read_keygen(alloc: Global, rest: &[Text]) -> Result<Command, Memor
 pub(crate) fn read_issue(alloc: Global, rest: &[Text]) -> Result<Command, Memory>
     ensures { IfOk result (λ c. c ≡ issue_of rest.now) }
 {
-    if rest.len() != 4 {
+    let workers = count_in(rest, b"--workers", WORKERS);
+    if rest.len() != 4 && (rest.len() != 6 || workers.is_none()) {
         return Ok(Command::Faulty);
     }
     match (option_in(rest, b"--ring"), type_in(rest)) {
         (Some(ring_file), Some(typ)) => Ok(Command::Issue {
             ring_file: ring_file.copy(alloc)?,
             typ,
+            workers: workers.unwrap_or(1),
         }),
         _ => Ok(Command::Faulty),
     }

@@ -7,6 +7,7 @@
 #![tactic(auto)]
 
 mod act;
+mod algorithm;
 mod call;
 mod command;
 mod inspection;
@@ -17,8 +18,9 @@ mod service;
 mod text_type;
 
 pub use act::Act;
+pub use algorithm::alg_of;
 pub use call::{Call, read_call};
-pub use command::Command;
+pub use command::{Command, WORKERS};
 pub use inspection::Inspection;
 pub use moment::{Moment, moment_or};
 pub use options::{count_of, moment_of, option_in};

@@ -2,7 +2,7 @@
 
 ghost use Rattle.std.specs.Prelude.{◌≡◌, IfOk, Some, codes, option_map};
 ghost use Rattle.fed_words.specs.Rehearsals.{rehearsal_of};
-ghost use Rattle.fed_words.specs.Services.{authority_of, identifier_in, resolve_of, resolve_with, resolver_of};
+ghost use Rattle.fed_words.specs.Services.{authority_of, identifier_in, resolve_of, resolve_with, resolver_of, streams};
 ghost use Rattle.fed_words.specs.declared.service.Service.TheVariants.{Rehearse, Resolve};
 
 use crate::options::{count_in, option_in};
@@ -20,13 +20,16 @@ pub const PORTS: u64 = 65_535;
 /// What is to be done over a network, or over one in memory.
 #[derive(Drop)]
 pub enum Service {
-    /// `authority --config FILE --port P --connections N`: answer so many connections on a port, as the authority of a configuration file.
+    /// `authority --config FILE --port P --connections N [--stream yes]`: answer so many connections on a port, as the authority of a
+    /// configuration file.
     Authority {
         config_file: Text,
         /// 1 to 65,535.
         port: u16,
         /// 1 to 1,000,000.
         connections: u64,
+        /// A connection may ask more than once (RFC 9112 section 9.3).
+        stream: bool,
     },
     /// `resolver --config FILE --port P --connections N`: answer so many connections on a port, some of them at once, as the resolver of a
     /// configuration file.
@@ -63,19 +66,32 @@ pub(crate) fn read_rehearsal(rest: &[Text]) -> Option<Service>
 pub(crate) fn read_authority(alloc: Global, rest: &[Text]) -> Result<Option<Service>, Memory>
     ensures service { IfOk result (λ service. service ≡ authority_of rest.now) }
 {
+    let stream = streams(rest);
+    if rest.len() != 6 && (rest.len() != 8 || !stream) {
+        return Ok(None);
+    }
     match (
         option_in(rest, b"--config"),
         count_in(rest, b"--port", PORTS),
         count_in(rest, b"--connections", CONNECTIONS),
     ) {
-        (Some(config_file), Some(port), Some(connections)) if rest.len() == 6 => {
-            Ok(Some(Service::Authority {
-                config_file: config_file.copy(alloc)?,
-                port: port as u16,
-                connections,
-            }))
-        }
+        (Some(config_file), Some(port), Some(connections)) => Ok(Some(Service::Authority {
+            config_file: config_file.copy(alloc)?,
+            port: port as u16,
+            connections,
+            stream,
+        })),
         _ => Ok(None),
+    }
+}
+
+// Whether a connection may ask more than once: the value of `--stream` is `yes`.
+fn streams(rest: &[Text]) -> bool
+    ensures { result ≡ streams rest.now }
+{
+    match option_in(rest, b"--stream") {
+        Some(word) => word.as_slice() == b"yes".as_slice(),
+        None => false,
     }
 }
 

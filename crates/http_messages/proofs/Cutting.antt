@@ -163,7 +163,7 @@ head_all came before after (Err fault) e h = tt
 abbrev begins_of : (x : List ℕ) (r : Request) (last : Bool) (used : ℕ) → BeginsStream x r last used → Begins x r
 begins_of x r last used b = record { text = b.text; rest = b.rest; bytes = b.bytes; is_text = b.is_text.is_text }
 
-one_begin : (x : List ℕ) (r s : Request) (l m : Bool) (u v : ℕ) → BeginsStream x r l u → BeginsStream x s m v → Whole (Asked r) l u ≡ Whole (Asked s) m v
+pub one_begin : (x : List ℕ) (r s : Request) (l m : Bool) (u v : ℕ) → BeginsStream x r l u → BeginsStream x s m v → Whole (Asked r) l u ≡ Whole (Asked s) m v
 one_begin x r s l m u v a b =
     let p = a.is_text.is_text in
     let q = b.is_text.is_text in
@@ -176,7 +176,7 @@ one_begin x r s l m u v a b =
     let used : u ≡ v = omega (arith, first, second, ap length head, ap (λ z. length z.body) request) in
     ap (λ z. Whole (Asked z) l u) request ∙ ap₂ (λ y z. Whole (Asked s) y z) last used
 
-not_refused_there : (x : List ℕ) (r : Request) (l : Bool) (u : ℕ) → BeginsStream x r l u → IsNoStreamRequest x → ⊥
+pub not_refused_there : (x : List ℕ) (r : Request) (l : Bool) (u : ℕ) → BeginsStream x r l u → IsNoStreamRequest x → ⊥
 not_refused_there x r l u b (inl none) = no_head x b.is_text.is_text.head (head_of x r (begins_of x r l u b)) none.0
 not_refused_there x r l u b (inr none) =
     let p = b.is_text.is_text in

@@ -108,7 +108,7 @@ four_case true o n e f = let k : 4 ≡ n = cc in omega arith
 four_case false None n e f = cc
 four_case false (Some m) n e f = let k : 1 + m ≡ n = cc in let h = f m refl in omega arith
 
-four_in : (x : List ℕ) (n : ℕ) → head_end x ≡ Some n → 4 ≤ n
+pub four_in : (x : List ℕ) (n : ℕ) → head_end x ≡ Some n → 4 ≤ n
 unfolding head_end
 four_in [] n e = cc
 four_in (b ∷ bs) n e = four_case (starts_with nat_eq (b ∷ bs) blank) (head_end bs) n e (λ m found. four_in bs m found)

@@ -90,7 +90,7 @@ not_refused x r b (inr n) =
     let none = n.2 b.is_text.parts (subst (λ y. IsHead y b.is_text.parts) head b.is_text.reads) in
     let e = sym b.is_text.sized ∙ none in cc
 
-not_ended : (x : List ℕ) (r : Request) → Begins x r → EndsEarly x → ⊥
+pub not_ended : (x : List ℕ) (r : Request) → Begins x r → EndsEarly x → ⊥
 not_ended x r b (inl n) = no_head x b.is_text.head (head_of x r b) n.0
 not_ended x r b (inr n) =
     let t = b.is_text in

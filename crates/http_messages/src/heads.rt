@@ -16,8 +16,9 @@ fn begins_blank(text: &[u8]) -> bool
     text.starts_with(b"\r\n\r\n")
 }
 
-// The length of the head, where there is none before that place.
-pub(crate) fn head_end(text: &[u8], from: usize) -> Option<usize>
+/// How many bytes stand up to and with the first CR LF CR LF (RFC 9112 section 2.1), looked for from that place on, where there is none
+/// before it.
+pub fn head_end(text: &[u8], from: usize) -> Option<usize>
     requires in_range { from ≤ length text.now }
     requires before { head_end text.now ≡ behind from (head_end (drop from text.now)) }
     ensures { result ≡ head_end text.now }

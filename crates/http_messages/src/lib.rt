@@ -20,8 +20,8 @@ mod write;
 
 pub use cut::{Cut, cut_request, needed};
 pub use fields::{Found, Stated, content_length, find, is_name};
-pub use heads::LINE_LIMIT;
-pub use inflow::{Break, Inflow, pour_head, pour_to};
+pub use heads::{LINE_LIMIT, head_end};
+pub use inflow::{Break, Inflow, pour_head, pour_head_on, pour_to};
 pub use laws::one_answer;
 pub use read::{ReadEnd, read_request};
 pub use request::{Incoming, Method, Pair, Request};

@@ -5,12 +5,13 @@ use Rattle.fed_ports.specs.Exchanges.{Exchange, Changed, change_last, fresh, wit
 use Rattle.fed_ports.specs.Lists.{Added}
 use Rattle.fed_ports.specs.declared.address.Address.{Address}
 use Rattle.fed_ports.specs.declared.page.Page.{Page}
+use Rattle.url.specs.Parts.{Parts}
 use Rattle.http_messages.specs.declared.inflow.Break.{Break}
 use Rattle.http_plain.specs.declared.route.Route.{Route}
 use Rattle.http_messages.specs.Asked.{AsksPart, SentPart, asked_of, asking}
 use Rattle.http_plain.specs.ExchangeLaws.{changed_same, changed_on}
 use Rattle.http_messages.specs.Flows.{BreakCause}
-use Rattle.http_plain.specs.Links.{AddsExchange, Answers, Gets, Leaves}
+use Rattle.http_plain.specs.Links.{AddsExchange, Answers, GetsBy, LeavesBy}
 use Rattle.http_plain.specs.Plans.{SaysTarget}
 use Rattle.http_plain.specs.Shown.{Shows}
 
@@ -57,16 +58,16 @@ pub cause_on : (a b c d : ℕ) (r : Result Page Break) → b ≡ a → d ≡ c �
 cause_on a b c d r first last h = subst (λ x. BreakCause x d r) first (subst (λ y. BreakCause b y r) (sym last) h)
 
 -- the page of a call that had a route
-pub gets : (routes : List Route) (text : List ℕ) (old new : Option (List Exchange)) (to : Address) (message : List ℕ) (p : Page) → SaysTarget routes text to message
-    → AddsExchange old new (λ x. Answers x to message p) → Gets routes text old new p
-gets routes text old new to message p says h = inr (
+pub gets : (message_for : Parts → List ℕ) (routes : List Route) (text : List ℕ) (old new : Option (List Exchange)) (url : Parts) (to : Address) (message : List ℕ) (p : Page) → SaysTarget routes text url to
+    → message ≡ message_for url → AddsExchange old new (λ x. Answers x to message p) → GetsBy message_for routes text old new p
+gets message_for routes text old new url to message p says is h = inr (
   h.0,
   h.1,
   record {
-    url = says.url;
+    url = url;
     reads = says.reads;
     address = says.address ∙ ap Some (sym h.2.address);
-    message = h.2.message_is ∙ says.message_is;
+    message = h.2.message_is ∙ is;
     steady = h.2.steady;
     few = h.2.few;
     page = h.2.page;
@@ -150,8 +151,8 @@ pub whole_left : (a b c d e : Option (List Exchange)) (to : Address) (message : 
 whole_left a b c d e to message opens sends same asked = subst (λ o. AsksPart a o to message) (sym same) (whole_asks a b c d to message opens sends asked)
 
 -- what a call leaves that had a route and got no page
-pub leaves : (routes given : List Route) (text words : List ℕ) (old new : Option (List Exchange)) (to : Address) (message bytes : List ℕ) → given ≡ routes → words ≡ text → SaysTarget given words to message → bytes ≡ message
-    → AsksPart old new to bytes → Leaves routes text old new
-leaves routes given text words old new to message bytes all same said is h =
-    let says = subst (λ r. SaysTarget r text to message) all (subst (λ t. SaysTarget given t to message) same said) in
-    inr (record { url = says.url; to = to; reads = says.reads; address = says.address; asks = subst (AsksPart old new to) (is ∙ says.message_is) h })
+pub leaves : (message_for : Parts → List ℕ) (routes given : List Route) (text words : List ℕ) (old new : Option (List Exchange)) (url : Parts) (to : Address) (message : List ℕ) → given ≡ routes → words ≡ text
+    → SaysTarget given words url to → message ≡ message_for url → AsksPart old new to message → LeavesBy message_for routes text old new
+leaves message_for routes given text words old new url to message all same said is h =
+    let says = subst (λ r. SaysTarget r text url to) all (subst (λ t. SaysTarget given t url to) same said) in
+    inr (record { url = url; to = to; reads = says.reads; address = says.address; asks = subst (AsksPart old new to) is h })

@@ -1,5 +1,5 @@
 -- A client's one exchange for a URL (RFC 9110 section 7, RFC 9112 section 3).
-use Rattle.std.specs.Prelude.{◌≡◌, ◌≤◌, ℕ, ◌||◌, Bool, false, List, [], ◌∷◌, ◌++◌, length, codes, bytes_eq, cond, Option, Some, None, option_map, if◌then◌else◌}
+use Rattle.std.specs.Prelude.{◌≡◌, ◌≤◌, ℕ, ◌||◌, Bool, false, List, [], ◌∷◌, ◌++◌, length, codes, decimal, bytes_eq, cond, Option, Some, None, option_map, if◌then◌else◌}
 use Rattle.std.specs.Result.{result_ok}
 use Rattle.std.specs.Str.{is_utf8}
 use Rattle.fed_base.specs.Values.{◌>>=◌}
@@ -47,14 +47,36 @@ get_text target host =
 abbrev pub message_of : Parts → List ℕ
 message_of url = get_text (text_between url BeforePath AfterQuery) (text_between url BeforeHost AfterPort)
 
--- the page of a URL by the routes and one exchange: it went to the URL's address, its sent bytes are the whole message, it didn't fail,
--- and what was received, with the end where it came, fixes the page
-pub record ClientPage (text : List ℕ) (routes : List Route) (x : Exchange) (p : Page) : Type 0 where
+-- the head of a message that posts a form of so many bytes (RFC 9110 section 9.3.3)
+unfoldable pub post_head : List ℕ → List ℕ → ℕ → List ℕ
+post_head target host size =
+    codes "POST " ++ target ++ codes " HTTP/1.1" ++ crlf
+    ++ codes "Host: " ++ host ++ crlf
+    ++ codes "Accept: */*" ++ crlf
+    ++ codes "Content-Type: application/x-www-form-urlencoded" ++ crlf
+    ++ codes "Content-Length: " ++ decimal size ++ crlf
+    ++ codes "Connection: close" ++ crlf
+    ++ crlf
+
+abbrev pub head_of_post : Parts → ℕ → List ℕ
+head_of_post url size = post_head (text_between url BeforePath AfterQuery) (text_between url BeforeHost AfterPort) size
+
+-- the message that posts a form to a URL: the head, and the form behind it
+abbrev pub post_of : List ℕ → Parts → List ℕ
+post_of form url = head_of_post url (length form) ++ form
+
+-- the page of a URL by the routes and one exchange: it went to the URL's address, its sent bytes are the whole message for that URL, it
+-- didn't fail, and what was received, with the end where it came, fixes the page
+pub record PageBy (message_for : Parts → List ℕ) (text : List ℕ) (routes : List Route) (x : Exchange) (p : Page) : Type 0 where
   pub url : Parts
   pub reads : url_in text ≡ Some url
   pub address : address_of routes url ≡ Some x.to
-  pub message : x.sent ≡ message_of url
+  pub message : x.sent ≡ message_for url
   pub steady : x.failed ≡ false
   -- no more bytes were taken than the longest head and body have, and the piece with which they are over
   pub few : length x.received ≤ answer_limit
   pub page : IsPage x.received x.ended p
+
+-- that of a GET
+abbrev pub ClientPage : List ℕ → List Route → Exchange → Page → Type 0
+ClientPage = PageBy message_of

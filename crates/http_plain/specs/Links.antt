@@ -10,7 +10,7 @@ use Rattle.http_plain.specs.declared.link.HttpLink.{HttpLink}
 use Rattle.http_plain.specs.declared.route.Route.{Route}
 use Rattle.url.specs.Parts.{Parts}
 use Rattle.http_messages.specs.Asked.{AsksPart}
-use Rattle.http_plain.specs.Clients.{ClientPage, HasNoRoute, address_of, message_of, url_in}
+use Rattle.http_plain.specs.Clients.{HasNoRoute, PageBy, address_of, message_of, post_of, url_in}
 use Rattle.http_plain.specs.Pages.{IsPage, answer_limit}
 
 -- one exchange was added, which shows the page
@@ -25,27 +25,45 @@ pub record Answers (x : Exchange) (to : Address) (message : List ℕ) (p : Page)
   pub few : length x.received ≤ answer_limit
   pub page : IsPage x.received x.ended p
 
--- the page: without a route none is opened, and else one exchange was added, by which the page is the URL's
-abbrev pub Gets : List Route → List ℕ → Option (List Exchange) → Option (List Exchange) → Page → Type 0
-Gets routes text old new p =
+-- the page: without a route none is opened, and else one exchange was added, by which the page is the one with which that message for the
+-- URL is answered
+abbrev pub GetsBy : (Parts → List ℕ) → List Route → List ℕ → Option (List Exchange) → Option (List Exchange) → Page → Type 0
+GetsBy message_for routes text old new p =
     (HasNoRoute routes text × (p ≡ NoRoute) × (new ≡ old))
-    ⊎ AddsExchange old new (λ x. ClientPage text routes x p)
+    ⊎ AddsExchange old new (λ x. PageBy message_for text routes x p)
 
 -- what a call leaves that got no page: the network wasn't asked, or it was for the URL alone
-pub record AsksFor (routes : List Route) (text : List ℕ) (old new : Option (List Exchange)) : Type 0 where
+pub record AsksBy (message_for : Parts → List ℕ) (routes : List Route) (text : List ℕ) (old new : Option (List Exchange)) : Type 0 where
   pub url : Parts
   pub to : Address
   pub reads : url_in text ≡ Some url
   pub address : address_of routes url ≡ Some to
-  pub asks : AsksPart old new to (message_of url)
+  pub asks : AsksPart old new to (message_for url)
 
-abbrev pub Leaves : List Route → List ℕ → Option (List Exchange) → Option (List Exchange) → Type 0
-Leaves routes text old new = (new ≡ old) ⊎ AsksFor routes text old new
+abbrev pub LeavesBy : (Parts → List ℕ) → List Route → List ℕ → Option (List Exchange) → Option (List Exchange) → Type 0
+LeavesBy message_for routes text old new = (new ≡ old) ⊎ AsksBy message_for routes text old new
 
 -- what a call answered: the page of the URL, and else what it left
+abbrev pub AnswersBy : (Parts → List ℕ) → List Route → List ℕ → Option (List Exchange) → Option (List Exchange) → Result Page LinkFault → Type 0
+AnswersBy message_for routes text old new (Ok p) = GetsBy message_for routes text old new p
+AnswersBy message_for routes text old new (Err fault) = LeavesBy message_for routes text old new
+
+-- the same of a GET
+abbrev pub Gets : List Route → List ℕ → Option (List Exchange) → Option (List Exchange) → Page → Type 0
+Gets = GetsBy message_of
+
+abbrev pub Leaves : List Route → List ℕ → Option (List Exchange) → Option (List Exchange) → Type 0
+Leaves = LeavesBy message_of
+
 abbrev pub GotOrLeft : List Route → List ℕ → Option (List Exchange) → Option (List Exchange) → Result Page LinkFault → Type 0
-GotOrLeft routes text old new (Ok p) = Gets routes text old new p
-GotOrLeft routes text old new (Err fault) = Leaves routes text old new
+GotOrLeft = AnswersBy message_of
+
+-- and of a POST of a form
+abbrev pub Posts : List ℕ → List Route → List ℕ → Option (List Exchange) → Option (List Exchange) → Page → Type 0
+Posts form = GetsBy (post_of form)
+
+abbrev pub LeavesPost : List ℕ → List Route → List ℕ → Option (List Exchange) → Option (List Exchange) → Type 0
+LeavesPost form = LeavesBy (post_of form)
 
 -- a network as others reach it: the port that it listens on, the callers to come and those that were settled, where it tells them
 pub record Listening (P : Type 0) : Type 0 where

@@ -1,6 +1,5 @@
 -- What the parts of the client know of an answer's head and of a URL.
 use Rattle.std.specs.Prelude.{◌≡◌, ℕ, List, length, Option, Some, None}
-use Rattle.std.specs.String.{string_bytes}
 use Rattle.fed_ports.specs.declared.address.Address.{Address}
 use Rattle.url.specs.Parts.{Parts}
 use Rattle.httparse.specs.Grammar.{ResponseHead}
@@ -9,7 +8,7 @@ use Rattle.httparse.specs.declared.spans.HeaderSpan.{HeaderSpan}
 use Rattle.httparse.specs.declared.spans.ResponseSpans.{ResponseSpans}
 use Rattle.http_plain.specs.declared.route.Route.{Route}
 use Rattle.http_plain.specs.declared.target.Target.{Target}
-use Rattle.http_plain.specs.Clients.{HasNoRoute, address_of, message_of, url_in}
+use Rattle.http_plain.specs.Clients.{HasNoRoute, address_of, url_in}
 use Rattle.http_plain.specs.Pages.{IsAnswerHead}
 
 -- the places are those of the head that an answer's text is, or it is none
@@ -17,13 +16,12 @@ abbrev pub IsAnswerHeading : List ℕ → List HeaderSpan → Option ResponseSpa
 IsAnswerHeading text lines None = (h : ResponseHead) → IsAnswerHead text h → ⊥
 IsAnswerHeading text lines (Some r) = IsResponseWithin text lines r × (r.len ≡ length text) × ((h : ResponseHead) × IsAnswerHead text h × IsResponseAt text lines r h)
 
--- where a URL is asked for and by what message, or that there is no route to it
-pub record SaysTarget (routes : List Route) (text : List ℕ) (to : Address) (message : List ℕ) : Type 0 where
-  pub url : Parts
+-- the URL that a text is, and where it is asked for
+pub record SaysTarget (routes : List Route) (text : List ℕ) (url : Parts) (to : Address) : Type 0 where
   pub reads : url_in text ≡ Some url
   pub address : address_of routes url ≡ Some to
-  pub message_is : message ≡ message_of url
 
+-- the target of a URL, or that there is no route to it
 abbrev pub IsTarget : List Route → List ℕ → Option Target → Type 0
 IsTarget routes text None = HasNoRoute routes text
-IsTarget routes text (Some t) = SaysTarget routes text t.to (string_bytes t.message)
+IsTarget routes text (Some t) = SaysTarget routes text t.url t.to

@@ -3,18 +3,18 @@
 ghost use Rattle.std.specs.Prelude.{◌≡◌, ◌⊎◌, None, IfOk, OnErr};
 ghost use Rattle.fed_base.specs.Counts.{next_count};
 ghost use Rattle.fed_ports.specs.Webs.{HasLinkCause, Serves};
-ghost use Rattle.http_plain.specs.Links.{GotOrLeft, Gets, Leaves, link_calls, link_network, link_routes, listening};
+ghost use Rattle.http_plain.specs.Links.{GotOrLeft, Gets, Leaves, LeavesPost, Posts, link_calls, link_network, link_routes, listening};
 
 use crate::exchange::exchange;
 use crate::networks::Connection;
 use crate::route::Route;
-use crate::target::target_of;
+use crate::target::{get_message, post_message, target_of};
 use fed_ports::{Link, LinkFault, Network, Page, Seq, Text};
 use http_messages::Break;
 use std::alloc::Global;
 
-/// A client of HTTP/1.1 (RFC 9110, RFC 9112), as a link: each call opens a connection, sends one GET, reads its answer and shuts the
-/// connection. It keeps no page.
+/// A client of HTTP/1.1 (RFC 9110, RFC 9112), as a link: each call opens a connection, sends one message, reads its answer and shuts
+/// the connection. It keeps no page.
 #[derive(Drop)]
 pub struct HttpLink<N> {
     net: N,
@@ -33,6 +33,35 @@ impl<N: Network> HttpLink<N> {
             net,
             routes,
             calls: 0,
+        }
+    }
+
+    /// The page with which a POST of a form is answered at a URL (RFC 9110 section 9.3.3, URL Standard section 5.2). It opens a
+    /// connection, sends one message and reads its answer, as [`Link::get`] does; its pages and faults are those of a GET. The calls that
+    /// are counted are GETs.
+    pub fn post(&mut self, alloc: Global, url: &Text, body: &Text) -> Result<Page, LinkFault>
+        ensures calls { link_calls self.new ≡ link_calls self.old }
+        ensures routes { link_routes self.new ≡ link_routes self.old }
+        ensures cause { HasLinkCause (N.faults (link_network self.old)) (N.faults (link_network self.new)) result }
+        // The page is that of the URL, the routes, the form and the one exchange of this call; without a route nothing is opened.
+        ensures page { IfOk result (λ page. Posts body.now (link_routes self.old) url.now (N.exchanges (link_network self.old)) (N.exchanges (link_network self.new)) page) }
+        // After a fault at most one exchange was added: of the URL's address, in which a part of its message, and nothing else, was sent.
+        ensures left { OnErr result (LeavesPost body.now (link_routes self.old) url.now (N.exchanges (link_network self.old)) (N.exchanges (link_network self.new))) }
+        // The network listens as before, and nobody was accepted or settled.
+        ensures still { listening (N.port (link_network self.new)) (N.callers (link_network self.new)) (N.settled (link_network self.new))
+            ≡ listening (N.port (link_network self.old)) (N.callers (link_network self.old)) (N.settled (link_network self.old)) }
+        // No connection is open afterwards, or the network is as it was.
+        ensures shut { (N.is_open (link_network self.new) → ⊥) ⊎ (link_network self.new ≡ link_network self.old) }
+    {
+        let target = target_of(alloc, self.routes.as_slice(), url.as_slice())?;
+        let Some(target) = target else {
+            return Ok(Page::NoRoute);
+        };
+        let message = post_message(alloc, &target.url, body.as_slice())?;
+        match exchange::<N, Connection>(alloc, &mut self.net, &target.to, &message) {
+            Ok(page) => Ok(page),
+            Err(Break::Failed) => Err(LinkFault::Failed),
+            Err(Break::Memory) => Err(LinkFault::Memory),
         }
     }
 
@@ -77,8 +106,8 @@ impl<N: Network> Link for HttpLink<N> {
         let Some(target) = target else {
             return Ok(Page::NoRoute);
         };
-        let message = target.message.as_bytes();
-        match exchange::<N, Connection>(alloc, &mut self.net, &target.to, message) {
+        let message = get_message(alloc, &target.url)?;
+        match exchange::<N, Connection>(alloc, &mut self.net, &target.to, message.as_bytes()) {
             Ok(page) => Ok(page),
             Err(Break::Failed) => Err(LinkFault::Failed),
             Err(Break::Memory) => Err(LinkFault::Memory),

@@ -1,20 +1,22 @@
-// Where a URL is asked for, and by what message.
+// Where a URL is asked for, and by which messages.
 
-ghost use Rattle.std.specs.Prelude.{◌≡◌, IfOk, length};
+ghost use Rattle.std.specs.Prelude.{◌≡◌, IfOk};
 ghost use Rattle.std.specs.String.{string_bytes};
-ghost use Rattle.http_plain.specs.Clients.{address_of, is_web, message_of, route_to, url_in};
+ghost use Rattle.http_plain.specs.Clients.{address_of, head_of_post, is_web, message_of, post_of, route_to, url_in};
 ghost use Rattle.http_plain.specs.Plans.{IsTarget};
+ghost use Rattle.url.specs.Parts.{text_between};
+ghost use Rattle.url.specs.declared.slicing.Position.TheVariants.{BeforeHost, AfterPort, BeforePath, AfterQuery};
 
 use crate::route::Route;
 use fed_ports::{Address, Memory};
 use std::alloc::Global;
 use url::{ParseError, Position, Url};
 
-// An address and the message that is sent to it.
+// A URL of the web and the address at which it is asked for.
 #[derive(Drop)]
 pub(crate) struct Target {
+    pub url: Url,
     pub to: Address,
-    pub message: String,
 }
 
 // Whether the scheme is one of the web.
@@ -64,14 +66,52 @@ fn address(routes: &[Route], url: &Url) -> Option<Address>
     route_to(routes, url.host_str()?.as_bytes())
 }
 
+// The path and query of a URL, as a request line has them (RFC 9112 section 3.2.1).
+fn path(url: &Url) -> &str
+    ensures { result.now ≡ text_between url.now BeforePath AfterQuery }
+{
+    url.slice(Position::BeforePath, Position::AfterQuery)
+}
+
+// The host of a URL, with the port that the URL keeps.
+fn host(url: &Url) -> &str
+    ensures { result.now ≡ text_between url.now BeforeHost AfterPort }
+{
+    url.slice(Position::BeforeHost, Position::AfterPort)
+}
+
 // The message that asks for a URL.
-fn message(alloc: Global, url: &Url) -> Result<String, Memory>
+pub(crate) fn get_message(alloc: Global, url: &Url) -> Result<String, Memory>
     ensures { IfOk result (λ text. string_bytes text ≡ message_of url.now) }
 {
-    let target = url.slice(Position::BeforePath, Position::AfterQuery);
-    let host = url.slice(Position::BeforeHost, Position::AfterPort);
+    let target = path(url);
+    let host = host(url);
     match format!(in alloc;
         "GET {target} HTTP/1.1\r\nHost: {host}\r\nAccept: */*\r\nConnection: close\r\n\r\n"
+    ) {
+        Ok(text) => Ok(text),
+        Err(_) => Err(Memory),
+    }
+}
+
+// The message that posts a form to a URL.
+pub(crate) fn post_message(alloc: Global, url: &Url, form: &[u8]) -> Result<Vec<u8>, Memory>
+    ensures { IfOk result (λ message. message.items ≡ post_of form.now url.now) }
+{
+    let mut message = post_head(alloc, url, form.len())?.into_bytes();
+    message.extend_from_slice(form)?;
+    Ok(message)
+}
+
+// The message's head, for a form of so many bytes.
+fn post_head(alloc: Global, url: &Url, size: usize) -> Result<String, Memory>
+    ensures { IfOk result (λ text. string_bytes text ≡ head_of_post url.now size) }
+{
+    let target = path(url);
+    let host = host(url);
+    match format!(in alloc;
+        "POST {target} HTTP/1.1\r\nHost: {host}\r\nAccept: */*\r\nContent-Type: application/x-www-form-urlencoded\r\n\
+         Content-Length: {size}\r\nConnection: close\r\n\r\n"
     ) {
         Ok(text) => Ok(text),
         Err(_) => Err(Memory),
@@ -89,9 +129,8 @@ pub(crate) fn target_of(
     let Some(url) = web_url(alloc, text)? else {
         return Ok(None);
     };
-    let Some(to) = address(routes, &url) else {
-        return Ok(None);
-    };
-    let message = message(alloc, &url)?;
-    Ok(Some(Target { to, message }))
+    match address(routes, &url) {
+        Some(to) => Ok(Some(Target { url, to })),
+        None => Ok(None),
+    }
 }

@@ -7,8 +7,8 @@ use fed_ports::MemorySource;
 use http_plain::{Incoming, Method, ReadEnd, Request, read_request};
 use std::alloc::Global;
 
-// Adds a request: its method, its path, its pairs and its body.
-fn add_request(alloc: Global, out: &mut Text, request: &Request) -> Result<(), Memory> {
+/// Adds a request: its method, its path, its pairs and its body.
+pub(crate) fn add_request(alloc: Global, out: &mut Text, request: &Request) -> Result<(), Memory> {
     out.append(match request.method {
         Method::Get => b"GET ",
         Method::Post => b"POST ",
@@ -55,14 +55,14 @@ pub(crate) fn told(alloc: Global, answer: Result<Incoming, ReadEnd>) -> Result<T
 /// The request in these bytes, of which each call gives at most so many.
 pub(crate) fn ask(alloc: Global, given: &str) -> Result<Text, Memory> {
     let (most, parts) = cut(given);
-    let mut source = Pieces::new(bytes(alloc, parts)?, number(most) as usize);
+    let mut source = Pieces::new(bytes(alloc, parts)?, number(most) as usize)?;
     let read = read_request(alloc, &mut source);
     drop(source);
     told(alloc, read)
 }
 
 fn is_ended(alloc: Global, bytes: &[u8]) -> Result<bool, Memory> {
-    let mut source = Pieces::new(Text::of(alloc, bytes)?, 7);
+    let mut source = Pieces::new(Text::of(alloc, bytes)?, 7)?;
     let read = read_request(alloc, &mut source);
     drop(source);
     let ended = matches!(read, Err(ReadEnd::Ended));

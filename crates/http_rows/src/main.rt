@@ -9,6 +9,7 @@ mod answers;
 mod asks;
 mod pages;
 mod pieces;
+mod streams;
 mod words;
 
 use fed_base::{Memory, Text};
@@ -28,6 +29,9 @@ fn answer(alloc: Global, row: &str) -> Result<Text, Memory> {
         "ends" => pages::cut_short(alloc, given),
         "lost" => pages::lost(alloc, given),
         "sent" => pages::sent(alloc, given),
+        "posted" => pages::posted(alloc, given),
+        "stream" => streams::stream(alloc, given),
+        "parted" => streams::cut_short(alloc, given),
         "peer" => adapters::peer(alloc, given),
         "link" => adapters::linked(alloc, given),
         _ => Text::of(alloc, b"no such row"),

@@ -103,11 +103,12 @@ fn with_sent(alloc: Global, mut told: Text, net: &MemoryNetwork) -> Result<Text,
     Ok(told)
 }
 
-/// What is sent for a URL with a route to that host.
-pub(crate) fn sent(alloc: Global, given: &str) -> Result<Text, Memory> {
-    let (host, url) = cut(given);
-    let mut link = link(alloc, host, Text::new(alloc), &[])?;
-    let told = got(alloc, &mut link, url);
+// What a call answered, and what was sent for it.
+fn told_and_sent(
+    alloc: Global,
+    told: Result<Text, Memory>,
+    link: HttpLink<MemoryNetwork>,
+) -> Result<Text, Memory> {
     let net = link.into_net();
     let told = match told {
         Ok(told) => with_sent(alloc, told, &net),
@@ -115,6 +116,39 @@ pub(crate) fn sent(alloc: Global, given: &str) -> Result<Text, Memory> {
     };
     drop(net);
     told
+}
+
+/// What is sent for a URL with a route to that host.
+pub(crate) fn sent(alloc: Global, given: &str) -> Result<Text, Memory> {
+    let (host, url) = cut(given);
+    let mut link = link(alloc, host, Text::new(alloc), &[])?;
+    let told = got(alloc, &mut link, url);
+    told_and_sent(alloc, told, link)
+}
+
+// The page with which a POST of a form is answered.
+fn post(
+    alloc: Global,
+    link: &mut HttpLink<MemoryNetwork>,
+    url: &str,
+    form: &str,
+) -> Result<Text, Memory> {
+    let url = Text::of(alloc, url.as_bytes())?;
+    let form = Text::of(alloc, form.as_bytes())?;
+    let answer = link.post(alloc, &url, &form);
+    let mut out = Text::new(alloc);
+    add_answer(alloc, &mut out, answer)?;
+    Ok(out)
+}
+
+/// The page where a form is posted to a URL with a route to that host and these bytes come, and what is sent.
+pub(crate) fn posted(alloc: Global, given: &str) -> Result<Text, Memory> {
+    let (host, rest) = cut(given);
+    let (url, rest) = cut(rest);
+    let (form, parts) = cut(rest);
+    let mut link = link(alloc, host, bytes(alloc, parts)?, &[])?;
+    let told = post(alloc, &mut link, url, form);
+    told_and_sent(alloc, told, link)
 }
 
 /// The page where these bytes come and the network's call of that number fails.

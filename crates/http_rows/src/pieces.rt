@@ -2,7 +2,7 @@
 
 ghost use Rattle.std.specs.Prelude.{Some, [], drop};
 
-use fed_base::{Failed, Text};
+use fed_base::{Failed, Memory, Text};
 use fed_ports::Source;
 
 /// A source of given bytes, of which each call gives at most so many.
@@ -15,12 +15,17 @@ pub(crate) struct Pieces {
 
 impl Pieces {
     /// All the bytes are left.
-    pub(crate) fn new(bytes: Text, most: usize) -> Pieces {
-        Pieces {
-            bytes: bytes.into_vec(),
+    pub(crate) fn new(bytes: Text, most: usize) -> Result<Pieces, Memory> {
+        Ok(Pieces {
+            bytes: bytes.into_vec()?,
             taken: 0,
             most,
-        }
+        })
+    }
+
+    /// How many bytes are left.
+    pub(crate) fn left(&self) -> usize {
+        self.bytes.len().saturating_sub(self.taken)
     }
 }
 

@@ -36,3 +36,10 @@ pub record IsCompact (x : List ℕ) (c : Compact) : Type 0 where
   pub input : IsSigningInput c.signed c.payload c.alg c.typ c.kid
   pub signature_bytes : IsBytes c.signature
   pub text_is : x ≡ joined c.signed c.signature
+
+-- the same of a text of any length, as a resolver's reply is (RFC 7515 section 7.1)
+pub record IsJoined (x : List ℕ) (c : Compact) : Type 0 where
+  pub whole_is : c.whole ≡ x
+  pub input : IsSigningInput c.signed c.payload c.alg c.typ c.kid
+  pub signature_bytes : IsBytes c.signature
+  pub text_is : x ≡ joined c.signed c.signature

@@ -92,6 +92,12 @@ splitting x =
       parts ← ok_or (three_of (parts_of x)) Parts
       compact_of x parts
 
+-- the same of a text of any length, as a resolver's reply is: no text is too long
+unfoldable pub long_splitting : List ℕ → Result Compact FormFault
+long_splitting x = do
+  parts ← ok_or (three_of (parts_of x)) Parts
+  compact_of x parts
+
 -- what the types of the code say of an answer's parts
 pub record HasForms (c : Compact) : Type 0 where
   pub payload_bytes : IsBytes c.payload

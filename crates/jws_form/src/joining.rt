@@ -5,7 +5,7 @@ ghost use Rattle.fed_base.specs.declared.algorithm.Alg.{Alg};
 ghost use Rattle.fed_json.specs.Compact.{compact};
 ghost use Rattle.fed_json.specs.Forms.{IsWhole, nesting};
 ghost use Rattle.jws_form.specs.declared.compact.Compact.{Compact};
-ghost use Rattle.jws_form.specs.Compact.{IsCompact, IsSigningInput, joined, max_bytes, signing_input_of};
+ghost use Rattle.jws_form.specs.Compact.{IsCompact, IsJoined, IsSigningInput, joined, max_bytes, signing_input_of};
 ghost use Rattle.jws_form.specs.Header.{IsHeader};
 
 use crate::parts::STOP;
@@ -41,13 +41,24 @@ fn encoded_parts(alloc: Global, header: &[u8], payload: &[u8]) -> Result<Text, M
 }
 
 /// The compact text of a signing input and its signature (RFC 7515 section 7.1): the input, a full stop, and the
-/// base64url of the signature. [`split`](crate::split) takes it apart into these where it has at most 262,144 bytes,
-/// and what that takes apart is joined again to the same text.
+/// base64url of the signature. It holds these whatever its length; [`split`](crate::split) takes it apart into them where
+/// it has at most 262,144 bytes, and what that takes apart is joined again to the same text.
 pub fn join(alloc: Global, signed: &Text, signature: &[u8]) -> Result<Text, Memory>
     ensures text { IfOk result (λ text. text ≡ joined signed.now signature.now) }
     ensures splits { (payload : List ℕ) (alg : Alg) (typ kid : Option (List ℕ))
         → IsSigningInput signed.now payload alg typ kid
         → IfOk result (λ text. length text ≤ max_bytes → IsCompact text (record {
+          whole = text;
+          alg = alg;
+          typ = typ;
+          kid = kid;
+          payload = payload;
+          signed = signed.now;
+          signature = signature.now;
+        })) }
+    ensures holds { (payload : List ℕ) (alg : Alg) (typ kid : Option (List ℕ))
+        → IsSigningInput signed.now payload alg typ kid
+        → IfOk result (λ text. IsJoined text (record {
           whole = text;
           alg = alg;
           typ = typ;

@@ -18,4 +18,4 @@ pub use algorithm::{algorithm_name, algorithm_of};
 pub use compact::Compact;
 pub use fault::FormFault;
 pub use joining::{join, signing_input};
-pub use splitting::split;
+pub use splitting::{split, split_long, split_text};

@@ -1,6 +1,6 @@
 // The parts between full stops.
 
-ghost use Rattle.std.specs.Prelude.{◌≡◌, ◌∷◌, ◌++◌, [], IfOk, IfSome, MatchOption, option_map};
+ghost use Rattle.std.specs.Prelude.{◌≡◌, ◌∷◌, ◌++◌, [], length, take, IfOk, IfSome, MatchOption, option_map};
 ghost use Rattle.base64.specs.GeneralPurpose.{IsBytes};
 ghost use Rattle.jws_form.specs.Compact.{stop};
 ghost use Rattle.jws_form.specs.Splitting.{Gives, bytes_of, parts_of, three_of};
@@ -38,6 +38,7 @@ pub(crate) fn three_parts(text: &[u8]) -> Option<Parts<'_>>
     ensures parts { option_map (λ p. (p.header.now, p.payload.now, p.signature.now)) result
         ≡ three_of (parts_of text.now) }
     ensures signed { IfSome result (λ p. p.signed.now ≡ p.header.now ++ stop ∷ p.payload.now) }
+    ensures front { IfSome result (λ p. take (length p.signed.now) text.now ≡ p.signed.now) }
 {
     let (header, rest) = split_once(text)?;
     let (payload, signature) = split_once(rest)?;

@@ -2,6 +2,7 @@
 use Rattle.std.proofs.Common.{◌≡◌, ◌<◌, ℕ, List, map, length, Bool, true, false, not, nat_le, Option, Some, refl, ap, ◌∙◌}
 use Rattle.std.proofs.lemmas.Bool.{lt-leb}
 use Rattle.std.specs.Option.{option_or}
+use Rattle.fed_base.specs.declared.algorithm.Alg.{Alg}
 use Rattle.key_ring.specs.declared.key.KeyState.{KeyState}
 use Rattle.key_ring.specs.declared.fault.OrderFault.TheVariants.{Exp, NotLive, LastLive, Full}
 use Rattle.key_ring.specs.declared.fault.RingFault.{RingFault}
@@ -19,11 +20,11 @@ next-where false fault later e = refl
 last-where : (b c : Bool) (fault : RingFault) → b ≡ c → fault_where b fault ≡ fault_where c fault
 last-where b c fault e = ap (λ x. fault_where x fault) e
 
-pub adding-last : (ring : Ring) (seeds : List ℕ) (at exp : ℕ) (known : Bool) → at < exp → length ring < most_keys → has_key (kid_added seeds) ring ≡ known
-    → fault_of ring (Add seeds at exp) ≡ fault_where known (Known (kid_added seeds))
-adding-last ring seeds at exp known order room is =
+pub adding-last : (ring : Ring) (alg : Alg) (seeds : List ℕ) (at exp : ℕ) (known : Bool) → at < exp → length ring < most_keys → has_key (kid_added alg seeds) ring ≡ known
+    → fault_of ring (Add alg seeds at exp) ≡ fault_where known (Known (kid_added alg seeds))
+adding-last ring alg seeds at exp known order room is =
     next-where (nat_le exp at) (Order Exp) _ (lt-leb exp at order) ∙ next-where (nat_le most_keys (length ring)) (Order Full) _ (lt-leb most_keys (length ring) room)
-    ∙ last-where (has_key (kid_added seeds) ring) known (Known (kid_added seeds)) is
+    ∙ last-where (has_key (kid_added alg seeds) ring) known (Known (kid_added alg seeds)) is
 
 -- ---- the faults of another state
 

@@ -10,23 +10,27 @@ use Rattle.fed_json.specs.Reading.{member_of}
 use Rattle.jws_form.specs.Header.{algorithm}
 use Rattle.jwk_set.specs.Keys.{key_type}
 use Rattle.key_ring.specs.declared.key.RingKey.{RingKey}
-use Rattle.key_ring.specs.Files.{key_tree, state_tree}
+use Rattle.key_ring.specs.declared.version.Version.{Version}
+use Rattle.key_ring.specs.Files.{alg_members, key_tree, state_tree}
 use Rattle.key_ring.specs.Sets.{plain_members}
-
--- those of a key's object
-pub key-filled : {X E : Type 0} (r : Result X E) (start one two three all : List Member) (state : Json) (key : RingKey) → start ≡ [] → one ≡ start ++ number_member (codes "exp") key.exp ∷ []
-    → two ≡ one ++ number_member (codes "iat") key.iat ∷ [] → three ≡ two ++ text_member (codes "seeds") (encode_lower key.seeds) ∷ [] → state ≡ state_tree key.state
-    → OnOk r (all ≡ three ++ member_of (codes "state") state ∷ []) → OnOk r (Object all ≡ key_tree key)
-unfolding key_tree
-key-filled (Ok x) start one two three all state key none first second third is last =
-    let most =
-    third ∙ ap (λ ms. ms ++ text_member (codes "seeds") (encode_lower key.seeds) ∷ []) (second ∙ ap (λ ms. ms ++ number_member (codes "iat") key.iat ∷ []) (first ∙ ap (λ ms. ms ++ number_member (codes "exp") key.exp ∷ []) none)) in
-    ap Object (last ∙ (λ i. most i ++ member_of (codes "state") (is i) ∷ []))
-key-filled (Err e) start one two three all state key none first second third is last = tt
 
 -- one member, and those behind it
 behind : (start next rest : List Member) (m : Member) → next ≡ start ++ m ∷ [] → next ++ rest ≡ start ++ m ∷ rest
 behind start next rest m added = ap (λ ms. ms ++ rest) added ∙ append_assoc start (m ∷ []) rest
+
+-- those of a key's object
+pub key-filled : {X E : Type 0} (r : Result X E) (version : Version) (start zero one two three all : List Member) (state : Json) (key : RingKey) → start ≡ []
+    → zero ≡ start ++ alg_members version key.alg → one ≡ zero ++ number_member (codes "exp") key.exp ∷ [] → two ≡ one ++ number_member (codes "iat") key.iat ∷ []
+    → three ≡ two ++ text_member (codes "seeds") (encode_lower key.seeds) ∷ [] → state ≡ state_tree key.state → OnOk r (all ≡ three ++ member_of (codes "state") state ∷ [])
+    → OnOk r (Object all ≡ key_tree version key)
+unfolding key_tree
+key-filled (Ok x) version start zero one two three all state key none named first second third is last =
+    ap Object (
+    last ∙ behind two three _ _ third ∙ behind one two _ _ second ∙ behind zero one _ _ first
+    ∙ (λ i. (named ∙ ap (λ ms. ms ++ alg_members version key.alg) none) i ++ number_member (codes "exp") key.exp ∷ number_member (codes "iat") key.iat
+    ∷ text_member (codes "seeds") (encode_lower key.seeds) ∷ member_of (codes "state") (is i) ∷ [])
+    )
+key-filled (Err e) version start zero one two three all state key none named first second third is last = tt
 
 -- those that each historical key has
 pub plain-added : {X E : Type 0} (r : Result X E) (start one two three four all : List Member) (alg : Alg) (alg_text kid_text kid : List ℕ) (exp : ℕ) (public_text public : List ℕ)

@@ -2,9 +2,10 @@
 use Rattle.std.proofs.Common.{◌≡◌, ◌<◌, ◌≤◌, ℕ, zero, suc, ◌+◌, List, [], ◌∷◌, ◌++◌, length, map, take, drop, true, false, ◌||◌, cond, get_or, bytes_eq, drop-cons, drop_of_length-le, add-one, Some, None, Err, refl, sym, ap, ap₂, ◌∙◌, subst, arith}
 use Rattle.std.proofs.Math.Seq.{take-suc}
 use Rattle.std.proofs.lemmas.List.{map-append, take_all}
-use Rattle.std.proofs.lemmas.Map.Keys.{IsDistinct-push}
+use Rattle.std.proofs.lemmas.Bool.{or_parts}
+use Rattle.std.proofs.lemmas.Map.Keys.{IsDistinct-head, IsDistinct-push, IsDistinct-tail}
 use Rattle.std.specs.Cmp.Lexicographic.{nat_list_eq_equiv}
-use Rattle.std.specs.List.{IsDistinct, list_any}
+use Rattle.std.specs.List.{AllByRecursion, IsDistinct, list_any}
 use Rattle.key_ring.specs.declared.key.RingKey.{RingKey}
 use Rattle.key_ring.specs.declared.fault.RingFault.{RingFault}
 use Rattle.key_ring.specs.declared.fault.RingFault.TheVariants.{Shape, Known, Unknown, Order, StoreFault, Memory}
@@ -71,3 +72,34 @@ opened_all held keys i so_far past = (all_open held keys i so_far past, so_far.r
 
 pub opened_ring : (held keys : Ring) (i : ℕ) → Opened held keys i → length keys ≤ i → HasForm keys → IsRing held
 opened_ring held keys i so_far past form = record { form = subst HasForm (sym (all_open held keys i so_far past)) form; distinct = so_far.distinct }
+
+-- ---- keys of which no two have one name
+
+-- no earlier key has the name of one of these
+abbrev Apart : Ring → Ring → Type 0
+Apart earlier ring = AllByRecursion (λ (key : RingKey). has_key (kid_of key) earlier ≡ false) ring
+
+apart-none : (ring : Ring) → Apart [] ring
+apart-none [] = tt
+apart-none (key ∷ ring) = (refl, apart-none ring)
+
+has-more : (kid : List ℕ) (earlier : Ring) (key : RingKey) → has_key kid earlier ≡ false → is_named kid key ≡ false → has_key kid (earlier ++ key ∷ []) ≡ false
+has-more kid [] key none other = ap (λ b. b || false) other
+has-more kid (e ∷ earlier) key none other =
+    let parts = or_parts (is_named kid e) (has_key kid earlier) none in
+    ap₂ (λ a b. a || b) parts.0 (has-more kid earlier key parts.1 other)
+
+apart-more : (earlier : Ring) (key : RingKey) (ring : Ring) → Apart earlier ring → AllByRecursion (λ y. bytes_eq (kid_of key) y ≡ false) (map kid_of ring) → Apart (earlier ++ key ∷ []) ring
+apart-more earlier key [] apart others = tt
+apart-more earlier key (k ∷ ring) apart others =
+    (has-more (kid_of k) earlier key apart.0 (nat_list_eq_equiv.symm (kid_of k) (kid_of key) ∙ others.0), apart-more earlier key ring apart.1 others.1)
+
+none-again : (earlier ring : Ring) → Apart earlier ring → IsDistinct bytes_eq (map kid_of ring) → repeated_after earlier ring ≡ None
+none-again earlier [] apart once = refl
+none-again earlier (key ∷ ring) apart once =
+    ap (λ b. cond b (Some (kid_of key)) (repeated_after (earlier ++ key ∷ []) ring)) apart.0
+    ∙ none-again (earlier ++ key ∷ []) ring
+    (apart-more earlier key ring apart.1 (IsDistinct-head bytes_eq (kid_of key) (map kid_of ring) once)) (IsDistinct-tail bytes_eq (kid_of key) (map kid_of ring) once)
+
+pub none-twice : (ring : Ring) → IsRing ring → repeated_in ring ≡ None
+none-twice ring is = none-again [] ring (apart-none ring) is.distinct

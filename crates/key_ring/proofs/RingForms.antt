@@ -13,13 +13,18 @@ use Rattle.fed_json.specs.Members.{number_member, text_member}
 use Rattle.fed_json.specs.Reading.{member_of}
 use Rattle.fed_json.proofs.Booleans.{both_true, left_true, right_true}
 use Rattle.fed_json.proofs.Layers.{whole-Object, whole-List, nesting-Object, nesting-List, nesting-Int, nesting-Text}
+use Rattle.fed_base.specs.declared.algorithm.Alg.{Alg}
+use Rattle.fed_base.specs.declared.algorithm.Alg.TheVariants.{Small, Fast}
+use Rattle.jws_form.specs.Header.{algorithm}
 use Rattle.jwk_set.proofs.WrittenKeys.{ascii, whole_text}
 use Rattle.key_ring.specs.declared.key.KeyState.{KeyState}
 use Rattle.key_ring.specs.declared.key.KeyState.TheVariants.{Live, Retired, Revoked}
 use Rattle.key_ring.specs.declared.key.RevokeReason.{RevokeReason}
 use Rattle.key_ring.specs.declared.key.RevokeReason.TheVariants.{Unspecified, Compromised, Superseded}
 use Rattle.key_ring.specs.declared.key.RingKey.{RingKey}
-use Rattle.key_ring.specs.Files.{key_tree, reason_word, revocation_tree, ring_tree, state_tree}
+use Rattle.key_ring.specs.declared.version.Version.{Version}
+use Rattle.key_ring.specs.declared.version.Version.TheVariants.{First, Second}
+use Rattle.key_ring.specs.Files.{key_members, key_tree, number_of, reason_word, revocation_tree, state_tree, tree_of}
 use Rattle.key_ring.specs.Rings.{IsRingKey, IsTimelyState, Ring}
 
 -- ---- numbers and texts
@@ -66,16 +71,16 @@ state_whole (Revoked at reason) timely = revocation_whole at reason (omega arith
 
 -- ---- keys
 
-abbrev members : ℕ → ℕ → List ℕ → KeyState → List Member
-members exp iat seeds state = number_member (codes "exp") exp ∷ number_member (codes "iat") iat
-    ∷ text_member (codes "seeds") (encode_lower seeds) ∷ member_of (codes "state") (state_tree state) ∷ []
+alg_utf8 : (alg : Alg) → is_utf8 (algorithm alg) ≡ true
+alg_utf8 Small = ascii (algorithm Small) refl
+alg_utf8 Fast = ascii (algorithm Fast) refl
 
-key_whole : (key : RingKey) → IsRingKey key → whole (key_tree key) ≡ true
+key_whole : (version : Version) (key : RingKey) → IsRingKey key → whole (key_tree version key) ≡ true
 unfolding key_tree
-key_whole key is =
+key_whole First key is =
     let order = is.order in
     let small = is.small in
-    whole-Object (members key.exp key.iat key.seeds key.state)
+    whole-Object (key_members key)
     ∙ rw (
       whole_int key.exp (omega (arith, small)),
       whole_int key.iat (omega (arith, order, small)),
@@ -86,54 +91,90 @@ key_whole key is =
       ascii (codes "seeds") refl,
       ascii (codes "state") refl,
     ) refl
+key_whole Second key is =
+    let order = is.order in
+    let small = is.small in
+    whole-Object (text_member (codes "alg") (algorithm key.alg) ∷ key_members key)
+    ∙ rw (
+      whole_text (algorithm key.alg) (alg_utf8 key.alg),
+      whole_int key.exp (omega (arith, small)),
+      whole_int key.iat (omega (arith, order, small)),
+      whole_text (encode_lower key.seeds) (utf8 key.seeds),
+      state_whole key.state is.state,
+      ascii (codes "alg") refl,
+      ascii (codes "exp") refl,
+      ascii (codes "iat") refl,
+      ascii (codes "seeds") refl,
+      ascii (codes "state") refl,
+    ) refl
 
-keys_whole : (ring : Ring) → AllByRecursion IsRingKey ring → list_all whole (map key_tree ring) ≡ true
-keys_whole [] all = refl
-keys_whole (key ∷ ring) all = both_true (key_whole key all.0) (keys_whole ring all.1)
+keys_whole : (version : Version) (ring : Ring) → AllByRecursion IsRingKey ring → list_all whole (map (key_tree version) ring) ≡ true
+keys_whole version [] all = refl
+keys_whole version (key ∷ ring) all = both_true (key_whole version key all.0) (keys_whole version ring all.1)
 
-pub tree_whole : (ring : Ring) → AllByRecursion IsRingKey ring → whole (ring_tree ring) ≡ true
-unfolding ring_tree
-tree_whole ring all =
-    whole-Object (member_of (codes "keys") (ListOf (map key_tree ring)) ∷ number_member (codes "version") 1 ∷ [])
-    ∙ rw (whole-List (map key_tree ring), keys_whole ring all, whole_int 1 (lit≤ tt), ascii (codes "keys") refl, ascii (codes "version") refl) refl
+number_small : (version : Version) → number_of version < 2 ^ 64
+number_small First = lit≤ tt
+number_small Second = lit≤ tt
+
+abbrev ring_members : Version → Ring → List Member
+ring_members version ring = member_of (codes "keys") (ListOf (map (key_tree version) ring)) ∷ number_member (codes "version") (number_of version) ∷ []
+
+pub tree_whole : (version : Version) (ring : Ring) → AllByRecursion IsRingKey ring → whole (tree_of version ring) ≡ true
+unfolding tree_of
+tree_whole version ring all =
+    whole-Object (ring_members version ring)
+    ∙ rw (
+      whole-List (map (key_tree version) ring),
+      keys_whole version ring all,
+      whole_int (number_of version) (number_small version),
+      ascii (codes "keys") refl,
+      ascii (codes "version") refl,
+    ) refl
 
 -- ---- depth
 
-depth : (exp iat : ℕ) (seeds : List ℕ) (state : KeyState) → nesting (Object (members exp iat seeds state)) ≤ 2
-depth exp iat seeds Live =
-    rw (nesting-Object (members exp iat seeds Live), nesting-Int (pos exp), nesting-Int (pos iat), nesting-Text (encode_lower seeds), nesting-Text (codes "live")) (lit≤ tt)
-depth exp iat seeds Retired =
-    rw (nesting-Object (members exp iat seeds Retired), nesting-Int (pos exp), nesting-Int (pos iat), nesting-Text (encode_lower seeds), nesting-Text (codes "retired")) (lit≤ tt)
-depth exp iat seeds (Revoked at reason) =
-    rw (
-      nesting-Object (members exp iat seeds (Revoked at reason)),
-      nesting-Int (pos exp),
-      nesting-Int (pos iat),
-      nesting-Text (encode_lower seeds),
-      nesting-Object (revocation_members at reason),
-      nesting-Text (reason_word reason),
-      nesting-Int (pos at),
-    ) (lit≤ tt)
+state_depth : (state : KeyState) → nesting (state_tree state) ≤ 1
+state_depth Live = rw (nesting-Text (codes "live")) (lit≤ tt)
+state_depth Retired = rw (nesting-Text (codes "retired")) (lit≤ tt)
+state_depth (Revoked at reason) =
+    rw (nesting-Object (revocation_members at reason), nesting-Text (reason_word reason), nesting-Int (pos at)) (lit≤ tt)
 
-key_depth : (key : RingKey) → nesting (key_tree key) ≤ 2
+object_depth : (n : ℕ) → n ≤ 1 → suc (max 0 (max 0 (max 0 (max n 0)))) ≤ 2
+object_depth n small = omega arith
+
+named_depth : (n : ℕ) → n ≤ 1 → suc (max 0 (max 0 (max 0 (max 0 (max n 0))))) ≤ 2
+named_depth n small = omega arith
+
+key_depth : (version : Version) (key : RingKey) → nesting (key_tree version key) ≤ 2
 unfolding key_tree
-key_depth key = depth key.exp key.iat key.seeds key.state
+key_depth First key =
+    rw (nesting-Object (key_members key), nesting-Int (pos key.exp), nesting-Int (pos key.iat), nesting-Text (encode_lower key.seeds))
+    (object_depth (nesting (state_tree key.state)) (state_depth key.state))
+key_depth Second key =
+    rw (
+      nesting-Object (text_member (codes "alg") (algorithm key.alg) ∷ key_members key),
+      nesting-Text (algorithm key.alg),
+      nesting-Int (pos key.exp),
+      nesting-Int (pos key.iat),
+      nesting-Text (encode_lower key.seeds),
+    ) (named_depth (nesting (state_tree key.state)) (state_depth key.state))
 
 greater : (a b : ℕ) → a ≤ 2 → b ≤ 2 → max a b ≤ 2
 greater a b first second = omega arith
 
-depths : (ring : Ring) → greatest (map nesting (map key_tree ring)) ≤ 2
-depths [] = lit≤ tt
-depths (key ∷ ring) = greater (nesting (key_tree key)) (greatest (map nesting (map key_tree ring))) (key_depth key) (depths ring)
+depths : (version : Version) (ring : Ring) → greatest (map nesting (map (key_tree version) ring)) ≤ 2
+depths version [] = lit≤ tt
+depths version (key ∷ ring) =
+    greater (nesting (key_tree version key)) (greatest (map nesting (map (key_tree version) ring))) (key_depth version key) (depths version ring)
 
 ring_depth : (n m : ℕ) → n ≤ 2 → m ≡ suc n → suc (max m (max 0 0)) ≤ 127
 ring_depth n m few is = omega arith
 
-pub tree_shallow : (ring : Ring) → nesting (ring_tree ring) ≤ 127
-unfolding ring_tree
-tree_shallow ring =
-    rw (nesting-Object (member_of (codes "keys") (ListOf (map key_tree ring)) ∷ number_member (codes "version") 1 ∷ []), nesting-Int (pos 1))
-    (ring_depth (greatest (map nesting (map key_tree ring))) (nesting (ListOf (map key_tree ring))) (depths ring) (nesting-List (map key_tree ring)))
+pub tree_shallow : (version : Version) (ring : Ring) → nesting (tree_of version ring) ≤ 127
+unfolding tree_of
+tree_shallow version ring =
+    rw (nesting-Object (ring_members version ring), nesting-Int (pos (number_of version)))
+    (ring_depth (greatest (map nesting (map (key_tree version) ring))) (nesting (ListOf (map (key_tree version) ring))) (depths version ring) (nesting-List (map (key_tree version) ring)))
 
 -- ---- a revocation, member by member
 

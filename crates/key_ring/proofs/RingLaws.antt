@@ -103,7 +103,7 @@ stays-at f key (x ∷ ring) zero fixed within is = (0, omega arith, ap f is ∙ 
 stays-at f key (x ∷ ring) (suc i) fixed within is = let at = stays-at f key ring i fixed (omega arith) is in (suc at.0, omega (arith, at.1), at.2)
 
 abbrev put_if : Bool → KeyState → RingKey → RingKey
-put_if b state key = record { seeds = key.seeds; iat = key.iat; exp = key.exp; state = cond b state key.state }
+put_if b state key = record { alg = key.alg; seeds = key.seeds; iat = key.iat; exp = key.exp; state = cond b state key.state }
 
 -- a revoked key stays as it was where the key that is put in another state isn't revoked
 revoked-stays : (kid : List ℕ) (state : KeyState) (key k : RingKey) (ring : Ring) → IsDistinct bytes_eq (map kid_of ring) → key_at kid ring ≡ Some k → is_revoked k ≡ false
@@ -142,24 +142,24 @@ state-changed ring kid state is timely lives = record {
 }
 
 pub step-ring : (ring : Ring) (change : Change) → IsRing ring → IsFit change → fault_of ring change ≡ None → IsRing (after ring change)
-step-ring ring (Add seeds at exp) is fit e =
+step-ring ring (Add alg seeds at exp) is fit e =
     let order = none-first (fault_where (nat_le exp at) (Order Exp)) _ e in
     let room = none-first (fault_where (nat_le most_keys (length ring)) (Order Full)) _ order.1 in
     let later : at < exp = leb-false exp at (none-where (nat_le exp at) _ order.0) in
     let small : length ring < most_keys = leb-false most_keys (length ring) (none-where (nat_le most_keys (length ring)) _ room.0) in
-    let unknown = name-unknown (kid_added seeds) ring (none-where (has_key (kid_added seeds) ring) _ room.1) in
+    let unknown = name-unknown (kid_added alg seeds) ring (none-where (has_key (kid_added alg seeds) ring) _ room.1) in
     record {
       form = record {
         keys = (record { size = fit.0; octets = fit.1; order = later; small = fit.2; state = tt }, is.form.keys);
         live = refl;
         few = omega (arith, small);
       };
-      distinct = IsDistinct-cons bytes_eq (kid_added seeds) (map kid_of ring) unknown is.distinct;
+      distinct = IsDistinct-cons bytes_eq (kid_added alg seeds) (map kid_of ring) unknown is.distinct;
     }
 step-ring ring (Put kid state) is fit e = state-changed ring kid state is fit (passes-at (key_at kid ring) kid state (map (with_state kid state) ring) e).lives
 
 step-revoked : (ring : Ring) (change : Change) → IsRing ring → fault_of ring change ≡ None → RevokedStay ring (after ring change)
-step-revoked ring (Add seeds at exp) is e key there revoked = Contains-append_right (fresh_key seeds at exp ∷ []) ring key there
+step-revoked ring (Add alg seeds at exp) is e key there revoked = Contains-append_right (fresh_key alg seeds at exp ∷ []) ring key there
 step-revoked ring (Put kid state) is e key there revoked =
     let passes = passes-at (key_at kid ring) kid state (map (with_state kid state) ring) e in
     revoked-stays kid state key passes.key ring is.distinct passes.is (follows-unrevoked state passes.key.state passes.follows) there revoked

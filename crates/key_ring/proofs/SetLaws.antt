@@ -12,6 +12,7 @@ use Rattle.sha2.proofs.Facts256.{length-sha256}
 use Rattle.base64url.specs.Base64url.{base64url}
 use Rattle.base64url.proofs.Canonical.{is_utf8-base64url, length-base64url}
 use Rattle.fed_base.specs.declared.algorithm.Alg.{Alg}
+use Rattle.fed_base.specs.declared.algorithm.Alg.TheVariants.{Small, Fast}
 use Rattle.fed_base.specs.declared.faults.Memory.{Memory}
 use Rattle.fed_json.specs.declared.tree.Json.{Json, List as ListOf, Object}
 use Rattle.fed_json.specs.declared.tree.Member.{Member}
@@ -23,7 +24,7 @@ use Rattle.jwk_set.proofs.WrittenKeys.{ascii, whole_text}
 use Rattle.jwk_set.specs.declared.jwk.Jwk.{Jwk}
 use Rattle.jwk_set.specs.declared.jwk.Jwk.TheVariants.{Own}
 use Rattle.jwk_set.specs.Keys.{is_key, key_type}
-use Rattle.jwk_set.specs.KeySets.{are_distinct, distinct_after, key_named, repeats_kid}
+use Rattle.jwk_set.specs.KeySets.{are_distinct, distinct_after, is_one_algorithm, key_named, repeats_kid}
 use Rattle.jwk_set.specs.Thumbprints.{thumbprint_of}
 use Rattle.slh_dsa.specs.Keys.{Keys}
 use Rattle.sealed.specs.Sealing.{signer_key, signer_name}
@@ -139,11 +140,15 @@ itself text = (bytes_eq-Decides text text).1 refl
 abbrev IsFound : Keys → List Jwk → Type 0
 IsFound keys set = key_named (signer_name keys) keys.alg set ≡ Some (signer_key keys)
 
+same_algorithm : (alg : Alg) → is_one_algorithm alg alg ≡ true
+same_algorithm Small = refl
+same_algorithm Fast = refl
+
 -- the first key is found under its name
 first_found : (key : RingKey) (rest : List Jwk) → IsFound (pair_in key) (own_key key ∷ rest)
 unfolding key_named
 first_found key rest =
-    ap (λ b. cond b (Some (public_of key)) (key_named (kid_of key) (pair_in key).alg rest)) (both_true (itself (kid_of key)) refl)
+    ap (λ b. cond b (Some (public_of key)) (key_named (kid_of key) (pair_in key).alg rest)) (both_true (itself (kid_of key)) (same_algorithm key.alg))
 
 named_case : (b : Bool) (key : RingKey) (found : Option RingKey) (live : Ring) (keys : Keys) → option_map pair_in (cond b (Some key) found) ≡ Some keys
     → (option_map pair_in found ≡ Some keys → IsFound keys (map own_key live)) → IsFound keys (map own_key (cond b (key ∷ live) live))

@@ -2,6 +2,7 @@
 use Rattle.std.specs.Prelude.{◌≡◌, ◌<◌, ℕ, List, [], ◌∷◌, map, length, not, nat_le, Bool, false, Option, Some, None, Result, Ok, Err, if◌then◌else◌}
 use Rattle.std.specs.Option.{option_or}
 use Rattle.hex.specs.Hex.{IsBytes}
+use Rattle.fed_base.specs.declared.algorithm.Alg.{Alg}
 use Rattle.fed_base.specs.Moments.{moment_limit}
 use Rattle.sealed.specs.Sealing.{signer_name}
 use Rattle.key_ring.specs.declared.key.KeyState.{KeyState}
@@ -13,14 +14,14 @@ use Rattle.key_ring.specs.declared.fault.RingFault.TheVariants.{Known, Unknown, 
 use Rattle.key_ring.specs.declared.key.RingKey.{RingKey}
 use Rattle.key_ring.specs.Rings.{IsTimelyState, Ring, has_key, has_live, is_named, key_at, live_state, most_keys, revoked_state, ring_pair}
 
--- a change of a ring: a new key of these seeds for these moments, or the key of that name in another state
+-- a change of a ring: a new key of that algorithm and these seeds for these moments, or the key of that name in another state
 pub data Change : Type 0 where
-  Add : List ℕ → ℕ → ℕ → Change
+  Add : Alg → List ℕ → ℕ → ℕ → Change
   Put : List ℕ → KeyState → Change
 
 -- the changes by their names
-abbrev pub add_key : List ℕ → ℕ → ℕ → Change
-add_key seeds at exp = Add seeds at exp
+abbrev pub add_key : Alg → List ℕ → ℕ → ℕ → Change
+add_key alg seeds at exp = Add alg seeds at exp
 
 abbrev pub put_key : List ℕ → KeyState → Change
 put_key kid state = Put kid state
@@ -32,20 +33,20 @@ abbrev pub revoke_key : List ℕ → ℕ → RevokeReason → Change
 revoke_key kid at reason = Put kid (Revoked at reason)
 
 -- a new key, which is live
-abbrev pub fresh_key : List ℕ → ℕ → ℕ → RingKey
-fresh_key seeds at exp = record { seeds = seeds; iat = at; exp = exp; state = Live }
+abbrev pub fresh_key : Alg → List ℕ → ℕ → ℕ → RingKey
+fresh_key alg seeds at exp = record { alg = alg; seeds = seeds; iat = at; exp = exp; state = Live }
 
 -- the name of the new key (RFC 7638)
-abbrev pub kid_added : List ℕ → List ℕ
-kid_added seeds = signer_name (ring_pair seeds)
+abbrev pub kid_added : Alg → List ℕ → List ℕ
+kid_added alg seeds = signer_name (ring_pair alg seeds)
 
 -- the key, in that state where it has that name
 abbrev pub with_state : List ℕ → KeyState → RingKey → RingKey
-with_state kid state key = record { seeds = key.seeds; iat = key.iat; exp = key.exp; state = (if is_named kid key then state else key.state) }
+with_state kid state key = record { alg = key.alg; seeds = key.seeds; iat = key.iat; exp = key.exp; state = (if is_named kid key then state else key.state) }
 
 -- the ring after a change: the new key first, or the key of that name in another state
 abbrev pub after : Ring → Change → Ring
-after ring (Add seeds at exp) = fresh_key seeds at exp ∷ ring
+after ring (Add alg seeds at exp) = fresh_key alg seeds at exp ∷ ring
 after ring (Put kid state) = map (with_state kid state) ring
 
 -- which state may follow which: a live key retires, and a key that isn't revoked is revoked
@@ -59,11 +60,11 @@ abbrev pub fault_where : Bool → RingFault → Option RingFault
 fault_where test fault = if test then Some fault else None
 
 -- a new key ends after it begins, finds room, and isn't in the ring yet
-abbrev pub fault_of_adding : Ring → List ℕ → ℕ → ℕ → Option RingFault
-fault_of_adding ring seeds at exp =
+abbrev pub fault_of_adding : Ring → Alg → List ℕ → ℕ → ℕ → Option RingFault
+fault_of_adding ring alg seeds at exp =
     option_or (fault_where (nat_le exp at) (Order Exp))
     (option_or (fault_where (nat_le most_keys (length ring)) (Order Full))
-    (fault_where (has_key (kid_added seeds) ring) (Known (kid_added seeds))))
+    (fault_where (has_key (kid_added alg seeds) ring) (Known (kid_added alg seeds))))
 
 -- the named key is in the ring, may be put in the state, and a live key remains
 abbrev pub fault_of_putting : Option RingKey → List ℕ → KeyState → Ring → Option RingFault
@@ -73,7 +74,7 @@ fault_of_putting (Some key) kid state changed =
 
 -- the first fault of a change, where it has one
 abbrev pub fault_of : Ring → Change → Option RingFault
-fault_of ring (Add seeds at exp) = fault_of_adding ring seeds at exp
+fault_of ring (Add alg seeds at exp) = fault_of_adding ring alg seeds at exp
 fault_of ring (Put kid state) = fault_of_putting (key_at kid ring) kid state (after ring (Put kid state))
 
 -- a change is made or meets a fault of the store only where it has no fault, and any other answer but want of memory is its first fault
@@ -90,5 +91,5 @@ AreChanges old (change ∷ changes) new = (fault_of old change ≡ None) × AreC
 
 -- the moments of a change are below 2^62, and a new key has 48 bytes of seeds
 abbrev pub IsFit : Change → Type 0
-IsFit (Add seeds at exp) = (length seeds ≡ 48) × IsBytes seeds × (exp < moment_limit)
+IsFit (Add alg seeds at exp) = (length seeds ≡ 48) × IsBytes seeds × (exp < moment_limit)
 IsFit (Put kid state) = IsTimelyState state

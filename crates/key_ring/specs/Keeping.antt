@@ -6,7 +6,7 @@ use Rattle.fed_ports.specs.Stores.{Files, Keeps}
 use Rattle.key_ring.specs.declared.fault.RingFault.{RingFault}
 use Rattle.key_ring.specs.declared.fault.RingFault.TheVariants.{StoreFault, Memory}
 use Rattle.key_ring.specs.Changes.{Answers, Change, after}
-use Rattle.key_ring.specs.Files.{ring_text}
+use Rattle.key_ring.specs.Files.{IsOldFile, IsWritten, Opens, ring_text}
 use Rattle.key_ring.specs.Rings.{Ring}
 
 -- a ring and a store at one moment: the store's files, where it tells them, and its count of faults
@@ -18,17 +18,19 @@ pub record Standing : Type 0 where
 abbrev pub standing : Ring → Option Files → ℕ → Standing
 standing ring files faults = record { ring = ring; files = files; faults = faults }
 
--- the changed ring stands, and its file
+-- the changed ring stands, and its file, of version 2, which opens as that ring
 pub record IsChanged (before : Standing) (changed : Ring) (name : List ℕ) (now : Standing) : Type 0 where
   pub ring : now.ring ≡ changed
   pub files : Keeps {E = Failed} before.files now.files name (ring_text changed) (Ok tt)
+  pub written : IsWritten (ring_text changed) changed
   pub faults : now.faults ≡ before.faults
 
--- the ring is as before, the file is the old one or that of the changed ring, and the store's count of faults rose
+-- the ring is as before, the file is the old one or that of the changed ring, which opens as that, and the store's count of faults rose
 pub record IsTorn (before : Standing) (changed : Ring) (name : List ℕ) (now : Standing) : Type 0 where
   pub ring : now.ring ≡ before.ring
   pub fault : Failed
   pub files : Keeps before.files now.files name (ring_text changed) (Err fault)
+  pub written : IsWritten (ring_text changed) changed
   pub faults : Rose before.faults now.faults
 
 -- the ring, all files and the count are as before
@@ -55,3 +57,10 @@ KeepsRing before changed name (Ok x) now = IsChanged before changed name now × 
 KeepsRing before changed name (Err StoreFault) now = IsTorn before changed name now × (before.faults ≤ now.faults)
 KeepsRing before changed name (Err Memory) now = IsUntouched before now
 KeepsRing before changed name (Err fault) now = ⊥
+
+-- the file that was kept of a changed ring opens as that ring, and isn't one of version 1
+pub record Migrates (before : Standing) (change : Change) (name : List ℕ) (now : Standing) : Type 0 where
+  pub text : List ℕ
+  pub files : Keeps {E = Failed} before.files now.files name text (Ok tt)
+  pub opens : Opens text (Ok (after before.ring change))
+  pub newer : (ring : Ring) → ¬ IsOldFile text ring

@@ -2,7 +2,7 @@
 use Rattle.std.specs.Prelude.{◌≡◌, ◌≤◌, ◌<◌, ℕ, List, map, find, length, bytes_eq, Bool, true, false, IsTrue, Option}
 use Rattle.std.specs.List.{AllByRecursion, IsDistinct, list_any}
 use Rattle.hex.specs.Hex.{IsBytes}
-use Rattle.fed_base.specs.declared.algorithm.Alg.TheVariants.{Small}
+use Rattle.fed_base.specs.declared.algorithm.Alg.{Alg}
 use Rattle.fed_base.specs.Moments.{moment_limit}
 use Rattle.slh_dsa.specs.Keys.{Keys, keys_of}
 use Rattle.sealed.specs.Sealing.{signer_key, signer_name}
@@ -18,13 +18,13 @@ Ring = List RingKey
 abbrev pub most_keys : ℕ
 most_keys = 16
 
--- the key pair of these seeds, in the algorithm of every key of a ring (FIPS 205 Algorithm 18)
-abbrev pub ring_pair : List ℕ → Keys
-ring_pair seeds = keys_of Small seeds
+-- the key pair of that algorithm and these seeds (FIPS 205 Algorithm 18)
+abbrev pub ring_pair : Alg → List ℕ → Keys
+ring_pair alg seeds = keys_of alg seeds
 
 -- the key pair of a key
 abbrev pub pair_in : RingKey → Keys
-pair_in key = ring_pair key.seeds
+pair_in key = ring_pair key.alg key.seeds
 
 -- the name of a key: the thumbprint of its public key (RFC 7638)
 abbrev pub kid_of : RingKey → List ℕ

@@ -3,16 +3,16 @@
 ghost use Rattle.std.specs.Prelude.{◌≡◌, ◌<◌, IfOk};
 ghost use Rattle.fed_base.specs.Moments.{moment_limit};
 ghost use Rattle.key_ring.specs.Changes.{add_key, kid_added, put_key, retire_key, revoke_key};
-ghost use Rattle.key_ring.specs.Files.{ring_text};
+ghost use Rattle.key_ring.specs.Files.{IsWritten, ring_text};
 ghost use Rattle.key_ring.specs.Keeping.{KeepsRing, Makes, standing};
-ghost use Rattle.key_ring.specs.Rings.{HasForm, IsRing, IsTimelyState, kid_of};
+ghost use Rattle.key_ring.specs.Rings.{IsRing, IsTimelyState, kid_of};
 
 use crate::fault::{OrderFault, RingFault};
 use crate::held::{HeldKey, behind, has_key, has_live, key_at, plain_keys, with_state};
 use crate::key::{KeyState, RevokeReason, RingKey, fresh_key, may_follow};
 use crate::ring::KeyRing;
 use crate::writing::ring_text;
-use fed_base::{Duplicate, Failed, Memory, Seq, Text};
+use fed_base::{Alg, Duplicate, Failed, Memory, Seq, Text};
 use fed_ports::Store;
 use std::alloc::Global;
 
@@ -20,21 +20,23 @@ use std::alloc::Global;
 const MOST_KEYS: usize = 16;
 
 impl KeyRing {
-    /// Puts a new live key first, and answers its name, 43 characters of base64url. It is refused in this order: `Order(Exp)` where it
-    /// would end no later than it begins, `Order(Full)` where the ring has 16 keys, `Known` where the key is in the ring.
+    /// Puts a new live key of that algorithm first, and answers its name, 43 characters of base64url. It is refused in this order:
+    /// `Order(Exp)` where it would end no later than it begins, `Order(Full)` where the ring has 16 keys, `Known` where the key is in the
+    /// ring.
     pub fn rotate<D: Store>(
         &mut self,
         alloc: Global,
         store: &mut D,
         name: &Text,
+        alg: Alg,
         seeds: &[u8; 48],
         at: u64,
         exp: u64,
     ) -> Result<Text, RingFault>
         requires { exp < moment_limit }
-        ensures made { Makes (standing self.old (D.files store.old) (D.store_faults store.old)) (add_key seeds.now at exp) name.now result
+        ensures made { Makes (standing self.old (D.files store.old) (D.store_faults store.old)) (add_key alg seeds.now at exp) name.now result
             (standing self.new (D.files store.new) (D.store_faults store.new)) }
-        ensures kid { IfOk result (λ kid. kid ≡ kid_added seeds.now) }
+        ensures kid { IfOk result (λ kid. kid ≡ kid_added alg seeds.now) }
     {
         if exp <= at {
             return Err(RingFault::Order(OrderFault::Exp));
@@ -42,7 +44,7 @@ impl KeyRing {
         if self.keys.len() >= MOST_KEYS {
             return Err(RingFault::Order(OrderFault::Full));
         }
-        let (held, kid) = held_and_kid(alloc, &fresh_key(*seeds, at, exp))?;
+        let (held, kid) = held_and_kid(alloc, &fresh_key(alg, *seeds, at, exp))?;
         if has_key(self.keys.as_slice(), kid.as_slice()) {
             // as one value, so that the proof doesn't follow each of its parts
             drop(held);
@@ -148,8 +150,9 @@ fn held_and_kid(alloc: Global, key: &RingKey) -> Result<(HeldKey, Text), Memory>
 
 // The text of the file of a ring of these keys.
 fn file_of(alloc: Global, keys: &[HeldKey]) -> Result<Text, Memory>
-    requires { HasForm keys.now }
-    ensures { IfOk result (λ text. text ≡ ring_text keys.now) }
+    requires { IsRing keys.now }
+    ensures text { IfOk result (λ text. text ≡ ring_text keys.now) }
+    ensures written { IfOk result (λ text. IsWritten text keys.now) }
 {
     let plain = plain_keys(alloc, keys)?;
     ring_text(alloc, plain.as_slice())

@@ -7,19 +7,25 @@ ghost use Rattle.key_ring.specs.Files.{IsFirstFile};
 use crate::fault::{OrderFault, RingFault};
 use crate::key::fresh_key;
 use crate::writing::ring_text;
-use fed_base::{Seq, Text};
+use fed_base::{Alg, Seq, Text};
 use std::alloc::Global;
 
-/// The text of a ring of one live key, compact JSON without a line end. `Order(Exp)` exactly where the key would end no later than it
-/// begins.
-pub fn first_file(alloc: Global, seeds: &[u8; 48], at: u64, exp: u64) -> Result<Text, RingFault>
+/// The text of a ring of one live key of that algorithm, compact JSON without a line end. `Order(Exp)` exactly where the key would end no
+/// later than it begins.
+pub fn first_file(
+    alloc: Global,
+    alg: Alg,
+    seeds: &[u8; 48],
+    at: u64,
+    exp: u64,
+) -> Result<Text, RingFault>
     requires { exp < moment_limit }
-    ensures { IsFirstFile seeds.now at exp result }
+    ensures { IsFirstFile alg seeds.now at exp result }
 {
     if exp <= at {
         return Err(RingFault::Order(OrderFault::Exp));
     }
     let mut keys = Seq::new(alloc);
-    keys.push(fresh_key(*seeds, at, exp))?;
+    keys.push(fresh_key(alg, *seeds, at, exp))?;
     Ok(ring_text(alloc, keys.as_slice())?)
 }

@@ -6,7 +6,7 @@ ghost use Rattle.key_ring.specs.Changes.{with_state};
 ghost use Rattle.key_ring.specs.Rings.{has_key, has_live, is_live, is_named, key_at, kid_of, pair_in, public_of};
 
 use crate::key::{KeyState, RingKey, is_live_state};
-use fed_base::{Alg, Duplicate, Memory, Seq, Text};
+use fed_base::{Duplicate, Memory, Seq, Text};
 use jwk_set::thumbprint;
 use slh_dsa::KeyPair;
 use std::alloc::Global;
@@ -33,12 +33,12 @@ impl Model for HeldKey {
 }
 
 impl HeldKey {
-    /// The key with its root, which takes a tenth of a second, and its name.
+    /// The key with its root, which takes a tenth of a second for a key of SLH-DSA-SHA2-128s, and its name.
     #[tactic(auto, unfolding(sealed::specs::Sealing::signer_name))]
     pub fn new(alloc: Global, key: &RingKey) -> Result<HeldKey, Memory>
         ensures { IfOk result (λ held. held ≡ key.now) }
     {
-        let pair = KeyPair::from_seeds(Alg::Small, &key.seeds);
+        let pair = KeyPair::from_seeds(key.alg, &key.seeds);
         let kid = thumbprint(alloc, pair.alg(), &pair.public())?;
         Ok(HeldKey {
             key: *key,
@@ -96,6 +96,7 @@ impl HeldKey {
         let named = self.is_named(kid);
         Ok(HeldKey {
             key: RingKey {
+                alg: self.key.alg,
                 seeds: self.key.seeds,
                 iat: self.key.iat,
                 exp: self.key.exp,

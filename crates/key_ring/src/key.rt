@@ -5,6 +5,8 @@ ghost use Rattle.fed_base.specs.Moments.{moment_limit};
 ghost use Rattle.key_ring.specs.Changes.{fresh_key, may_follow};
 ghost use Rattle.key_ring.specs.Rings.{IsRingKey, live_state, revoked_state};
 
+use fed_base::Alg;
+
 /// Why a key was revoked (OpenID Federation 1.0 section 8.7.3).
 #[derive(Clone, Copy, Debug, PartialEq, Eq, Drop)]
 pub enum RevokeReason {
@@ -67,6 +69,8 @@ pub enum KeyState {
 /// A key of a ring.
 #[derive(Clone, Copy, Drop)]
 pub struct RingKey {
+    /// The algorithm of its signatures.
+    pub alg: Alg,
     /// SK.seed, SK.prf and PK.seed, 16 bytes each (FIPS 205 section 9.1).
     pub seeds: [u8; 48],
     /// When it was made, in seconds since 1970.
@@ -77,13 +81,14 @@ pub struct RingKey {
 }
 
 /// A new key, which is live.
-pub(crate) fn fresh_key(seeds: [u8; 48], at: u64, exp: u64) -> RingKey
+pub(crate) fn fresh_key(alg: Alg, seeds: [u8; 48], at: u64, exp: u64) -> RingKey
     requires order { at < exp }
     requires small { exp < moment_limit }
-    ensures is { result ≡ fresh_key seeds at exp }
+    ensures is { result ≡ fresh_key alg seeds at exp }
     ensures formed { IsRingKey result }
 {
     RingKey {
+        alg,
         seeds,
         iat: at,
         exp,

@@ -2,8 +2,9 @@
 
 ghost use Rattle.std.specs.Prelude.{◌≡◌, List, ℕ};
 ghost use Rattle.std.specs.List.{AllByRecursion};
-ghost use Rattle.key_ring.specs.Changes.{AreChanges, Change, IsFit};
-ghost use Rattle.key_ring.specs.Files.{IsRingFile};
+ghost use Rattle.key_ring.specs.Changes.{AreChanges, Change, IsFit, after};
+ghost use Rattle.key_ring.specs.Files.{IsOldFile, IsRingFile};
+ghost use Rattle.key_ring.specs.Keeping.{IsChanged, Migrates, Standing};
 ghost use Rattle.key_ring.specs.Lasting.{RevokedStay};
 ghost use Rattle.key_ring.specs.Rings.{IsRing, Ring};
 
@@ -17,6 +18,13 @@ pub fn changes()
 
 /// What holds of every ring's file.
 pub fn files()
-    // It is that of one ring, so opening it has one answer.
+    // It is that of one ring, in either version, so opening it has one answer.
     ensures { (bytes : List ℕ) (a b : Ring) → IsRingFile bytes a → IsRingFile bytes b → a ≡ b }
+{}
+
+/// What holds where a change was accepted of a ring whose file is of version 1.
+pub fn migrates()
+    // The file that is kept opens as the changed ring, and is of version 2.
+    ensures { (bytes : List ℕ) (before now : Standing) (change : Change) (name : List ℕ) → IsOldFile bytes before.ring
+        → IsChanged before (after before.ring change) name now → Migrates before change name now }
 {}

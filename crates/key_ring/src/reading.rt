@@ -1,19 +1,21 @@
 // Rings from the trees of their files.
 
-ghost use Rattle.std.specs.Prelude.{◌≡◌, ◌≢◌, ◌<◌, ◌≤◌, ◌↔◌, IfOk, IfSome, IsTrue, MatchOption, Some, length};
+ghost use Rattle.std.specs.Prelude.{◌≡◌, ◌<◌, ◌≤◌, ◌↔◌, IfOk, IfSome, IsTrue, MatchOption, Some, length};
 ghost use Rattle.std.specs.List.{AllByRecursion};
 ghost use Rattle.std.specs.Option.{option_copied};
 ghost use Rattle.fed_base.specs.Moments.{moment_limit};
 ghost use Rattle.fed_json.specs.Trees.{each};
-ghost use Rattle.key_ring.specs.Files.{IsRingFile, ring_tree};
-ghost use Rattle.key_ring.specs.Readings.{if_ordered, key_in, key_of, keys_in, listed_in, moment_at, revocation_in, seeds_at, state_at, state_in, state_word};
-ghost use Rattle.key_ring.specs.Rings.{HasForm, IsRingKey, IsTimelyState, Ring, has_live, most_keys};
+ghost use Rattle.key_ring.specs.Files.{IsKeyIn, IsRingFile, IsRingTree, IsToldIn};
+ghost use Rattle.key_ring.specs.Readings.{alg_at, if_ordered, key_in, key_of, keys_in, listed_in, moment_at, revocation_in, seeds_at, state_at, state_in, state_word, version_in};
+ghost use Rattle.key_ring.specs.Rings.{IsRingKey, IsTimelyState, Ring, has_live, most_keys};
 
 use crate::key::{KeyState, RevokeReason, RingKey, is_live_state};
-use crate::writing::ring_tree;
-use fed_base::{MOMENT_LIMIT, Memory, Seq};
+use crate::version::Version;
+use crate::writing::tree_of;
+use fed_base::{Alg, MOMENT_LIMIT, Memory, Seq};
 use fed_json::{Json, Member, TreeFault, count_below, find, json_equal, read_tree, text_at};
 use hex::FromHex;
+use jws_form::algorithm_of;
 use std::alloc::Global;
 
 // How many keys a ring has at most.
@@ -30,30 +32,58 @@ pub(crate) fn read_keys(alloc: Global, file: &[u8]) -> Result<Option<Seq<RingKey
     }
 }
 
-// The keys of a ring's tree, or `None` where it is no such tree: the ring of the keys that are found in it is written again and compared.
+// The keys of a ring's tree, or `None` where it is no such tree: the ring of the keys that are found in it is written again in the
+// version that the tree says, and compared.
 fn keys_of(alloc: Global, tree: &Json) -> Result<Option<Seq<RingKey>>, Memory>
     ensures { IfOk result (λ read. MatchOption read
-        ((ring : Ring) → HasForm ring → tree.now ≢ ring_tree ring)
-        (λ ring. HasForm ring × (tree.now ≡ ring_tree ring))) }
+        ((ring : Ring) → ¬ IsRingTree tree.now ring)
+        (IsRingTree tree.now)) }
 {
-    match keys_in(alloc, tree)? {
-        Some(keys) => compared(alloc, tree, keys),
+    let Some(version) = version_in(tree) else {
+        return Ok(None);
+    };
+    match keys_in(alloc, version, tree)? {
+        Some(keys) => compared(alloc, version, tree, keys),
         None => Ok(None),
     }
 }
 
+/// The version that an object says, or `None`.
+#[tactic(auto, unfolding(crate::specs::Readings::version_in))]
+pub fn version_in(tree: &Json) -> Option<Version>
+    ensures { result ≡ version_in tree.now }
+{
+    let Json::Object(members) = tree else {
+        return None;
+    };
+    match find(members.as_slice(), b"version") {
+        Some(number) => match count_below(number, 3) {
+            Some(1) => Some(Version::First),
+            Some(2) => Some(Version::Second),
+            _ => None,
+        },
+        None => None,
+    }
+}
+
 // The keys that were found in the tree, where the ring of them has that tree.
-fn compared(alloc: Global, tree: &Json, keys: Seq<RingKey>) -> Result<Option<Seq<RingKey>>, Memory>
-    requires found { keys_in tree.now ≡ Some keys }
-    requires formed { AllByRecursion IsRingKey keys }
+fn compared(
+    alloc: Global,
+    version: Version,
+    tree: &Json,
+    keys: Seq<RingKey>,
+) -> Result<Option<Seq<RingKey>>, Memory>
+    requires version { version_in tree.now ≡ Some version }
+    requires found { keys_in version tree.now ≡ Some keys }
+    requires formed { AllByRecursion (IsKeyIn version) keys }
     ensures { IfOk result (λ read. MatchOption read
-        ((ring : Ring) → HasForm ring → tree.now ≢ ring_tree ring)
-        (λ ring. HasForm ring × (tree.now ≡ ring_tree ring))) }
+        ((ring : Ring) → ¬ IsRingTree tree.now ring)
+        (IsRingTree tree.now)) }
 {
     if !is_ring_size(keys.as_slice()) {
         return Ok(None);
     }
-    let written = ring_tree(alloc, keys.as_slice())?;
+    let written = tree_of(alloc, version, keys.as_slice())?;
     if json_equal(tree, &written) {
         Ok(Some(keys))
     } else {
@@ -77,12 +107,12 @@ fn has_live(keys: &[RingKey]) -> bool
 
 // The keys that the tree has, whatever else stands in it.
 #[tactic(auto, unfolding(crate::specs::Readings::keys_in))]
-fn keys_in(alloc: Global, tree: &Json) -> Result<Option<Seq<RingKey>>, Memory>
-    ensures keys { IfOk result (λ keys. keys ≡ keys_in tree.now) }
-    ensures formed { IfOk result (λ keys. IfSome keys (AllByRecursion IsRingKey)) }
+fn keys_in(alloc: Global, version: Version, tree: &Json) -> Result<Option<Seq<RingKey>>, Memory>
+    ensures keys { IfOk result (λ keys. keys ≡ keys_in version tree.now) }
+    ensures formed { IfOk result (λ keys. IfSome keys (AllByRecursion (IsKeyIn version))) }
 {
     match listed_in(tree) {
-        Some(items) => each_key(alloc, items),
+        Some(items) => each_key(alloc, version, items),
         None => Ok(None),
     }
 }
@@ -102,13 +132,13 @@ fn listed_in(tree: &Json) -> Option<&[Json]>
 }
 
 // The keys that the items are, and `None` where one is none.
-fn each_key(alloc: Global, items: &[Json]) -> Result<Option<Seq<RingKey>>, Memory>
-    ensures keys { IfOk result (λ keys. keys ≡ each key_in items.now) }
-    ensures formed { IfOk result (λ keys. IfSome keys (AllByRecursion IsRingKey)) }
+fn each_key(alloc: Global, version: Version, items: &[Json]) -> Result<Option<Seq<RingKey>>, Memory>
+    ensures keys { IfOk result (λ keys. keys ≡ each (key_in version) items.now) }
+    ensures formed { IfOk result (λ keys. IfSome keys (AllByRecursion (IsKeyIn version))) }
 {
     let mut keys = Seq::new(alloc);
     for item in items {
-        match key_in(item) {
+        match key_in(version, item) {
             Some(key) => keys.push(key)?,
             None => return Ok(None),
         }
@@ -118,21 +148,24 @@ fn each_key(alloc: Global, items: &[Json]) -> Result<Option<Seq<RingKey>>, Memor
 
 // The key that an item is, whatever else stands in it.
 #[tactic(auto, unfolding(crate::specs::Readings::key_in))]
-fn key_in(tree: &Json) -> Option<RingKey>
-    ensures key { result ≡ key_in tree.now }
-    ensures formed { IfSome result IsRingKey }
+fn key_in(version: Version, tree: &Json) -> Option<RingKey>
+    ensures key { result ≡ key_in version tree.now }
+    ensures formed { IfSome result (IsKeyIn version) }
 {
     match tree {
-        Json::Object(members) => key_of(members.as_slice()),
+        Json::Object(members) => key_of(version, members.as_slice()),
         _ => None,
     }
 }
 
 #[tactic(auto, unfolding(crate::specs::Readings::key_of))]
-fn key_of(members: &[Member]) -> Option<RingKey>
-    ensures key { result ≡ key_of members.now }
-    ensures formed { IfSome result IsRingKey }
+fn key_of(version: Version, members: &[Member]) -> Option<RingKey>
+    ensures key { result ≡ key_of version members.now }
+    ensures formed { IfSome result (IsKeyIn version) }
 {
+    let Some(alg) = alg_at(version, members) else {
+        return None;
+    };
     let (Some(seeds), Some(state)) = (seeds_at(members), state_at(members)) else {
         return None;
     };
@@ -140,6 +173,7 @@ fn key_of(members: &[Member]) -> Option<RingKey>
         return None;
     };
     if_ordered(RingKey {
+        alg,
         seeds,
         iat,
         exp,
@@ -153,8 +187,23 @@ fn if_ordered(key: RingKey) -> Option<RingKey>
     requires state { IsTimelyState key.state }
     ensures key { result ≡ if_ordered key }
     ensures formed { IfSome result IsRingKey }
+    ensures same { IfSome result (λ found. found.alg ≡ key.alg) }
 {
     if key.iat < key.exp { Some(key) } else { None }
+}
+
+/// The algorithm of a key's members in a file of that version: in version 1 none is named, and it is that of the first parameter set.
+#[tactic(auto, unfolding(crate::specs::Readings::alg_at))]
+pub fn alg_at(version: Version, members: &[Member]) -> Option<Alg>
+    ensures alg { result ≡ alg_at version members.now }
+    ensures told { IfSome result (IsToldIn version) }
+{
+    match version {
+        Version::First => Some(Alg::Small),
+        Version::Second => {
+            text_at(members, b"alg").and_then(|name| algorithm_of(name.as_slice()))
+        }
+    }
 }
 
 fn seeds_at(members: &[Member]) -> Option<[u8; 48]>

@@ -6,67 +6,90 @@ ghost use Rattle.fed_json.specs.declared.tree.Json.{Object};
 ghost use Rattle.fed_json.specs.Forms.{IsWhole, nesting};
 ghost use Rattle.fed_json.specs.Members.{number_member, text_member};
 ghost use Rattle.fed_json.specs.Reading.{member_of};
-ghost use Rattle.key_ring.specs.Files.{IsRingFile, key_tree, revocation_tree, ring_text, ring_tree, state_tree};
-ghost use Rattle.key_ring.specs.Rings.{HasForm};
+ghost use Rattle.key_ring.specs.Files.{IsWritten, alg_members, key_tree, revocation_tree, ring_text, state_tree, tree_of};
+ghost use Rattle.key_ring.specs.Rings.{HasForm, IsRing};
 
 use crate::key::{KeyState, RevokeReason, RingKey};
-use fed_base::{Memory, Seq, Text};
+use crate::version::Version;
+use fed_base::{Alg, Memory, Seq, Text};
 use fed_json::{Json, Member, text_member, write_tree};
+use jws_form::algorithm_name;
 use std::alloc::Global;
 
-/// The text of the file of a ring of these keys. It reads back as the ring.
+/// The text of the file of a ring of these keys, of version 2. It opens as the ring.
 pub(crate) fn ring_text(alloc: Global, keys: &[RingKey]) -> Result<Text, Memory>
-    requires { HasForm keys.now }
+    requires { IsRing keys.now }
     ensures text { IfOk result (λ text. text ≡ ring_text keys.now) }
-    ensures reads_back { IfOk result (λ text. IsRingFile text keys.now) }
+    ensures written { IfOk result (λ text. IsWritten text keys.now) }
 {
-    let tree = ring_tree(alloc, keys)?;
+    let tree = tree_of(alloc, Version::Second, keys)?;
     let text = write_tree(alloc, &tree)?;
     Ok(text)
 }
 
-/// The tree of a ring of these keys.
-#[tactic(auto, unfolding(crate::specs::Files::ring_tree))]
-pub(crate) fn ring_tree(alloc: Global, keys: &[RingKey]) -> Result<Json, Memory>
+/// The tree of a ring of these keys in that version.
+#[tactic(auto, unfolding(crate::specs::Files::tree_of))]
+pub(crate) fn tree_of(alloc: Global, version: Version, keys: &[RingKey]) -> Result<Json, Memory>
     requires { HasForm keys.now }
-    ensures tree { IfOk result (λ tree. tree ≡ ring_tree keys.now) }
+    ensures tree { IfOk result (λ tree. tree ≡ tree_of version keys.now) }
     ensures whole { IfOk result IsWhole }
     ensures shallow { IfOk result (λ tree. nesting tree ≤ 127) }
 {
-    let keys = key_trees(alloc, keys)?;
+    let keys = key_trees(alloc, version, keys)?;
     let mut members = Seq::new(alloc);
     add_tree(alloc, &mut members, b"keys", Json::List(keys))?;
-    add_number(alloc, &mut members, b"version", 1)?;
+    add_number(alloc, &mut members, b"version", version.number())?;
     Ok(Json::Object(members))
 }
 
 // The trees of the keys.
-fn key_trees(alloc: Global, keys: &[RingKey]) -> Result<Seq<Json>, Memory>
-    ensures { IfOk result (λ trees. trees ≡ map key_tree keys.now) }
+fn key_trees(alloc: Global, version: Version, keys: &[RingKey]) -> Result<Seq<Json>, Memory>
+    ensures { IfOk result (λ trees. trees ≡ map (key_tree version) keys.now) }
 {
     let mut trees = Seq::new(alloc);
     for key in keys {
-        trees.push(key_tree(alloc, key)?)?;
+        trees.push(key_tree(alloc, version, key)?)?;
     }
     Ok(trees)
 }
 
-fn key_tree(alloc: Global, key: &RingKey) -> Result<Json, Memory>
-    ensures { IfOk result (λ tree. tree ≡ key_tree key.now) }
+fn key_tree(alloc: Global, version: Version, key: &RingKey) -> Result<Json, Memory>
+    ensures { IfOk result (λ tree. tree ≡ key_tree version key.now) }
 {
     let mut members = Seq::new(alloc);
-    add_key(alloc, &mut members, key)?;
+    add_key(alloc, &mut members, version, key)?;
     Ok(Json::Object(members))
 }
 
 // Fills the object of a key.
-fn add_key(alloc: Global, members: &mut Seq<Member>, key: &RingKey) -> Result<(), Memory>
-    ensures { members.old ≡ [] → OnOk result (Object members.new ≡ key_tree key.now) }
+fn add_key(
+    alloc: Global,
+    members: &mut Seq<Member>,
+    version: Version,
+    key: &RingKey,
+) -> Result<(), Memory>
+    ensures { members.old ≡ [] → OnOk result (Object members.new ≡ key_tree version key.now) }
 {
+    add_alg(alloc, members, version, key.alg)?;
     add_number(alloc, members, b"exp", key.exp)?;
     add_number(alloc, members, b"iat", key.iat)?;
     add_seeds(alloc, members, &key.seeds)?;
     add_tree(alloc, members, b"state", state_tree(alloc, key.state)?)
+}
+
+// The name of the algorithm, which version 2 has.
+fn add_alg(
+    alloc: Global,
+    members: &mut Seq<Member>,
+    version: Version,
+    alg: Alg,
+) -> Result<(), Memory>
+    ensures { OnOk result (members.new ≡ members.old ++ alg_members version alg) }
+{
+    match version {
+        Version::First => Ok(()),
+        Version::Second => add_text(alloc, members, b"alg", algorithm_name(alg)),
+    }
 }
 
 fn add_seeds(alloc: Global, members: &mut Seq<Member>, seeds: &[u8; 48]) -> Result<(), Memory>

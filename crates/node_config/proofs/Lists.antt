@@ -6,9 +6,9 @@ use Rattle.entity_statement.specs.Claims.{Identifier}
 use Rattle.entity_statement.specs.Forms.{all_differ}
 use Rattle.node_config.specs.declared.entities.AnchorPart.{AnchorPart}
 use Rattle.node_config.specs.declared.subordinates.SubordinateConfig.{SubordinateConfig}
-use Rattle.node_config.specs.Nodes.{entity_id, subordinate_id}
+use Rattle.node_config.specs.Nodes.{anchor_id, subordinate_id}
 use Rattle.node_config.specs.Subordinates.{are_anchors, are_subordinates, is_anchor_count}
-use Rattle.node_config.specs.Told.{told_entity, told_subordinate}
+use Rattle.node_config.specs.Told.{told_anchor, told_subordinate}
 
 lengths : {A B : Type 0} (f : A → B) (xs : List A) → length (map f xs) ≡ length xs
 lengths f [] = refl
@@ -22,8 +22,8 @@ tested : {A B : Type 0} (test : B → Bool) (f : A → B) (xs : List A) → list
 tested test f [] = refl
 tested test f (x ∷ xs) = ap (λ b. test (f x) || b) (tested test f xs)
 
-pub anchors_are : (list : List AnchorPart) → are_anchors (map told_entity list) ≡ (is_anchor_count (length list) && all_differ (map (λ (a : AnchorPart). a.anchor) list))
-anchors_are list = ap₂ (λ n ids. is_anchor_count n && all_differ ids) (lengths told_entity list) (twice entity_id told_entity list)
+pub anchors_are : (list : List AnchorPart) → are_anchors (map told_anchor list) ≡ (is_anchor_count (length list) && all_differ (map (λ (a : AnchorPart). a.anchor) list))
+anchors_are list = ap₂ (λ n ids. is_anchor_count n && all_differ ids) (lengths told_anchor list) (twice anchor_id told_anchor list)
 
 pub subordinates_are : (id : Identifier) (list : List SubordinateConfig) → are_subordinates id (map told_subordinate list)
     ≡ ((nat_le (length list) 10000 && not (list_any (λ (s : SubordinateConfig). bytes_eq id s.id) list)) && all_differ (map (λ (s : SubordinateConfig). s.id) list))

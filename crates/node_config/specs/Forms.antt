@@ -38,6 +38,10 @@ if_least least n = if nat_le least n then Some n else None
 abbrev pub number_within : ℕ → ℕ → Json → Option ℕ
 number_within least most tree = count_below (most + 1) tree >>= if_least least
 
+-- a whole number from 1 on that may be absent, and is then the most that it may be
+abbrev pub number_up_to : ℕ → Name → List Member → Option ℕ
+number_up_to most name members = option_map (λ n. unwrap_or n most) (possible name (number_within 1 most) members)
+
 -- ---- claims that are stated as they are configured (OpenID Federation 1.0 sections 3.1.1 to 3.1.3)
 
 -- the claim's name

@@ -12,6 +12,17 @@ pub record Entity : Type 0 where
   pub id : Identifier
   pub keys : List Jwk
 
+-- how far one search for a chain goes: so many statements of superiors, pages that are asked for, and partial paths
+pub record Bounds : Type 0 where
+  pub depth : ℕ
+  pub calls : ℕ
+  pub paths : ℕ
+
+-- a trust anchor, and how far searches up to it go
+pub record Anchor : Type 0 where
+  pub entity : Entity
+  pub bounds : Bounds
+
 -- an entity of which the node is a superior, with what is claimed of it and what lists of subordinates are filtered by
 pub record Subordinate : Type 0 where
   pub entity : Entity
@@ -20,7 +31,7 @@ pub record Subordinate : Type 0 where
 
 -- what a node needs to resolve, an age in seconds
 pub record Resolver : Type 0 where
-  pub anchors : List Entity
+  pub anchors : List Anchor
   pub age : ℕ
   pub workers : ℕ
   pub control : List Jwk
@@ -42,9 +53,13 @@ pub record Settings : Type 0 where
   pub revoked : List (List ℕ)
   pub resolver : Option Resolver
 
--- the identifier of an entity, and of a subordinate
-abbrev pub entity_id : Entity → Identifier
-entity_id entity = entity.id
+-- the entity that a trust anchor is
+abbrev pub entity_of : Anchor → Entity
+entity_of anchor = anchor.entity
+
+-- the identifier of an anchor, and of a subordinate
+abbrev pub anchor_id : Anchor → Identifier
+anchor_id anchor = anchor.entity.id
 
 abbrev pub subordinate_id : Subordinate → Identifier
 subordinate_id s = s.entity.id

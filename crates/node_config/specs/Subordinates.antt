@@ -14,8 +14,8 @@ use Rattle.entity_statement.specs.Forms.{all_differ, identifier}
 use Rattle.node_config.specs.declared.claims.Claim.TheVariants.{Metadata, MetadataPolicy, MetadataPolicyCrit, Constraints}
 use Rattle.node_config.specs.declared.subordinates.ClaimsAbout.{ClaimsAbout}
 use Rattle.node_config.specs.declared.subordinates.Listing.{Listing}
-use Rattle.node_config.specs.Forms.{claim_in, needed, possible, possible_list}
-use Rattle.node_config.specs.Nodes.{Entity, Subordinate, entity_id, subordinate_id}
+use Rattle.node_config.specs.Forms.{claim_in, needed, number_up_to, possible, possible_list}
+use Rattle.node_config.specs.Nodes.{Anchor, Bounds, Entity, Subordinate, anchor_id, subordinate_id}
 
 -- ---- an entity with its keys
 
@@ -32,20 +32,34 @@ entity_in members = do
 
 -- ---- anchors
 
-unfoldable pub anchor_of : Json → Option Entity
-anchor_of tree = as_object tree >>= entity_in
+-- how far searches go: at most 12 statements of superiors, 160 pages and 4,096 partial paths, and so far where a member is absent
+unfoldable pub bounds_in : List Member → Option Bounds
+bounds_in members = do
+  depth ← number_up_to 12 (codes "depth") members
+  calls ← number_up_to 160 (codes "calls") members
+  paths ← number_up_to 4096 (codes "paths") members
+  Some (record { depth = depth; calls = calls; paths = paths })
+
+unfoldable pub anchor_in : List Member → Option Anchor
+anchor_in members = do
+  bounds ← bounds_in members
+  entity ← entity_in members
+  Some (record { entity = entity; bounds = bounds })
+
+unfoldable pub anchor_of : Json → Option Anchor
+anchor_of tree = as_object tree >>= anchor_in
 
 -- 1 to 64 anchors, all different
 abbrev pub is_anchor_count : ℕ → Bool
 is_anchor_count n = nat_lt 0 n && nat_le n 64
 
-abbrev pub are_anchors : List Entity → Bool
-are_anchors anchors = is_anchor_count (length anchors) && all_differ (map entity_id anchors)
+abbrev pub are_anchors : List Anchor → Bool
+are_anchors anchors = is_anchor_count (length anchors) && all_differ (map anchor_id anchors)
 
-abbrev pub if_anchors : List Entity → Option (List Entity)
+abbrev pub if_anchors : List Anchor → Option (List Anchor)
 if_anchors anchors = if are_anchors anchors then Some anchors else None
 
-unfoldable pub anchors_of : Json → Option (List Entity)
+unfoldable pub anchors_of : Json → Option (List Anchor)
 anchors_of tree = as_list tree >>= each anchor_of >>= if_anchors
 
 -- ---- subordinates

@@ -4,7 +4,7 @@ ghost use Rattle.std.specs.Prelude.{◌≡◌, ◌+◌, ◌≤◌, ◌^◌, IfOk
 ghost use Rattle.fed_json.specs.Forms.{IsWellFormed, members_well_formed};
 ghost use Rattle.fed_json.specs.Trees.{as_text, find as value_at, texts_of};
 ghost use Rattle.node_config.specs.Answers.{GivesMember, Reads, ReadsBy};
-ghost use Rattle.node_config.specs.Forms.{needed, number_within, possible_list};
+ghost use Rattle.node_config.specs.Forms.{needed, number_up_to, number_within, possible_list};
 
 use crate::fault::{ConfigFault, FormFault};
 use fed_base::{Duplicate, Seq, Text};
@@ -42,7 +42,25 @@ pub(crate) fn number(
     requires { most + 1 ≤ 2 ^ 63 }
     ensures { Reads result (needed name.now (number_within least most) members.now) }
 {
-    match count_below(needed(members, name)?, most + 1) {
+    within(needed(members, name)?, least, most)
+}
+
+/// The whole number of a member that may be absent: 1 to `most`, and `most` where it is absent.
+pub(crate) fn number_up_to(members: &[Member], name: &[u8], most: u64) -> Result<u64, FormFault>
+    requires { most + 1 ≤ 2 ^ 63 }
+    ensures { Reads result (number_up_to most name.now members.now) }
+{
+    match find(members, name) {
+        Some(tree) => within(tree, 1, most),
+        None => Ok(most),
+    }
+}
+
+fn within(tree: &Json, least: u64, most: u64) -> Result<u64, FormFault>
+    requires { most + 1 ≤ 2 ^ 63 }
+    ensures { Reads result (number_within least most tree.now) }
+{
+    match count_below(tree, most + 1) {
         Some(n) if least <= n => Ok(n),
         _ => Err(FormFault::Shape),
     }

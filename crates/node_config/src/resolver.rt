@@ -7,7 +7,7 @@ ghost use Rattle.node_config.specs.Answers.{Reads, ReadsBy};
 ghost use Rattle.node_config.specs.Forms.{needed as member_in, number_within};
 ghost use Rattle.node_config.specs.Resolvers.{resolver_in, resolver_of, route_in, route_of, routes_of};
 ghost use Rattle.node_config.specs.Subordinates.{anchors_of};
-ghost use Rattle.node_config.specs.Told.{told_entity, told_resolver};
+ghost use Rattle.node_config.specs.Told.{told_anchor, told_resolver};
 
 use crate::addresses::read_ip;
 use crate::entities::{AnchorPart, keys_at, read_anchors};
@@ -83,7 +83,7 @@ fn resolver_in(alloc: Global, members: &[Member]) -> Result<ResolverConfig, Form
 
 fn anchors_at(alloc: Global, members: &[Member]) -> Result<Seq<AnchorPart>, FormFault>
     requires { IsTrue (members_well_formed members.now) }
-    ensures { ReadsBy (map told_entity) result (member_in (codes "anchors") anchors_of members.now) }
+    ensures { ReadsBy (map told_anchor) result (member_in (codes "anchors") anchors_of members.now) }
 {
     read_anchors(alloc, needed(members, b"anchors")?)
 }

@@ -156,7 +156,7 @@ fn subordinate_in(alloc: Global, members: &[Member]) -> Result<SubordinateConfig
     };
     match listing_in(alloc, members) {
         Ok(listing) => Ok(SubordinateConfig {
-            id: entity.anchor,
+            id: entity.id,
             jwks: entity.keys,
             claims,
             listing,

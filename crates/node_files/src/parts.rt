@@ -2,13 +2,14 @@
 
 ghost use Rattle.std.specs.Prelude.{◌≡◌, IfOk, map};
 ghost use Rattle.node_files.specs.NodeFiles.{IsResolver};
-ghost use Rattle.node_files.specs.ResolvingParts.{ArePartsOf, anchor_keys};
+ghost use Rattle.node_files.specs.ResolvingParts.{ArePartsOf, anchor_keys, part_bounds};
 
 use authority_core::{AnchorPart, Registry};
+use chain_climb::Bounds;
 use fed_base::{Duplicate, Memory, Seq};
 use http_plain::Route;
 use jwk_set::JwkSet;
-use resolve_reply::Signer;
+use resolve_reply::{AnchorBounds, Signer};
 use statement_shelf::AnchorKeys;
 use std::alloc::Global;
 
@@ -36,6 +37,7 @@ pub fn parts_of(alloc: Global, registry: &Registry) -> Result<Parts, Memory>
         unreachable!()
     };
     let iss = registry.id().copy(alloc)?;
+    let bounds = all_bounds(alloc, part.anchors.as_slice())?;
     let anchors = book_of(alloc, part.anchors.as_slice())?;
     let routes = part.routes.copy(alloc)?;
     let control = part.control.copy(alloc)?;
@@ -43,6 +45,8 @@ pub fn parts_of(alloc: Global, registry: &Registry) -> Result<Parts, Memory>
         iss,
         keys: registry.signer().twin(),
         age: part.age,
+        bounds,
+        workers: part.workers,
     };
     Ok(Parts {
         signer,
@@ -62,6 +66,31 @@ fn book_of(alloc: Global, parts: &[AnchorPart]) -> Result<Seq<AnchorKeys>, Memor
         anchors.push(anchor_keys(alloc, part)?)?;
     }
     Ok(anchors)
+}
+
+// How far searches up to each anchor go, as the signer has it.
+fn all_bounds(alloc: Global, parts: &[AnchorPart]) -> Result<Seq<AnchorBounds>, Memory>
+    ensures { IfOk result (λ bounds. bounds ≡ map part_bounds parts.now) }
+{
+    let mut bounds = Seq::new(alloc);
+    for part in parts {
+        bounds.push(part_bounds(alloc, part)?)?;
+    }
+    Ok(bounds)
+}
+
+fn part_bounds(alloc: Global, part: &AnchorPart) -> Result<AnchorBounds, Memory>
+    ensures { IfOk result (λ bounds. bounds ≡ part_bounds part.now) }
+{
+    let anchor = part.anchor.copy(alloc)?;
+    Ok(AnchorBounds {
+        anchor,
+        bounds: Bounds {
+            depth: part.depth,
+            calls: part.calls,
+            paths: part.paths,
+        },
+    })
 }
 
 fn anchor_keys(alloc: Global, part: &AnchorPart) -> Result<AnchorKeys, Memory>

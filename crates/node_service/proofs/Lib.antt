@@ -1,2 +1,3 @@
 mod ConnectionLaws
 mod EndLaws
+mod StreamLaws

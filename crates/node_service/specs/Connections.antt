@@ -19,20 +19,20 @@ use Rattle.fed_serve.specs.declared.served.Served.{Served}
 use Rattle.fed_serve.specs.declared.serving.ServeFault.{ServeFault}
 
 -- one connection: the peer as it was accepted and as it was settled, the clock and what else a connection is served with before and after,
--- and what was answered
-pub record Connection (P : Type 0) : Type 0 where
+-- and what serving it told
+pub record Connection (P A : Type 0) : Type 0 where
   pub came : P
   pub gone : P
   pub clock : ClockAt
   pub clock' : ClockAt
   pub call : CallAt
   pub call' : CallAt
-  pub result : Result Served ServeFault
+  pub result : A
 
-abbrev pub came_of : {P : Type 0} → Connection P → P
+abbrev pub came_of : {P A : Type 0} → Connection P A → P
 came_of c = c.came
 
-abbrev pub gone_of : {P : Type 0} → Connection P → P
+abbrev pub gone_of : {P A : Type 0} → Connection P A → P
 gone_of c = c.gone
 
 -- a service at one moment: the port that it listens on, the callers to come and those that were settled, where the network tells them,
@@ -67,44 +67,51 @@ alone registry = record { registry = registry; resolver = None }
 abbrev pub uncalled : Trace → Result Reply Refusal → Type 0
 uncalled trace result = Unit {0}
 
--- the authority answered the connection, whose peers are seen so
-abbrev pub IsAnswered : {P : Type 0} → (P → PeerAt) → Authority → Connection P → Type 0
+-- the authority answered the one request of the connection, whose peers are seen so
+abbrev pub IsAnswered : {P : Type 0} → (P → PeerAt) → Authority → Connection P (Result Served ServeFault) → Type 0
 IsAnswered at node c = ServesOne (alone node) uncalled (around (at c.came) c.clock c.call) (around (at c.gone) c.clock' c.call') c.result
 
+-- a connection with these peers and clocks was answered
+abbrev pub Attends : {P A : Type 0} → (Connection P A → Type 0) → P → P → ClockAt → ClockAt → Type 0
+Attends {P} {A} answered came gone clock clock' = (call : CallAt) × (call' : CallAt) × (told : A)
+    × answered (record { came = came; gone = gone; clock = clock; clock' = clock'; call = call; call' = call'; result = told })
+
 -- one clock is read by each connection in turn, and by nothing else
-abbrev pub ReadInTurn : {P : Type 0} → ClockAt → List (Connection P) → ClockAt → Type 0
+abbrev pub ReadInTurn : {P A : Type 0} → ClockAt → List (Connection P A) → ClockAt → Type 0
 ReadInTurn before [] now = now ≡ before
 ReadInTurn before (c ∷ cs) now = (c.clock ≡ before) × ReadInTurn c.clock' cs now
 
--- these connections, the first of the callers to come, were accepted, answered and settled in order
-pub record AreServed {P : Type 0} (at : P → PeerAt) (node : Authority) (connections : List (Connection P)) (before now : ServiceAt P) : Type 0 where
-  pub port : now.port ≡ before.port
-  pub accepted : Gave before.callers (map came_of connections) now.callers
-  pub answered : AllByRecursion (IsAnswered at node) connections
-  pub settled : Added before.settled (map gone_of connections) now.settled
-  pub clocks : ReadInTurn before.clock connections now.clock
+-- `answers` says how an authority answers a connection
+module _ {P A : Type 0} (answers : Authority → Connection P A → Type 0) where
+  -- these connections, the first of the callers to come, were accepted, answered and settled in order
+  pub record AreServed (node : Authority) (connections : List (Connection P A)) (before now : ServiceAt P) : Type 0 where
+    pub port : now.port ≡ before.port
+    pub accepted : Gave before.callers (map came_of connections) now.callers
+    pub answered : AllByRecursion (answers node) connections
+    pub settled : Added before.settled (map gone_of connections) now.settled
+    pub clocks : ReadInTurn before.clock connections now.clock
 
--- so many were
-abbrev pub Serves : {P : Type 0} → (P → PeerAt) → Authority → ℕ → ServiceAt P → ServiceAt P → Type 0
-Serves {P} at node n before now = (connections : List (Connection P)) × (length connections ≡ n) × AreServed at node connections before now
+  -- so many were
+  abbrev pub Serves : Authority → ℕ → ServiceAt P → ServiceAt P → Type 0
+  Serves node n before now = (connections : List (Connection P A)) × (length connections ≡ n) × AreServed node connections before now
 
--- fewer than so many were
-pub record ServesFewer {P : Type 0} (at : P → PeerAt) (node : Authority) (n : ℕ) (before now : ServiceAt P) : Type 0 where
-  pub count : ℕ
-  pub fewer : count < n
-  pub served : Serves at node count before now
+  -- fewer than so many were
+  pub record ServesFewer (node : Authority) (n : ℕ) (before now : ServiceAt P) : Type 0 where
+    pub count : ℕ
+    pub fewer : count < n
+    pub served : Serves node count before now
 
--- the next connection was accepted and answered, and then dropped in place of being settled
-pub record DropsNext {P : Type 0} (at : P → PeerAt) (node : Authority) (before now : ServiceAt P) : Type 0 where
-  pub connection : Connection P
-  pub port : now.port ≡ before.port
-  pub accepted : Gave before.callers (connection.came ∷ []) now.callers
-  pub answered : IsAnswered at node connection
-  pub settled : now.settled ≡ before.settled
-  pub clocks : ReadInTurn before.clock (connection ∷ []) now.clock
+  -- the next connection was accepted and answered, and then dropped in place of being settled
+  pub record DropsNext (node : Authority) (before now : ServiceAt P) : Type 0 where
+    pub connection : Connection P A
+    pub port : now.port ≡ before.port
+    pub accepted : Gave before.callers (connection.came ∷ []) now.callers
+    pub answered : answers node connection
+    pub settled : now.settled ≡ before.settled
+    pub clocks : ReadInTurn before.clock (connection ∷ []) now.clock
 
--- fewer than so many were, and the next one was dropped
-pub record ServesAndDrops {P : Type 0} (at : P → PeerAt) (node : Authority) (n : ℕ) (before now : ServiceAt P) : Type 0 where
-  pub then : ServiceAt P
-  pub served : ServesFewer at node n before then
-  pub dropped : DropsNext at node then now
+  -- fewer than so many were, and the next one was dropped
+  pub record ServesAndDrops (node : Authority) (n : ℕ) (before now : ServiceAt P) : Type 0 where
+    pub then : ServiceAt P
+    pub served : ServesFewer node n before then
+    pub dropped : DropsNext node then now

@@ -5,14 +5,13 @@ use Rattle.fed_ports.specs.Stores.{Files}
 use Rattle.fed_ports.specs.declared.clock.Clock.{Ghosts as ClockGhosts}
 use Rattle.fed_ports.specs.declared.network.Network.{Ghosts as NetworkGhosts}
 use Rattle.authority_core.specs.Nodes.{Node}
-use Rattle.fed_serve.specs.Moments.{PeerAt}
 use Rattle.node_service.specs.declared.stop.Stop.{Stop}
 use Rattle.node_service.specs.declared.stop.Stop.TheVariants as stop
 use Rattle.node_files.specs.declared.fault.NodeFault.{NodeFault}
 use Rattle.node_files.specs.declared.fault.NodeFault.TheVariants as node_fault
 use Rattle.node_service.specs.declared.service.ServiceEnd.{ServiceEnd}
 use Rattle.node_service.specs.declared.service.ServiceEnd.TheVariants as ends
-use Rattle.node_service.specs.Connections.{DropsNext, ServesAndDrops, ServesFewer, ServiceAt, Serves, on_port, service_seen}
+use Rattle.node_service.specs.Connections.{Connection, DropsNext, ServesAndDrops, ServesFewer, ServiceAt, Serves, on_port, service_seen}
 use Rattle.node_files.specs.Moments.{NodeAt, at_moment as node_moment}
 use Rattle.node_files.specs.Orders.{Order}
 use Rattle.node_files.specs.declared.post.Post.{Post}
@@ -25,16 +24,16 @@ NetworkCause before now (Err stop.Network) = Rose before now
 NetworkCause before now (Err stop.Memory) = now ≡ before
 
 -- what becomes of the next connection: it is served; or none is accepted; or it is answered and dropped
-abbrev pub NextOf : {P : Type 0} → (P → PeerAt) → Node → ServiceAt P → ServiceAt P → Result Unit Stop → Type 0
-NextOf at node before now (Ok done) = Serves at node 1 before now
-NextOf at node before now (Err stop.Network) = now ≡ before
-NextOf at node before now (Err stop.Memory) = DropsNext at node before now
+abbrev pub NextOf : {P A : Type 0} → (Node → Connection P A → Type 0) → Node → ServiceAt P → ServiceAt P → Result Unit Stop → Type 0
+NextOf answers node before now (Ok done) = Serves answers node 1 before now
+NextOf answers node before now (Err stop.Network) = now ≡ before
+NextOf answers node before now (Err stop.Memory) = DropsNext answers node before now
 
 -- what becomes of so many connections: all are served; or the network fails before, or the next one is dropped
-abbrev pub StopsAfter : {P : Type 0} → (P → PeerAt) → Node → ℕ → ServiceAt P → ServiceAt P → Result Unit Stop → Type 0
-StopsAfter at node n before now (Ok done) = Serves at node n before now
-StopsAfter at node n before now (Err stop.Network) = ServesFewer at node n before now
-StopsAfter at node n before now (Err stop.Memory) = ServesAndDrops at node n before now
+abbrev pub StopsAfter : {P A : Type 0} → (Node → Connection P A → Type 0) → Node → ℕ → ServiceAt P → ServiceAt P → Result Unit Stop → Type 0
+StopsAfter answers node n before now (Ok done) = Serves answers node n before now
+StopsAfter answers node n before now (Err stop.Network) = ServesFewer answers node n before now
+StopsAfter answers node n before now (Err stop.Memory) = ServesAndDrops answers node n before now
 
 -- a service and its network's count of faults, at one moment
 pub record NetworkAt (P : Type 0) : Type 0 where
@@ -46,20 +45,20 @@ abbrev pub network_seen : {N P C : Type 0} → NetworkGhosts N P → ClockGhosts
 network_seen network times net clock = record { service = service_seen network times net clock; faults = network.faults net }
 
 -- nobody was listened to; or fewer than so many were served on the port, and then the network failed
-abbrev pub FailsAfter : {P : Type 0} → (P → PeerAt) → Node → Post → ServiceAt P → ServiceAt P → Type 0
-FailsAfter at node post before now = (now ≡ before) ⊎ ServesFewer at node post.connections (on_port post.port before) now
+abbrev pub FailsAfter : {P A : Type 0} → (Node → Connection P A → Type 0) → Node → Post → ServiceAt P → ServiceAt P → Type 0
+FailsAfter answers node post before now = (now ≡ before) ⊎ ServesFewer answers node post.connections (on_port post.port before) now
 
 -- memory was wanting before the port was taken, or to settle a connection
-abbrev pub WantsAfter : {P : Type 0} → (P → PeerAt) → Node → Post → NetworkAt P → NetworkAt P → Type 0
-WantsAfter at node post before now =
-    (now ≡ before) ⊎ (ServesAndDrops at node post.connections (on_port post.port before.service) now.service × (now.faults ≡ before.faults))
+abbrev pub WantsAfter : {P A : Type 0} → (Node → Connection P A → Type 0) → Node → Post → NetworkAt P → NetworkAt P → Type 0
+WantsAfter answers node post before now =
+    (now ≡ before) ⊎ (ServesAndDrops answers node post.connections (on_port post.port before.service) now.service × (now.faults ≡ before.faults))
 
 -- how the serving of connections on a port ended: all were served, or the network failed, or memory was wanting
-abbrev pub EndsOf : {P : Type 0} → (P → PeerAt) → Node → Post → NetworkAt P → NetworkAt P → ServiceEnd → Type 0
-EndsOf at node post before now ends.Served = Serves at node post.connections (on_port post.port before.service) now.service × (now.faults ≡ before.faults)
-EndsOf at node post before now ends.NetworkFailed = FailsAfter at node post before.service now.service × Rose before.faults now.faults
-EndsOf at node post before now ends.Memory = WantsAfter at node post before now
-EndsOf at node post before now end = ⊥
+abbrev pub EndsOf : {P A : Type 0} → (Node → Connection P A → Type 0) → Node → Post → NetworkAt P → NetworkAt P → ServiceEnd → Type 0
+EndsOf answers node post before now ends.Served = Serves answers node post.connections (on_port post.port before.service) now.service × (now.faults ≡ before.faults)
+EndsOf answers node post before now ends.NetworkFailed = FailsAfter answers node post before.service now.service × Rose before.faults now.faults
+EndsOf answers node post before now ends.Memory = WantsAfter answers node post before now
+EndsOf answers node post before now end = ⊥
 
 -- the files, where they are told, and the service, at one moment
 abbrev pub At : Type 0 → Type 0
@@ -80,22 +79,22 @@ pub record IsOrdered (order : Order) (files : Option Files) (node : Node) : Type
   pub is_authority : IsAuthorityAlone node
 
 -- so many connections were served on the port by the node of the file
-pub record HasServed {P : Type 0} (at : P → PeerAt) (order : Order) (before now : At P) : Type 0 where
+pub record HasServed {P A : Type 0} (answers : Node → Connection P A → Type 0) (order : Order) (before now : At P) : Type 0 where
   pub node : Node
   pub is : IsOrdered order before.files node
-  pub serves : Serves at node order.post.connections (on_port order.post.port before.around.service) now.around.service
+  pub serves : Serves answers node order.post.connections (on_port order.post.port before.around.service) now.around.service
 
 -- the node of the file listened to nobody, or served fewer than so many on the port
-pub record HasFailed {P : Type 0} (at : P → PeerAt) (order : Order) (before now : At P) : Type 0 where
+pub record HasFailed {P A : Type 0} (answers : Node → Connection P A → Type 0) (order : Order) (before now : At P) : Type 0 where
   pub node : Node
   pub is : IsOrdered order before.files node
-  pub after : FailsAfter at node order.post before.around.service now.around.service
+  pub after : FailsAfter answers node order.post before.around.service now.around.service
 
 -- the node of the file served fewer than so many on the port, and dropped the next one
-pub record HasDropped {P : Type 0} (at : P → PeerAt) (order : Order) (before now : At P) : Type 0 where
+pub record HasDropped {P A : Type 0} (answers : Node → Connection P A → Type 0) (order : Order) (before now : At P) : Type 0 where
   pub node : Node
   pub is : IsOrdered order before.files node
-  pub after : ServesAndDrops at node order.post.connections (on_port order.post.port before.around.service) now.around.service
+  pub after : ServesAndDrops answers node order.post.connections (on_port order.post.port before.around.service) now.around.service
 
 -- the end comes only where that count of faults rose, and always where it grew
 pub record Tells (result fault : ServiceEnd) (before now : ℕ) : Type 0 where
@@ -103,9 +102,9 @@ pub record Tells (result fault : ServiceEnd) (before now : ℕ) : Type 0 where
   pub always : before < now → result ≡ fault
 
 -- how serving as an authority ends, and what was done
-pub record Ends {P : Type 0} (at : P → PeerAt) (order : Order) (before now : At P) (result : ServiceEnd) : Type 0 where
+pub record Ends {P A : Type 0} (answers : Node → Connection P A → Type 0) (order : Order) (before now : At P) (result : ServiceEnd) : Type 0 where
   -- all connections were served
-  pub served : result ≡ ends.Served → HasServed at order before now
+  pub served : result ≡ ends.Served → HasServed answers order before now
   -- a file isn't of its form, or the node isn't an authority alone
   pub input : result ≡ ends.Input → (node : Node) → IsNodeOf before.files order.config node → IsAuthorityAlone node → before.files ≡ None
   pub unserved : result ≡ ends.Input → now.around.service ≡ before.around.service
@@ -114,7 +113,7 @@ pub record Ends {P : Type 0} (at : P → PeerAt) (order : Order) (before now : A
   pub unread : result ≡ ends.StoreFailed → now.around.service ≡ before.around.service
   -- the network failed to listen, or to accept the next connection
   pub network : Tells result ends.NetworkFailed before.around.faults now.around.faults
-  pub failed : result ≡ ends.NetworkFailed → HasFailed at order before now
+  pub failed : result ≡ ends.NetworkFailed → HasFailed answers order before now
   -- memory was wanting before the port was taken, or to settle a connection
-  pub memory : result ≡ ends.Memory → (now.around.service ≡ before.around.service) ⊎ HasDropped at order before now
+  pub memory : result ≡ ends.Memory → (now.around.service ≡ before.around.service) ⊎ HasDropped answers order before now
   pub files : now.files ≡ before.files

@@ -1,2 +1,4 @@
 pub mod Connections
 pub mod Ends
+pub mod Streams
+pub mod Tools

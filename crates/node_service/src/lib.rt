@@ -2,9 +2,11 @@
 //! from its configuration file and the ring file that this names.
 #![tactic(auto)]
 
+mod authority;
 mod connections;
 mod no_link;
 mod service;
 mod stop;
+mod tools;
 
 pub use service::{ServiceEnd, serve_authority};

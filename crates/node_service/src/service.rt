@@ -5,16 +5,18 @@ ghost use Rattle.node_files.specs.Moments.{node_seen};
 ghost use Rattle.node_files.specs.Orders.{order_of};
 ghost use Rattle.node_service.specs.Connections.{peer_seen};
 ghost use Rattle.node_service.specs.Ends.{Ends, EndsOf, network_seen};
+ghost use Rattle.node_service.specs.Streams.{IsAnsweredBy};
 
 use crate::connections::{Server, serve_connections};
 use crate::stop::Stop;
-use fed_ports::{Clock, Network, Seq, Store, Text};
+use crate::tools::Tools;
+use fed_ports::{Clock, Network, Store, Text};
 use fed_serve::Node;
 use node_files::{NodeFault, Post, explain_accept, explain_port, open_authority};
 use plain_notes::Notes;
-use statement_shelf::Commons;
 use std::alloc::Global;
 use std::sync::Wait;
+use std::thread::Threads;
 
 /// How serving ended.
 #[derive(Clone, Copy, Debug, PartialEq, Eq)]
@@ -47,19 +49,21 @@ impl From<NodeFault> for ServiceEnd {
 }
 
 /// Answers so many connections on a port, one after the other, as the authority of a configuration file. The node is read from that file
-/// and the ring file that it names, once, before the port is taken. What becomes of one connection ends nothing.
-pub fn serve_authority<R: Wait, D: Store, N: Network + Drop, C: Clock>(
+/// and the ring file that it names, once, before the port is taken. With `stream` a connection may have up to a hundred requests, and else
+/// one. What becomes of one connection ends nothing.
+pub fn serve_authority<R: Wait + Threads + Sync, D: Store, N: Network + Drop, C: Clock>(
     rt: &R,
     alloc: Global,
     config: &Text,
     port: u16,
     connections: u64,
+    stream: bool,
     store: &mut D,
     net: &mut N,
     clock: &mut C,
     notes: &mut Notes,
 ) -> ServiceEnd
-    ensures ends { Ends (peer_seen N.Peer.Source N.Peer.Sink) (order_of config.now port connections)
+    ensures ends { Ends (IsAnsweredBy stream (peer_seen N.Peer.Source N.Peer.Sink)) (order_of config.now port connections)
         (node_seen D.Store store.old (network_seen N.Network C.Clock net.old clock.old))
         (node_seen D.Store store.new (network_seen N.Network C.Clock net.new clock.new)) result }
     ensures exchanges { N.exchanges net.new ≡ N.exchanges net.old }
@@ -74,6 +78,7 @@ pub fn serve_authority<R: Wait, D: Store, N: Network + Drop, C: Clock>(
                 rt,
                 alloc,
                 node: &node,
+                stream,
             };
             let post = Post { port, connections };
             let end = serve_alone(&server, post, net, clock, notes);
@@ -84,9 +89,8 @@ pub fn serve_authority<R: Wait, D: Store, N: Network + Drop, C: Clock>(
     }
 }
 
-// Takes the port and answers the connections. The pass, which each connection is served with, is of a cache and a book that no authority
-// uses.
-fn serve_alone<R: Wait, N: Network, C: Clock>(
+// Takes the port and answers the connections.
+fn serve_alone<R: Wait + Threads + Sync, N: Network, C: Clock>(
     server: &Server<R>,
     post: Post,
     net: &mut N,
@@ -94,18 +98,18 @@ fn serve_alone<R: Wait, N: Network, C: Clock>(
     notes: &mut Notes,
 ) -> ServiceEnd
     requires alone { server.now.node.now.resolver ≡ None }
-    ensures ends { EndsOf (peer_seen N.Peer.Source N.Peer.Sink) server.now.node.now.registry post
+    ensures ends { EndsOf (IsAnsweredBy server.now.stream (peer_seen N.Peer.Source N.Peer.Sink)) server.now.node.now.registry post
         (network_seen N.Network C.Clock net.old clock.old) (network_seen N.Network C.Clock net.new clock.new) result }
     ensures exchanges { N.exchanges net.new ≡ N.exchanges net.old }
 {
-    let Ok((_commons, mut pass)) = Commons::new(server.alloc, Seq::new(server.alloc)) else {
+    let Ok(mut tools) = Tools::new(server.alloc) else {
         return ServiceEnd::Memory;
     };
     if net.listen(post.port).is_err() {
         explain_port(server.alloc, post.port, notes);
         return ServiceEnd::NetworkFailed;
     }
-    match serve_connections(server, net, &mut pass, clock, post.connections) {
+    match serve_connections(server, &mut tools, net, clock, post.connections) {
         Ok(()) => ServiceEnd::Served,
         Err(Stop::Network) => {
             explain_accept(server.alloc, notes);

@@ -51,7 +51,7 @@ counted_by node walks t before now (dealt change untested) count met none = absu
 pub worn-of : (node : Node) (walks : Walking) (before now : Around) (served : Result Served ServeFault) (fault : RehearsalFault) → Serves node walks before now served → IsWornBy served fault → IsWornOf now.call.known fault
 worn-of node walks before now served Memory serves by = tt
 worn-of node walks before now served Worn serves (count, is) =
-    let broken = serves.worn count is in
+    let broken = (serves.worn count is).is in
     counted_by node walks now.clock.last before.call now.call broken.handling count broken.uses broken.worn
 
 -- what holds anyway holds of an answer

@@ -1,5 +1,6 @@
 -- The keys of a rehearsal's entities, each with a number.
 use Rattle.std.specs.Prelude.{ℕ, zero, suc, ◌+◌, ◌*◌, List, [], ◌∷◌, ◌++◌}
+use Rattle.fed_base.specs.declared.algorithm.Alg.TheVariants.{Small}
 use Rattle.fed_json.specs.Compact.{compact}
 use Rattle.jwk_set.specs.Trees.{set_tree}
 use Rattle.key_ring.specs.Changes.{fresh_key}
@@ -18,7 +19,7 @@ seeds_of key = numbers_from (48 * key) 48
 
 -- the ring of this one key
 unfoldable pub ring_of : ℕ → Ring
-ring_of key = fresh_key (seeds_of key) moment (moment + lifetime) ∷ []
+ring_of key = fresh_key Small (seeds_of key) moment (moment + lifetime) ∷ []
 
 -- the key set that is published of a ring, as JSON (RFC 7517 section 5)
 unfoldable pub set_text : Ring → List ℕ

@@ -1,13 +1,14 @@
 // The keys of a rehearsal's entities.
 
 ghost use Rattle.std.specs.Prelude.{◌≡◌, ◌+◌, ◌<◌, IfOk, Ok};
+ghost use Rattle.fed_base.specs.declared.algorithm.Alg.TheVariants.{Small};
 ghost use Rattle.key_ring.specs.declared.fault.RingFault.TheVariants.{Memory as WantOfMemory};
 ghost use Rattle.key_ring.specs.Files.{IsFirstFile};
 ghost use Rattle.rehearsal.specs.Keys.{ring_of, seeds_of, set_text};
 ghost use Rattle.rehearsal.specs.Moments.{lifetime, moment};
 
 use crate::clock::{LIFETIME, MOMENT};
-use fed_base::{Memory, Text};
+use fed_base::{Alg, Memory, Text};
 use fed_json::write_tree;
 use key_ring::{KeyRing, RingFault, first_file};
 use std::alloc::Global;
@@ -30,7 +31,7 @@ pub(crate) fn ring_of(alloc: Global, key: u8) -> Result<KeyRing, Memory>
     requires { key < 5 }
     ensures { IfOk result (λ ring. ring ≡ ring_of key) }
 {
-    match first_file(alloc, &seeds_of(key), MOMENT, MOMENT + LIFETIME) {
+    match first_file(alloc, Alg::Small, &seeds_of(key), MOMENT, MOMENT + LIFETIME) {
         Ok(file) => open_first(alloc, key, &file),
         Err(fault) => Err(wanting(&fault)),
     }
@@ -38,7 +39,7 @@ pub(crate) fn ring_of(alloc: Global, key: u8) -> Result<KeyRing, Memory>
 
 // The ring of a first file.
 fn open_first(alloc: Global, key: u8, file: &Text) -> Result<KeyRing, Memory>
-    requires { IsFirstFile (seeds_of key) moment (moment + lifetime) (Ok file.now) }
+    requires { IsFirstFile Small (seeds_of key) moment (moment + lifetime) (Ok file.now) }
     ensures { IfOk result (λ ring. ring ≡ ring_of key) }
 {
     match KeyRing::open(alloc, file.as_slice()) {

@@ -22,6 +22,7 @@ use jwk_set::JwkSet;
 use statement_shelf::FedPass;
 use std::alloc::Global;
 use std::sync::Wait;
+use std::thread::Threads;
 
 // How often the link is called at most: more than a round may.
 const CALLS: u64 = 1_000;
@@ -29,7 +30,7 @@ const CALLS: u64 = 1_000;
 /// Makes a federation in memory in which the leaf's metadata has so many parameters, 200 at most; lets a resolver resolve the leaf twice,
 /// the second time from its cache; and checks the chain of the second reply. `worn` has the pass where a shared object had counted 2^62
 /// calls.
-pub fn rehearse<R: Wait>(
+pub fn rehearse<R: Wait + Threads + Sync>(
     rt: &R,
     alloc: Global,
     params: u64,
@@ -46,7 +47,7 @@ pub fn rehearse<R: Wait>(
 }
 
 // The rehearsal over a link that has the pages of the federation.
-fn rehearse_over<R: Wait>(
+fn rehearse_over<R: Wait + Threads + Sync>(
     rt: &R,
     alloc: Global,
     params: u64,
@@ -63,7 +64,7 @@ fn rehearse_over<R: Wait>(
 }
 
 // The rehearsal by the resolver's node and its pass.
-fn rehearse_by<R: Wait>(
+fn rehearse_by<R: Wait + Threads + Sync>(
     rt: &R,
     alloc: Global,
     params: u64,
@@ -102,7 +103,7 @@ fn is_worn(summary: &Result<Summary, RehearsalFault>) -> bool
 }
 
 // Asks for the leaf twice, and sums up.
-fn ask_twice<R: Wait>(
+fn ask_twice<R: Wait + Threads + Sync>(
     rt: &R,
     alloc: Global,
     params: u64,

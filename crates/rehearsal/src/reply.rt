@@ -2,11 +2,12 @@
 
 ghost use Rattle.std.specs.Prelude.{◌≡◌, IfOk, IfSome};
 ghost use Rattle.jws_form.specs.Compact.{IsCompact};
-ghost use Rattle.rehearsal.specs.Replies.{Carries, body_of, claimed_chain};
+ghost use Rattle.rehearsal.specs.Replies.{Carries, body_of};
 
 use fed_base::{Memory, Seq, Text};
-use fed_json::{Json, TreeFault, copied_texts, find, object_members, read_tree};
+use fed_json::{TreeFault, read_tree};
 use jws_form::{Compact, FormFault, split};
+use resolve_reply::chain_of;
 use std::alloc::Global;
 
 /// The trust chain of the reply that a response carries, or `None` where it carries none.
@@ -14,7 +15,7 @@ pub(crate) fn chain_in(alloc: Global, response: &[u8]) -> Result<Option<Seq<Text
     ensures { IfOk result (λ chain. IfSome chain (Carries (body_of response.now))) }
 {
     match split(alloc, body_of(response)) {
-        Ok(reply) => chain_of(alloc, &reply),
+        Ok(reply) => carried_chain(alloc, &reply),
         Err(FormFault::Memory) => Err(Memory),
         Err(_) => Ok(None),
     }
@@ -35,23 +36,12 @@ fn body_of(message: &[u8]) -> &[u8]
 }
 
 // The chain that the claims of a reply carry.
-fn chain_of(alloc: Global, reply: &Compact) -> Result<Option<Seq<Text>>, Memory>
+fn carried_chain(alloc: Global, reply: &Compact) -> Result<Option<Seq<Text>>, Memory>
     ensures { IfOk result (λ chain. IfSome chain (λ texts. IsCompact reply.now.whole reply.now → Carries reply.now.whole texts)) }
 {
     match read_tree(alloc, reply.payload.as_slice()) {
-        Ok(claims) => claimed_chain(alloc, &claims),
+        Ok(claims) => chain_of(alloc, &claims),
         Err(TreeFault::Syntax) => Ok(None),
         Err(TreeFault::Memory) => Err(Memory),
-    }
-}
-
-// The claim `trust_chain`.
-#[tactic(auto, unfolding(crate::specs::Replies::claimed_chain))]
-fn claimed_chain(alloc: Global, claims: &Json) -> Result<Option<Seq<Text>>, Memory>
-    ensures { IfOk result (λ chain. chain ≡ claimed_chain claims.now) }
-{
-    match find(object_members(claims), b"trust_chain") {
-        Some(chain) => copied_texts(alloc, chain),
-        None => Ok(None),
     }
 }

@@ -17,6 +17,7 @@ use resolve_round::Trace;
 use statement_shelf::FedPass;
 use std::alloc::Global;
 use std::sync::Wait;
+use std::thread::Threads;
 
 // The leaf is to be resolved up to the trust anchor.
 const REQUEST: &[u8] =
@@ -36,7 +37,7 @@ pub(crate) struct Answer {
 }
 
 /// Asks the resolver's node for the leaf. A response of another status than 200 comes for want of memory.
-pub(crate) fn ask<R: Wait>(
+pub(crate) fn ask<R: Wait + Threads + Sync>(
     rt: &R,
     alloc: Global,
     node: &Node,

@@ -2,6 +2,7 @@
 
 use crate::pages::explain_pages;
 use crate::path::explain_path;
+use chain_climb::Bounds;
 use fed_resolver::{Outcome, Refusal, ResolveRequest};
 use plain_notes::{Notes, Sentence, explain_memory, explain_worn};
 use std::alloc::Global;
@@ -17,7 +18,7 @@ pub fn explain_outcome(
     let Err(refusal) = &outcome.result else {
         return;
     };
-    explain_refusal(alloc, refusal, notes);
+    explain_refusal(alloc, refusal, outcome.trace.bounds, notes);
     if matches!(refusal, Refusal::Worn(_) | Refusal::Memory) {
         return;
     }
@@ -29,8 +30,32 @@ pub fn explain_outcome(
     }
 }
 
+// Says how far the search came, how far it may go, and where that is set.
+fn explain_budget(alloc: Global, calls: u64, paths: u64, bounds: Bounds, notes: &mut Notes) {
+    let mut sentence = Sentence::of(alloc, b"the search ended at its bound: ");
+    sentence = and_count(alloc, sentence, calls).and(b" pages of at most ");
+    sentence = and_count(alloc, sentence, bounds.calls).and(b", ");
+    sentence = and_count(alloc, sentence, paths).and(b" paths of at most ");
+    sentence = and_count(alloc, sentence, bounds.paths);
+    notes.say(sentence.and(b"; see depth, calls and paths of the anchor in the configuration"));
+}
+
+// The sentence with a number behind it, which has a comma before its last three digits.
+fn and_count(alloc: Global, sentence: Sentence, count: u64) -> Sentence {
+    if count < 1_000 {
+        return sentence.and_number(alloc, count);
+    }
+    let rest = count % 1_000;
+    sentence
+        .and_number(alloc, count / 1_000)
+        .and(b",")
+        .and_number(alloc, rest / 100)
+        .and_number(alloc, rest / 10 % 10)
+        .and_number(alloc, rest % 10)
+}
+
 // Says the answer in words.
-fn explain_refusal(alloc: Global, refusal: &Refusal, notes: &mut Notes) {
+fn explain_refusal(alloc: Global, refusal: &Refusal, bounds: Bounds, notes: &mut Notes) {
     match refusal {
         Refusal::NoAnchor => notes.say(Sentence::of(
             alloc,
@@ -52,13 +77,9 @@ fn explain_refusal(alloc: Global, refusal: &Refusal, notes: &mut Notes) {
             alloc,
             b"no valid chain was found, and a fetch failed",
         )),
-        Refusal::Budget { calls, paths } => notes.say(
-            Sentence::of(alloc, b"the search ended at its bound: ")
-                .and_number(alloc, *calls)
-                .and(b" pages of at most 64, ")
-                .and_number(alloc, *paths)
-                .and(b" paths of at most 4,096"),
-        ),
+        Refusal::Budget { calls, paths } => {
+            explain_budget(alloc, *calls, *paths, bounds, notes);
+        },
         Refusal::Worn(_) => explain_worn(alloc, notes),
         Refusal::Memory => explain_memory(alloc, notes),
     }

@@ -1,17 +1,18 @@
 -- The claims of a reply have a text.
-use Rattle.std.proofs.Common.{◌≡◌, ◌<◌, ◌^◌, ℕ, pos, List, [], ◌∷◌, ◌++◌, map, codes, Bool, true, false, ◌&&◌, cond, not, Option, Some, None, refl, ap, ◌∙◌, rules}
-use Rattle.std.specs.Prelude.{is_some, unwrap_or}
+use Rattle.std.proofs.Common.{◌≡◌, ◌<◌, ◌^◌, ℕ, pos, List, [], ◌∷◌, ◌++◌, map, codes, Bool, true, false, ◌&&◌, cond, not, Option, Some, None, refl, sym, ap, subst, ◌∙◌, rules}
+use Rattle.std.specs.Prelude.{is_some, option_map, unwrap_or}
 use Rattle.std.specs.List.{filter, list_all}
 use Rattle.std.specs.Str.{IsUtf8, is_utf8}
 use Rattle.std.proofs.lemmas.Bool.{lt-ltb}
 use Rattle.std.proofs.lemmas.Str.{is_utf8-from_IsUtf8}
+use Rattle.fed_base.specs.Values.{◌>>=◌}
 use Rattle.fed_json.specs.declared.tree.Json.{Json, Int, Object, Text, List as ListOf, the_lemmas}
 use Rattle.fed_json.specs.declared.tree.Member.{Member}
 use Rattle.fed_json.specs.Forms.{IsWhole, has_odd, in_bounds, is_before, members_whole, rising, well_formed, whole}
 use Rattle.fed_json.specs.Members.{number_member, text_member}
 use Rattle.fed_json.specs.Reading.{member_of}
-use Rattle.fed_json.specs.Trees.{as_object, object_members}
-use Rattle.fed_json.proofs.Accessors.{as_object-Object, whole-members}
+use Rattle.fed_json.specs.Trees.{as_object, as_text, each, find, object_members, texts_of}
+use Rattle.fed_json.proofs.Accessors.{as_list-List, as_object-Object, as_text-Text, whole-members}
 use Rattle.fed_json.proofs.Booleans.{both_true, left_true, right_true}
 use Rattle.fed_json.proofs.Layers.{whole-List, whole-Object, whole-Text}
 use Rattle.fed_json.proofs.Names.{rising-skip, rising-tail}
@@ -20,7 +21,7 @@ use Rattle.sealed.specs.Sealing.{IsObject}
 use Rattle.entity_statement.specs.Claims.{Identifier, mark_utf8}
 use Rattle.entity_statement.specs.declared.marks.MarkEntry.{MarkEntry}
 use Rattle.resolve_reply.specs.declared.said.Said.{Said}
-use Rattle.resolve_reply.specs.Replies.{IsWritable, common_members, cut_to, is_wanted, mark_tree, marks_member, reply_claims}
+use Rattle.resolve_reply.specs.Replies.{IsWritable, SaysReply, chain_of, common_members, cut_to, is_unmarked, is_wanted, mark_tree, marks_member, reply_claims, resealed_claims, with_end}
 
 int_formed : (n : ℕ) → well_formed (Int (pos n)) ≡ in_bounds (pos n)
 int_formed n = search (rules, the_lemmas)
@@ -191,3 +192,47 @@ claims-made iss said text sub first second third fourth all m chain same_iss sam
     ∷ member_of (codes "trust_chain") (listed i)
     ∷ []
     ) ++ marks_member said.marks))
+
+-- ---- claims that are sealed anew
+
+members-are : (ms : List Member) → object_members (Object ms) ≡ ms
+members-are ms = ap (λ o. unwrap_or o []) (as_object-Object ms)
+
+renewed : (iss : Identifier) (said : Said) (exp : ℕ) (marks entries : List MarkEntry) → said.marks ≡ entries
+    → map (with_end exp) (filter is_unmarked (common_members iss said ++ marks_member entries)) ++ marks_member marks ≡ common_members iss (record said { exp = exp; marks = marks }) ++ marks_member marks
+renewed iss said exp marks [] are = refl
+renewed iss said exp marks (e ∷ es) are = refl
+
+pub resealed : (iss : Identifier) (said : Said) (exp : ℕ) (marks : List MarkEntry) → resealed_claims (reply_claims iss said) exp marks ≡ reply_claims iss (record said { exp = exp; marks = marks })
+unfolding resealed_claims reply_claims
+resealed iss said exp marks =
+    ap (λ ms. Object (map (with_end exp) (filter is_unmarked ms) ++ marks_member marks)) (members-are (common_members iss said ++ marks_member said.marks))
+    ∙ ap Object (renewed iss said exp marks said.marks refl)
+
+pub resealed-whole : (claims : Json) (exp : ℕ) (marks : List MarkEntry) → SaysReply claims → exp < 2 ^ 64 → list_all mark_utf8 marks ≡ true → IsWhole (resealed_claims claims exp marks)
+resealed-whole claims exp marks says less utf8 =
+    subst IsWhole (sym (ap (λ c. resealed_claims c exp marks) says.claims_are ∙ resealed says.iss says.said exp marks))
+    (claims-whole says.iss (record says.said { exp = exp; marks = marks })
+    (record { metadata = says.writable.metadata; chain = says.writable.chain; marks = utf8 }) less says.iat says.iss_utf8 says.sub_utf8)
+
+pub resealed-object : (claims : Json) (exp : ℕ) (marks : List MarkEntry) → IsObject (resealed_claims claims exp marks)
+unfolding resealed_claims
+resealed-object claims exp marks = ap is_some (as_object-Object (map (with_end exp) (filter is_unmarked (object_members claims)) ++ marks_member marks))
+
+pub resealed-made : (claims : Json) (exp : ℕ) (marks : List MarkEntry) (kept all : List Member) → kept ≡ map (with_end exp) (filter is_unmarked (object_members claims)) → all ≡ kept ++ marks_member marks
+    → Object all ≡ resealed_claims claims exp marks
+unfolding resealed_claims
+resealed-made claims exp marks kept all one two = ap Object (two ∙ ap (λ ms. ms ++ marks_member marks) one)
+
+-- ---- the chain
+
+each-text : (texts : List (List ℕ)) → each as_text (map Text texts) ≡ Some texts
+each-text [] = refl
+each-text (t ∷ ts) = rw (as_text-Text t, each-text ts) refl
+
+said-texts : (texts : List (List ℕ)) → texts_of (ListOf (map Text texts)) ≡ Some texts
+said-texts texts = rw (as_list-List (map Text texts)) (each-text texts)
+
+pub chain-said : (iss : Identifier) (said : Said) → chain_of (reply_claims iss said) ≡ Some said.chain
+unfolding chain_of reply_claims
+chain-said iss said = ap (λ ms. find (codes "trust_chain") ms >>= texts_of) (members-are (common_members iss said ++ marks_member said.marks)) ∙ said-texts said.chain

@@ -1,5 +1,5 @@
 -- Marks that are looked at one after the other.
-use Rattle.std.proofs.Common.{◌≡◌, ◌<◌, ◌≤◌, ◌+◌, ℕ, zero, suc, List, [], ◌∷◌, ◌++◌, length, take, drop, map, get_or, Bool, true, false, cond, Option, Some, None, inl, inr, refl, sym, ap, ◌∙◌, subst, arith, add-one, true≢false}
+use Rattle.std.proofs.Common.{◌≡◌, ◌<◌, ◌≤◌, ◌+◌, ℕ, zero, suc, List, [], ◌∷◌, ◌++◌, length, take, drop, map, get_or, Bool, true, false, cond, Option, Some, None, inl, inr, refl, sym, ap, ap₂, ◌∙◌, subst, arith, add-one, true≢false}
 use Rattle.std.specs.Prelude.{IfSome, IsSome, sum_by, option_and_then}
 use Rattle.std.specs.List.{list_all}
 use Rattle.std.specs.Option.{option_map_or}
@@ -20,9 +20,10 @@ use Rattle.trust_mark.specs.declared.verdict.MarkVerdict.TheVariants.{Good, Bad}
 use Rattle.trust_mark.proofs.ConditionLaws.{issuer-exactly, same-exactly}
 use Rattle.trust_mark.proofs.CountLaws.{counted-plus, refused-tests}
 use Rattle.trust_mark.proofs.VerdictLaws.{claims-pass}
+use Rattle.resolve_reply.specs.declared.issuers.Issuer.{Issuer as FoundIssuer}
 use Rattle.resolve_reply.specs.declared.marks.GoodMarks.{GoodMarks}
-use Rattle.resolve_reply.specs.Looking.{Decides, IsLookedAt, Takes, TakesBy, tests_with}
-use Rattle.resolve_reply.specs.Marks.{AreGood, AreThose, IsReturned, Judging, case_by, is_searched, issuers_by_mark, looked_at, searched_for, tests_by, tests_for, tests_of_marks}
+use Rattle.resolve_reply.specs.Looking.{AddsConfig, Decides, IsLookedAt, Takes, TakesBy, tests_with}
+use Rattle.resolve_reply.specs.Marks.{AreConfigs, AreGood, AreThose, IsReturned, IssuerTexts, Judging, case_by, config_of, is_searched, issuer_of_mark, issuers_by_mark, looked_at, searched_for, tests_by, tests_for, tests_of_marks, text_of}
 use Rattle.resolve_reply.specs.Replies.{least_end, least_with}
 use Rattle.fed_base.specs.Counts.{CountsAtMost, counted}
 
@@ -253,6 +254,30 @@ module _ (here : Judging) (marks : List MarkEntry) (i : ℕ) (entry : MarkEntry)
       let sum = more-tests in
       let within = tests-within here (looked_at marks) (i + 1) in
       at_most-more (tests_of_marks here (take i (looked_at marks))) (tests_with (case_by here entry) keys) before mid now (tests_of_marks here (looked_at marks)) first most (omega (arith, sum, within))
+
+-- ---- configurations
+
+config-kept : (texts : IssuerTexts) (mark : Mark) (b : Bool) (config : List ℕ) → option_and_then texts (cond b (Some mark.iss) None) ≡ Some config → texts mark.iss ≡ Some config
+config-kept texts mark true config is = is
+config-kept texts mark false config is = let bad : None ≡ Some config = is in cc bad
+
+config-read : (anchor : Claims) (entry : MarkEntry) (texts : IssuerTexts) (config : List ℕ) (o : Option Mark) → option_and_then texts (option_and_then (issuer_of_mark anchor entry) o) ≡ Some config
+    → option_and_then (λ (mark : Mark). texts mark.iss) o ≡ Some config
+config-read anchor entry texts config None is = is
+config-read anchor entry texts config (Some mark) is = config-kept texts mark (is_searched anchor entry mark) config is
+
+-- what is kept of the issuer that is searched for a mark is that of the mark's issuer
+config-found : (anchor : Claims) (entry : MarkEntry) (texts : IssuerTexts) (config : List ℕ) → option_and_then texts (searched_for anchor entry) ≡ Some config → config_of texts entry ≡ Some config
+unfolding searched_for config_of
+config-found anchor entry texts config is = config-read anchor entry texts config (mark_of entry.text) is
+
+pub config-step : (marks : List MarkEntry) (anchor : Claims) (i : ℕ) (entry : MarkEntry) (issuer : Option Identifier) → IsAt marks anchor i entry issuer → (found : List FoundIssuer) (text : Option (List ℕ))
+    → text ≡ option_and_then (text_of found) issuer → (old new : GoodMarks) → AreConfigs (text_of found) old.entries old.configs → AddsConfig entry text old new → AreConfigs (text_of found) new.entries new.configs
+config-step marks anchor i entry issuer at found text is old new are (inl same) = ap (map Some) same.1 ∙ are ∙ sym (ap (map (config_of (text_of found))) same.0)
+config-step marks anchor i entry issuer at found text is old new are (inr (config, there, entries, configs)) =
+    let known : config_of (text_of found) entry ≡ Some config = config-found anchor entry (text_of found) config (sym (is ∙ ap (option_and_then (text_of found)) at.issuer_is) ∙ there) in
+    ap (map Some) configs ∙ map-append Some old.configs (config ∷ []) ∙ ap₂ (λ xs o. xs ++ o ∷ []) are (sym known)
+    ∙ sym (ap (map (config_of (text_of found))) entries ∙ map-append (config_of (text_of found)) old.entries (entry ∷ []))
 
 -- each place of the issuers is one of the marks
 pub place-within : (marks : List MarkEntry) (anchor : Claims) (by_mark : List (Option Identifier)) (i : ℕ) → by_mark ≡ issuers_by_mark marks anchor → i < length by_mark → i < length marks

@@ -1,3 +1,4 @@
+pub mod Bounds
 pub mod Looking
 pub mod Marks
 pub mod Replies

@@ -1,9 +1,8 @@
 -- What looking at one entry answers; no public clause cites it.
-use Rattle.std.specs.Prelude.{◌≡◌, ℕ, List, [], ◌∷◌, ◌++◌, IsTrue, bytes_eq, if◌then◌else◌, Option, Some, None, option_map, ◌↔◌}
+use Rattle.std.specs.Prelude.{◌≡◌, ◌⊎◌, ℕ, List, [], ◌∷◌, ◌++◌, IsTrue, bytes_eq, if◌then◌else◌, Option, Some, None, option_map, ◌↔◌}
 use Rattle.std.specs.Option.{option_map_or}
 use Rattle.std.specs.List.{list_any}
 use Rattle.jwk_set.specs.declared.jwk.Jwk.{Jwk}
-use Rattle.jwk_set.specs.declared.set.JwkSet.{JwkSet}
 use Rattle.entity_statement.specs.Claims.{Identifier}
 use Rattle.entity_statement.specs.declared.marks.MarkEntry.{MarkEntry}
 use Rattle.trust_mark.specs.Counts.{mark_tests}
@@ -11,16 +10,26 @@ use Rattle.trust_mark.specs.Marks.{Case, IsGood}
 use Rattle.trust_mark.specs.Verdicts.{IsVerdictOn, is_good}
 use Rattle.trust_mark.specs.declared.verdict.MarkVerdict.{MarkVerdict}
 use Rattle.trust_mark.specs.declared.verdict.MarkVerdict.TheVariants.{Good, Bad}
+use Rattle.resolve_reply.specs.declared.issuers.Issuer.{Issuer}
 use Rattle.resolve_reply.specs.declared.marks.GoodMarks.{GoodMarks}
 use Rattle.resolve_reply.specs.Replies.{least_end}
 
--- the keys of a set, where there is one
-abbrev pub keys_in : Option JwkSet → Option (List Jwk)
-keys_in set = option_map (λ (s : JwkSet). s.keys) set
+-- the keys of an issuer, where there is one, and the text of its configuration
+abbrev pub keys_in : Option Issuer → Option (List Jwk)
+keys_in issuer = option_map (λ (i : Issuer). i.keys.keys) issuer
+
+abbrev pub text_in : Option Issuer → Option (List ℕ)
+text_in issuer = option_map (λ (i : Issuer). i.text) issuer
 
 -- the entry was added, and its end counts
 abbrev pub Takes : MarkEntry → Option ℕ → GoodMarks → GoodMarks → Type 0
 Takes entry end old new = (new.entries ≡ old.entries ++ entry ∷ []) × (new.exp ≡ least_end old.exp end)
+
+-- nothing was added, or an entry with the configuration of its mark's issuer
+abbrev pub AddsConfig : MarkEntry → Option (List ℕ) → GoodMarks → GoodMarks → Type 0
+AddsConfig entry text old new =
+    ((new.entries ≡ old.entries) × (new.configs ≡ old.configs))
+    ⊎ ((config : List ℕ) × (text ≡ Some config) × (new.entries ≡ old.entries ++ entry ∷ []) × (new.configs ≡ old.configs ++ config ∷ []))
 
 -- an entry is taken where the verdict is good, else nothing changes
 abbrev pub TakesBy : MarkEntry → MarkVerdict → GoodMarks → GoodMarks → Type 0

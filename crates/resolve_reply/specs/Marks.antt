@@ -61,6 +61,23 @@ abbrev pub keys_of : List Issuer → IssuerKeys
 keys_of [] iss = None
 keys_of (issuer ∷ issuers) iss = if bytes_eq issuer.id iss then Some issuer.keys.keys else keys_of issuers iss
 
+-- the text of the configuration of each issuer whose chain was found
+abbrev pub IssuerTexts : Type 0
+IssuerTexts = Identifier → Option (List ℕ)
+
+-- the first of some issuers with this identifier
+abbrev pub text_of : List Issuer → IssuerTexts
+text_of [] iss = None
+text_of (issuer ∷ issuers) iss = if bytes_eq issuer.id iss then Some issuer.text else text_of issuers iss
+
+-- the configuration of the issuer of the mark that an entry's text reads as
+unfoldable pub config_of : IssuerTexts → MarkEntry → Option (List ℕ)
+config_of texts entry = option_and_then (λ mark. texts mark.iss) (mark_of entry.text)
+
+-- the configurations of the issuers of some marks: one for each mark, in their order
+abbrev pub AreConfigs : IssuerTexts → List MarkEntry → List (List ℕ) → Type 0
+AreConfigs texts marks configs = map Some configs ≡ map (config_of texts) marks
+
 -- ---- good marks
 
 -- by what a leaf's marks are judged: the leaf, the anchor's configuration, the keys of the issuers, and the moment

@@ -1,14 +1,15 @@
 -- What a reply claims, and its text (OpenID Federation 1.0 section 8.3.2).
-use Rattle.std.specs.Prelude.{◌≡◌, ℕ, List, [], ◌∷◌, ◌++◌, map, fold, min, codes, bytes_eq, Bool, Option, IsTrue}
+use Rattle.std.specs.Prelude.{◌≡◌, ◌<◌, ◌^◌, ℕ, List, [], ◌∷◌, ◌++◌, map, fold, min, codes, bytes_eq, Bool, not, if◌then◌else◌, Option, IsTrue}
 use Rattle.std.specs.List.{filter, list_all, list_any}
 use Rattle.std.specs.Option.{option_map_or}
-use Rattle.std.specs.Str.{is_utf8}
+use Rattle.std.specs.Str.{IsUtf8, is_utf8}
+use Rattle.fed_base.specs.Values.{◌>>=◌}
 use Rattle.fed_json.specs.declared.tree.Json.{Json, Text, Object, List as ListOf}
 use Rattle.fed_json.specs.declared.tree.Member.{Member}
 use Rattle.fed_json.specs.Forms.{IsWhole}
 use Rattle.fed_json.specs.Members.{number_member, text_member}
 use Rattle.fed_json.specs.Reading.{member_of}
-use Rattle.fed_json.specs.Trees.{object_members}
+use Rattle.fed_json.specs.Trees.{find, object_members, texts_of}
 use Rattle.sealed.specs.Sealing.{sealed_text}
 use Rattle.entity_statement.specs.Claims.{Identifier, mark_utf8}
 use Rattle.entity_statement.specs.declared.marks.MarkEntry.{MarkEntry}
@@ -69,6 +70,34 @@ pub record IsWritable (said : Said) : Type 0 where
   pub metadata : IsWhole said.metadata
   pub chain : IsTrue (list_all is_utf8 said.chain)
   pub marks : IsTrue (list_all mark_utf8 said.marks)
+
+-- these are the claims of a reply, and can be written as JSON with any end
+pub record SaysReply (claims : Json) : Type 0 where
+  pub iss : Identifier
+  pub said : Said
+  pub claims_are : claims ≡ reply_claims iss said
+  pub writable : IsWritable said
+  pub iat : said.iat < 2 ^ 64
+  pub iss_utf8 : IsUtf8 iss
+  pub sub_utf8 : IsUtf8 said.sub
+
+-- ---- the same claims with another end and other marks
+
+-- the member is not the claim of the marks
+abbrev pub is_unmarked : Member → Bool
+is_unmarked m = not (bytes_eq m.name (codes "trust_marks"))
+
+-- the member, where it is the claim `exp` with this end
+abbrev pub with_end : ℕ → Member → Member
+with_end exp m = if bytes_eq m.name (codes "exp") then number_member (codes "exp") exp else m
+
+-- the claims of a reply with this end and these marks (section 8.3.2)
+unfoldable pub resealed_claims : Json → ℕ → List MarkEntry → Json
+resealed_claims claims exp marks = Object (map (with_end exp) (filter is_unmarked (object_members claims)) ++ marks_member marks)
+
+-- the trust chain that claims carry, a list of texts (section 8.3.2, `trust_chain`)
+unfoldable pub chain_of : Json → Option (List (List ℕ))
+chain_of claims = find (codes "trust_chain") (object_members claims) >>= texts_of
 
 -- ---- texts
 

@@ -6,7 +6,7 @@ ghost use Rattle.fed_json.specs.Forms.{IsWhole};
 ghost use Rattle.fed_json.specs.Members.{number_member, text_member};
 ghost use Rattle.fed_json.specs.Reading.{member_of};
 ghost use Rattle.sealed.specs.Sealing.{IsObject};
-ghost use Rattle.resolve_reply.specs.Replies.{IsWritable, mark_tree, marks_member, reply_claims};
+ghost use Rattle.resolve_reply.specs.Replies.{IsWritable, SaysReply, mark_tree, marks_member, reply_claims};
 
 use crate::said::Said;
 use entity_id::EntityId;
@@ -22,6 +22,7 @@ pub(crate) fn reply_claims(alloc: Global, iss: &EntityId, said: Said) -> Result<
     ensures tree { IfOk result (λ tree. tree ≡ reply_claims iss.now said) }
     ensures object { IfOk result IsObject }
     ensures whole { IsWritable said → IfOk result IsWhole }
+    ensures says { IsWritable said → IfOk result SaysReply }
 {
     let mut members = times_and_issuer(alloc, said.exp, said.iat, iss.text())?;
     add(alloc, &mut members, b"metadata", said.metadata)?;
@@ -33,7 +34,11 @@ pub(crate) fn reply_claims(alloc: Global, iss: &EntityId, said: Said) -> Result<
 }
 
 // Adds the claim of the marks, where there is one.
-fn add_marks(alloc: Global, members: &mut Seq<Member>, marks: Seq<MarkEntry>) -> Result<(), Memory>
+pub(crate) fn add_marks(
+    alloc: Global,
+    members: &mut Seq<Member>,
+    marks: Seq<MarkEntry>,
+) -> Result<(), Memory>
     ensures { OnOk result (members.new ≡ members.old ++ marks_member marks) }
 {
     if marks.is_empty() {

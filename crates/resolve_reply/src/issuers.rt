@@ -8,7 +8,7 @@ ghost use Rattle.resolve_reply.specs.Looking.{added_once};
 
 use entity_id::EntityId;
 use entity_statement::{MarkEntry, Statement};
-use fed_base::{Duplicate, Memory, Seq};
+use fed_base::{Duplicate, Memory, Seq, Text};
 use jwk_set::JwkSet;
 use std::alloc::Global;
 use trust_mark::{Mark, admits, issuers_of, mark_of};
@@ -23,6 +23,8 @@ pub struct Issuer {
     pub id: EntityId,
     /// The keys of its configuration.
     pub keys: JwkSet,
+    /// Its configuration: the signed text with which its chain begins.
+    pub text: Text,
 }
 
 /// The issuers of a leaf's marks.

@@ -24,7 +24,7 @@ pub fn cut_to(alloc: Global, types: &Seq<Text>, metadata: Json) -> Json
 }
 
 // The members of an object.
-fn members_of(alloc: Global, tree: Json) -> Seq<Member>
+pub(crate) fn members_of(alloc: Global, tree: Json) -> Seq<Member>
     ensures { result ≡ object_members tree }
 {
     match tree {

@@ -26,10 +26,10 @@ use Rattle.resolve_round.proofs.LinkLaws.{counted-then}
 use Rattle.resolve_round.proofs.TraceLaws.{bad-good, check-more, prove-more, tested-good, with_check, with_prove}
 
 -- traces are equal where their parts are
-pub same-trace : (a b : Trace) → a.moment ≡ b.moment → a.epoch ≡ b.epoch → a.keys ≡ b.keys → a.searches ≡ b.searches → a.checks ≡ b.checks → a.events ≡ b.events → a ≡ b
-same-trace a b moment epoch keys searches checks events =
-    let e : record { moment = a.moment; epoch = a.epoch; keys = a.keys; searches = a.searches; checks = a.checks; events = a.events }
-    ≡ record { moment = b.moment; epoch = b.epoch; keys = b.keys; searches = b.searches; checks = b.checks; events = b.events } = cc in e
+pub same-trace : (a b : Trace) → a.moment ≡ b.moment → a.epoch ≡ b.epoch → a.keys ≡ b.keys → a.bounds ≡ b.bounds → a.searches ≡ b.searches → a.checks ≡ b.checks → a.events ≡ b.events → a ≡ b
+same-trace a b moment epoch keys bounds searches checks events =
+    let e : record { moment = a.moment; epoch = a.epoch; keys = a.keys; bounds = a.bounds; searches = a.searches; checks = a.checks; events = a.events }
+    ≡ record { moment = b.moment; epoch = b.epoch; keys = b.keys; bounds = b.bounds; searches = b.searches; checks = b.checks; events = b.events } = cc in e
 
 -- the answer of a test
 pub tested-answer : (compact : Compact) (public : List ℕ) (tested : Tested) → IsCompact compact.whole compact → IsTested compact public tested → IsAnswer (pair_of compact.whole public) (is_yes tested)
@@ -62,6 +62,7 @@ only-then first mid last one two = record {
   moment = two.moment ∙ one.moment;
   epoch = two.epoch ∙ one.epoch;
   keys = two.keys ∙ one.keys;
+  bounds = two.bounds ∙ one.bounds;
   searches = two.searches ∙ one.searches;
   looks = two.looks ∙ one.looks;
   puts = two.puts ∙ one.puts;
@@ -70,7 +71,7 @@ only-then first mid last one two = record {
 module _ (old : Trace) (url : List ℕ) (pair : Pair) where
   -- nothing was added
   pub only-none : (new : Trace) → new ≡ old → OnlyTests old new
-  only-none new same = subst (OnlyTests old) (sym same) (record { moment = refl; epoch = refl; keys = refl; searches = refl; looks = refl; puts = refl })
+  only-none new same = subst (OnlyTests old) (sym same) (record { moment = refl; epoch = refl; keys = refl; bounds = refl; searches = refl; looks = refl; puts = refl })
 
   pub true-none : (new : Trace) → new ≡ old → StaysTrue url pair old new
   true-none new same = subst (StaysTrue url pair old) (sym same) (λ age search may holds. holds)
@@ -93,7 +94,7 @@ module _ (old : Trace) (url : List ℕ) (pair : Pair) where
   is_check good searches keys may answer = record { url = url; obtained = may.obtained; named = may.named; answer = answer }
 
   pub only-check : (new : Trace) (good : Bool) → new ≡ with_check old (check_of pair good) → OnlyTests old new
-  only-check new good same = subst (OnlyTests old) (sym same) (record { moment = refl; epoch = refl; keys = refl; searches = refl; looks = refl; puts = refl })
+  only-check new good same = subst (OnlyTests old) (sym same) (record { moment = refl; epoch = refl; keys = refl; bounds = refl; searches = refl; looks = refl; puts = refl })
 
   pub true-check : (new : Trace) (good : Bool) → new ≡ with_check old (check_of pair good) → IsAnswer pair good → ¬ Among pair (map pair_in old.checks) → ¬ ShownByHit old.events pair → StaysTrue url pair old new
   true-check new good same answer fresh unshown =
@@ -116,6 +117,7 @@ module _ (old : Trace) (url : List ℕ) (pair : Pair) where
           moment = refl;
           epoch = refl;
           keys = refl;
+          bounds = refl;
           searches = refl;
           looks = filter_map-append look_in old.events (Shelf (Prove url pair) r ∷ []) ∙ append-nil (looks_in old.events);
           puts = filter_map-append put_in old.events (Shelf (Prove url pair) r ∷ []) ∙ append-nil (puts_in old.events);

@@ -38,6 +38,7 @@ pub record OnlyTests (old new : Trace) : Type 0 where
   pub moment : new.moment ≡ old.moment
   pub epoch : new.epoch ≡ old.epoch
   pub keys : new.keys ≡ old.keys
+  pub bounds : new.bounds ≡ old.bounds
   pub searches : new.searches ≡ old.searches
   pub looks : looks_in new.events ≡ looks_in old.events
   pub puts : puts_in new.events ≡ puts_in old.events

@@ -9,7 +9,7 @@ ghost use Rattle.resolve_round.specs.Walking.{Stumbled, Walked};
 
 use crate::trace::{Ask, Got, Search};
 use fed_base::{Duplicate, Memory, Text};
-use fed_ports::{Link, LinkFault};
+use fed_ports::{Link, LinkFault, Page};
 use std::alloc::Global;
 
 // The place of the ask of a URL, where it was asked.
@@ -17,6 +17,16 @@ pub(crate) fn place_of(asks: &[Ask], url: &[u8]) -> Option<usize>
     ensures { result ≡ position (λ ask. bytes_eq ask.url url.now) asks.now }
 {
     asks.iter().position(|ask| ask.url.as_slice() == url)
+}
+
+// The same page, of whose document all that is kept shares the bytes from now on.
+fn shared(alloc: Global, page: Page) -> Page
+    ensures { result ≡ page }
+{
+    match page {
+        Page::Document(text) => Page::Document(text.shared(alloc)),
+        page => page,
+    }
 }
 
 // Asks the link for a page, and adds what was got. The room is taken before the call.
@@ -50,7 +60,7 @@ pub(crate) fn fetch<L: Link>(
                 at,
                 Ask {
                     url: told,
-                    got: Got::Fetched(page),
+                    got: Got::Fetched(shared(alloc, page)),
                 },
             );
             search.calls += 1;

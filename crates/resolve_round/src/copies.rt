@@ -74,6 +74,7 @@ impl Duplicate for Trace {
             moment: self.moment,
             epoch: self.epoch,
             keys,
+            bounds: self.bounds,
             searches,
             checks,
             events,

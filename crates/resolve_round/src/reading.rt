@@ -28,13 +28,13 @@ pub fn text_got(got: &Got) -> Option<&Text>
 #[tactic(auto, unfolding(crate::specs::Pages::named_statement))]
 pub(crate) fn read_named(
     alloc: Global,
-    text: &[u8],
+    text: &Text,
     issuer: &EntityId,
     subject: &EntityId,
 ) -> Result<Option<SignedStatement>, Memory>
     ensures { IfOk result (IsNamedReading issuer.now subject.now text.now) }
 {
-    let Some(signed) = SignedStatement::read(alloc, text)? else {
+    let Some(signed) = SignedStatement::read_text(alloc, text)? else {
         return Ok(None);
     };
     if signed.statement.iss == *issuer && signed.statement.sub == *subject {
@@ -55,7 +55,7 @@ pub fn read_got(
     ensures { IfOk result (IsGotReading issuer.now subject.now (text_got got.now)) }
 {
     match text_got(got) {
-        Some(text) => read_named(alloc, text.as_slice(), issuer, subject),
+        Some(text) => read_named(alloc, text, issuer, subject),
         None => Ok(None),
     }
 }

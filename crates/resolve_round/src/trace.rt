@@ -1,5 +1,6 @@
 // What a resolver did.
 
+use chain_climb::Bounds;
 use entity_id::EntityId;
 use fed_base::{Seq, Text};
 use fed_ports::Page;
@@ -74,6 +75,8 @@ pub struct Trace {
     pub epoch: u64,
     /// The keys of the trust anchor.
     pub keys: JwkSet,
+    /// How far each round goes.
+    pub bounds: Bounds,
     /// The rounds, in their order.
     pub searches: Seq<Search>,
     /// The tests of signatures, in their order.

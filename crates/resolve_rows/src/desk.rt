@@ -7,17 +7,19 @@ use crate::names::{entity, words};
 use crate::pages::Shop;
 use crate::told::{outcome_told, rotated_told};
 use crate::words::{at, number};
+use chain_climb::Bounds;
 use entity_id::EntityId;
 use fed_base::{Duplicate, Ledger, Memory, Plain, Seq, Steps, Text};
 use fed_json::read_tree;
 use fed_net::{MemoryLink, NamedPage};
-use fed_resolver::{Outcome, resolve};
+use fed_resolver::{AnchorBounds, Outcome, resolve};
 use jwk_set::JwkSet;
 use resolve_reply::Signer;
 use resolve_round::ResolveRequest;
 use statement_shelf::{AnchorKeys, BookCall, Commons, FedPass};
 use std::alloc::Global;
 use std::sync::Wait;
+use std::thread::Threads;
 
 // How many calls a link answers.
 const CALLS: u64 = 1000;
@@ -26,6 +28,9 @@ const CALLS: u64 = 1000;
 const RESOLVER: u8 = 4;
 
 const AGE: u64 = 600;
+
+// By how many workers it signs.
+const WORKERS: u64 = 2;
 
 // The set of a key by its name.
 fn key_set(alloc: Global, shop: &mut Shop, key: &str) -> Result<JwkSet, Memory> {
@@ -100,13 +105,43 @@ fn failing(alloc: Global, given: &str) -> Result<Seq<u64>, Memory> {
     Ok(failing)
 }
 
+// The bounds that a part gives: an anchor, and how many statements of superiors, calls of the link and paths, with a space between two.
+fn anchor_bounds(alloc: Global, part: &str) -> Result<Option<AnchorBounds>, Memory> {
+    let mut words = part.split(' ');
+    let name = words.next().unwrap_or("");
+    let bounds = Bounds {
+        depth: number(words.next().unwrap_or("")),
+        calls: number(words.next().unwrap_or("")),
+        paths: number(words.next().unwrap_or("")),
+    };
+    match entity(alloc, name.as_bytes())? {
+        Some(anchor) => Ok(Some(AnchorBounds { anchor, bounds })),
+        None => Ok(None),
+    }
+}
+
+/// `bounds` and entries of anchors: the bounds of the calls behind it.
+pub(crate) fn bounds(alloc: Global, shop: &mut Shop, row: &str) -> Result<Text, Memory> {
+    let mut bounds = Seq::new(alloc);
+    for part in row.split('\t').skip(1) {
+        if let Some(entry) = anchor_bounds(alloc, part)? {
+            bounds.push(entry)?;
+        }
+    }
+    shop.bounds = bounds;
+    Text::of(alloc, b"bounds")
+}
+
 fn signer(alloc: Global, shop: &mut Shop) -> Result<Option<Signer>, Memory> {
+    let bounds = shop.bounds.copy(alloc)?;
     let keys = shop.keys.pair(Key::small(RESOLVER))?;
     match entity(alloc, b"resolver.example")? {
         Some(iss) => Ok(Some(Signer {
             iss,
             keys,
             age: AGE,
+            bounds,
+            workers: WORKERS,
         })),
         None => Ok(None),
     }
@@ -215,7 +250,7 @@ fn read_asked(
     }
 }
 
-fn call<R: Wait, G: Ledger>(
+fn call<R: Wait + Threads + Sync, G: Ledger>(
     rt: &R,
     alloc: Global,
     commons: &Commons,
@@ -236,7 +271,7 @@ fn call<R: Wait, G: Ledger>(
 }
 
 /// `resolve MOMENT SUB ANCHOR TYPES FAILING SHOWN`: what a resolver answers over the pages of a web.
-pub(crate) fn resolved<R: Wait>(
+pub(crate) fn resolved<R: Wait + Threads + Sync>(
     rt: &R,
     alloc: Global,
     shop: &mut Shop,

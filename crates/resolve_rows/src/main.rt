@@ -24,6 +24,7 @@ use statement_shelf::{Commons, FedPass};
 use std::alloc::Global;
 use std::io::{self, Print};
 use std::sync::Wait;
+use std::thread::Threads;
 use words::at;
 
 // What rows have made for those behind them.
@@ -40,6 +41,7 @@ fn make(alloc: Global, room: &mut Room, row: &str) -> Result<Text, Memory> {
         "states" => texts::statements(alloc, &mut room.shop, row),
         "mark" | "delegation" => texts::mark(alloc, &mut room.shop, row),
         "page" => texts::pages(alloc, &mut room.shop, row),
+        "bounds" => desk::bounds(alloc, &mut room.shop, row),
         "web" => {
             room.web = room.shop.web(alloc, at(row, 1))?;
             Text::of(alloc, b"a web")
@@ -49,7 +51,7 @@ fn make(alloc: Global, room: &mut Room, row: &str) -> Result<Text, Memory> {
 }
 
 // What is answered to a row.
-fn answer<R: Wait>(
+fn answer<R: Wait + Threads + Sync>(
     rt: &R,
     alloc: Global,
     room: &mut Room,
@@ -80,7 +82,7 @@ fn write<R: Print>(rt: &R, told: Result<Text, Memory>) -> io::Result<()> {
 }
 
 // Answers the row that a line is.
-fn step<R: Print + Wait>(
+fn step<R: Print + Wait + Threads + Sync>(
     rt: &R,
     alloc: Global,
     line: io::Result<String>,

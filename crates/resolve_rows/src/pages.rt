@@ -8,6 +8,7 @@ use crate::names::words;
 use fed_base::{Alg, Duplicate, Memory, Seq, Text};
 use fed_net::NamedPage;
 use fed_ports::Page;
+use fed_resolver::AnchorBounds;
 use sealed::seal_payload;
 use slh_dsa::{MOST_SIGNATURE_BYTES, signature_bytes};
 use std::alloc::Global;
@@ -23,6 +24,8 @@ struct Kept {
 #[derive(Drop)]
 pub(crate) struct Shop {
     pub keys: Keys,
+    /// How far the resolver's searches go.
+    pub bounds: Seq<AnchorBounds>,
     kept: Seq<Kept>,
 }
 
@@ -70,6 +73,7 @@ impl Shop {
     pub(crate) fn new(alloc: Global) -> Shop {
         Shop {
             keys: Keys::new(alloc),
+            bounds: Seq::new(alloc),
             kept: Seq::new(alloc),
         }
     }

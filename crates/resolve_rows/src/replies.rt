@@ -11,7 +11,7 @@ use fed_json::{
     Json, Member, count_below, find, is_whole, object_members, read_tree, text_at, write_tree,
 };
 use jws_form::{Compact, FormFault, split};
-use resolve_reply::{Reply, Signer};
+use resolve_reply::{Reply, Signer, chain_of};
 use sealed::{Tested, test_key};
 use std::alloc::Global;
 
@@ -114,7 +114,32 @@ fn add_seal(
     }
 }
 
-/// Adds what a word asks for: `chain`, `marks`, `times`, `seal`, or a claim by its name.
+// Adds what stands beside the text: the end of the chain, and whose the configurations are.
+fn add_beside(alloc: Global, out: &mut Text, reply: &Reply) -> Result<(), Memory> {
+    add_number(alloc, out, reply.chain_exp)?;
+    let configs = reply.configs.as_slice();
+    for config in configs {
+        add_text(alloc, out, config.as_slice())?;
+    }
+    if !configs.is_empty() {
+        out.pop();
+    }
+    Ok(())
+}
+
+// Adds the chain of the claims, whatever the length of the text.
+fn add_claimed(alloc: Global, out: &mut Text, reply: &Reply) -> Result<(), Memory> {
+    let Some(chain) = chain_of(alloc, &reply.claims)? else {
+        return Ok(());
+    };
+    for text in chain.as_slice() {
+        add_text(alloc, out, text.as_slice())?;
+    }
+    out.pop();
+    Ok(())
+}
+
+/// Adds what a word asks for: `beside`, `claimed`, `chain`, `marks`, `times`, `seal`, or a claim by its name.
 pub(crate) fn add_reply(
     alloc: Global,
     out: &mut Text,
@@ -124,6 +149,11 @@ pub(crate) fn add_reply(
 ) -> Result<(), Memory> {
     out.push(b';')?;
     add_word(out, word.as_bytes())?;
+    match word {
+        "beside" => return add_beside(alloc, out, reply),
+        "claimed" => return add_claimed(alloc, out, reply),
+        _ => {}
+    }
     let Ok(compact) = parts(alloc, reply.text.as_slice()) else {
         return add_word(out, b"no text");
     };

@@ -3,6 +3,7 @@
 use crate::names::name_of;
 use crate::replies::add_reply;
 use crate::words::{add_number, add_word};
+use chain_climb::Bounds;
 use fed_base::{Duplicate, Memory, Text};
 use fed_resolver::{Outcome, Refusal};
 use resolve_reply::Signer;
@@ -110,6 +111,14 @@ fn add_events(out: &mut Text, events: &[Event]) -> Result<(), Memory> {
     Ok(())
 }
 
+// Adds how far the rounds went.
+fn add_bounds(alloc: Global, out: &mut Text, bounds: &Bounds) -> Result<(), Memory> {
+    out.append(b"; bounds")?;
+    add_number(alloc, out, bounds.depth)?;
+    add_number(alloc, out, bounds.calls)?;
+    add_number(alloc, out, bounds.paths)
+}
+
 /// What a rotation of keys replied: its word, and the epoch.
 pub(crate) fn rotated_told(alloc: Global, reply: &Result<BookReply, Worn>) -> Result<Text, Memory> {
     let Ok(reply) = reply else {
@@ -133,6 +142,7 @@ fn add_shown(
     match (word, &outcome.result) {
         ("", _) => Ok(()),
         ("events", _) => add_events(out, outcome.trace.events.as_slice()),
+        ("bounds", _) => add_bounds(alloc, out, &outcome.trace.bounds),
         (_, Ok(reply)) => add_reply(alloc, out, reply, signer, word),
         (_, Err(_)) => Ok(()),
     }

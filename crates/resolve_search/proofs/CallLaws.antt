@@ -97,7 +97,7 @@ module _ {L : Type 0} (view : LinkView L) (old mid new : L) (before between afte
 pub keeps-none : {R G A : Type 0} → (count : G → ℕ) (age : ℕ) (search : Search) (call : Call R G) (value : A) → IsReady age call search → Keeps count age search call call (Ok value)
 keeps-none count age search call value ready = record {
   acts = acted-none call ready.of;
-  same = record { moment = refl; epoch = refl; keys = refl; searches = refl };
+  same = record { moment = refl; epoch = refl; keys = refl; bounds = refl; searches = refl };
   counted = counts-none call.trace.now.checks call.trace.now.checks _ _ refl refl;
   holds = ready.holds;
   good = ready.good;
@@ -107,7 +107,7 @@ keeps-none count age search call value ready = record {
 pub keeps-stop : {R G A : Type 0} → (count : G → ℕ) (age : ℕ) (search : Search) (call : Call R G) → IsReady age call search → Keeps {A = A} count age search call call (Err halt.Memory)
 keeps-stop count age search call ready = record {
   acts = (acted-none call ready.of, tt);
-  same = record { moment = refl; epoch = refl; keys = refl; searches = refl };
+  same = record { moment = refl; epoch = refl; keys = refl; bounds = refl; searches = refl };
   counted = counts-none call.trace.now.checks call.trace.now.checks _ _ refl refl;
   holds = ready.holds;
   good = tt;
@@ -131,7 +131,7 @@ judged-keeps count age search old new value other ready judges =
     let only = judges.tests.only in
     record {
       acts = judges.tests.acts;
-      same = record { moment = only.moment; epoch = only.epoch; keys = only.keys; searches = only.searches };
+      same = record { moment = only.moment; epoch = only.epoch; keys = only.keys; bounds = only.bounds; searches = only.searches };
       counted = judges.tests.counted;
       holds = judges.holds;
       good = judges.good ready.good;
@@ -142,7 +142,7 @@ judged-err count age search old new cause judges =
     let only = judges.tests.only in
     record {
       acts = judges.tests.acts;
-      same = record { moment = only.moment; epoch = only.epoch; keys = only.keys; searches = only.searches };
+      same = record { moment = only.moment; epoch = only.epoch; keys = only.keys; bounds = only.bounds; searches = only.searches };
       counted = judges.tests.counted;
       holds = judges.holds;
       good = tt;

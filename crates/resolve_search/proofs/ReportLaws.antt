@@ -115,7 +115,7 @@ module _ (aim : Aim) (issuer subject : Identifier) (url : List ℕ) (old mid : P
 
 -- only events were added
 pub same-call : (old new : Trace) → OnlyEvents old new → SameCall old new
-same-call old new only = subst (SameCall old) (sym only) (record { moment = refl; epoch = refl; keys = refl; searches = refl })
+same-call old new only = subst (SameCall old) (sym only) (record { moment = refl; epoch = refl; keys = refl; bounds = refl; searches = refl })
 
 pub same-checks : (old new : Trace) → OnlyEvents old new → new.checks ≡ old.checks
 same-checks old new only = ap (λ (t : Trace). t.checks) only
@@ -125,7 +125,7 @@ module _ (old mid new : Trace) (only : OnlyEvents old mid) (tests : OnlyTests mi
   pub same-tested : SameCall old new
   same-tested =
       let same = same-call old mid only in
-      record { moment = tests.moment ∙ same.moment; epoch = tests.epoch ∙ same.epoch; keys = tests.keys ∙ same.keys; searches = tests.searches ∙ same.searches }
+      record { moment = tests.moment ∙ same.moment; epoch = tests.epoch ∙ same.epoch; keys = tests.keys ∙ same.keys; bounds = tests.bounds ∙ same.bounds; searches = tests.searches ∙ same.searches }
 
   pub puts-tested : (more put : List Kept) → AddsPuts more old.events mid.events → more ≡ put → puts_in new.events ≡ puts_in old.events ++ put
   puts-tested more put adds same = tests.puts ∙ adds.puts ∙ ap (λ l. puts_in old.events ++ l) same
@@ -135,4 +135,4 @@ module _ (old mid new : Trace) (only : OnlyEvents old mid) where
   pub same-got : SameCall mid new → SameCall old new
   same-got later =
       let same = same-call old mid only in
-      record { moment = later.moment ∙ same.moment; epoch = later.epoch ∙ same.epoch; keys = later.keys ∙ same.keys; searches = later.searches ∙ same.searches }
+      record { moment = later.moment ∙ same.moment; epoch = later.epoch ∙ same.epoch; keys = later.keys ∙ same.keys; bounds = later.bounds ∙ same.bounds; searches = later.searches ∙ same.searches }

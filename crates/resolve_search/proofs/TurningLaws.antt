@@ -67,7 +67,7 @@ use Rattle.resolve_round.proofs.TraceLaws.{ask-good, ask-more}
 -- ---- an answer to a page
 
 pub call-then : (start mid now : Trace) → SameCall start mid → SameCall mid now → SameCall start now
-call-then start mid now one two = record { moment = two.moment ∙ one.moment; epoch = two.epoch ∙ one.epoch; keys = two.keys ∙ one.keys; searches = two.searches ∙ one.searches }
+call-then start mid now one two = record { moment = two.moment ∙ one.moment; epoch = two.epoch ∙ one.epoch; keys = two.keys ∙ one.keys; bounds = two.bounds ∙ one.bounds; searches = two.searches ∙ one.searches }
 
 unhit_more : (b : Bool) (n : ℕ) → b ≡ false → n ≡ 0 → one_if b n ≡ 0
 unhit_more true n nay none = absurd (true≢false nay)
@@ -113,7 +113,7 @@ module _ (aim : Aim) (start : Trace) (p : Point) (s : Searched) (under : IsUnder
   tests-step = record {
     needs = under.needs;
     drives = drives-tests aim (query_at aim start) start s under.needs p under.drives now tests;
-    call = call-then start p.trace now under.call (record { moment = tests.moment; epoch = tests.epoch; keys = tests.keys; searches = tests.searches });
+    call = call-then start p.trace now under.call (record { moment = tests.moment; epoch = tests.epoch; keys = tests.keys; bounds = tests.bounds; searches = tests.searches });
     leaf = under.leaf;
     anchor = under.anchor;
     bounds = under.bounds;
@@ -417,7 +417,7 @@ begin-under aim start = record {
     looks = no_look-more aim.looks (looks_in start.events);
     puts = sym (append-nil (puts_in start.events));
   };
-  call = record { moment = refl; epoch = refl; keys = refl; searches = refl };
+  call = record { moment = refl; epoch = refl; keys = refl; bounds = refl; searches = refl };
   leaf = refl;
   anchor = refl;
   bounds = refl;

@@ -30,6 +30,7 @@ pub record SameCall (old new : Trace) : Type 0 where
   pub moment : new.moment ≡ old.moment
   pub epoch : new.epoch ≡ old.epoch
   pub keys : new.keys ≡ old.keys
+  pub bounds : new.bounds ≡ old.bounds
   pub searches : new.searches ≡ old.searches
 
 -- the link was called for what was got

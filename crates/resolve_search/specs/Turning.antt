@@ -109,6 +109,7 @@ pub record SameBut (old new : Trace) : Type 0 where
   pub moment : new.moment ≡ old.moment
   pub epoch : new.epoch ≡ old.epoch
   pub keys : new.keys ≡ old.keys
+  pub bounds : new.bounds ≡ old.bounds
   pub searches : (new.searches ≡ old.searches) ⊎ ((search : Search) × AddsRound old search new)
 
 -- the round that was added ended so

@@ -16,7 +16,7 @@ ghost use Rattle.resolve_round.specs.Testing.{KeepsKnown, StaysProved, StaysTrue
 use chain_check::{Judged, Reason, Resolved, Screened, Tried, Verdict, judge_candidate, screen};
 use entity_statement::SignedStatement;
 use fed_base::{Duplicate, Ledger, Memory, Seq, Text};
-use jws_form::{Compact, FormFault, split};
+use jws_form::{Compact, FormFault, split_text};
 use resolve_round::{Aim, Ask, Call, Halt, Search, text_got, verifies};
 use sealed::Sealed;
 use std::alloc::Global;
@@ -129,7 +129,7 @@ fn compact_of(alloc: Global, text: &Text) -> Result<Compact, Memory>
     requires { IsOk (splitting text.now) }
     ensures { IfOk result (λ compact. IsCompact text.now compact) }
 {
-    match split(alloc, text.as_slice()) {
+    match split_text(alloc, text) {
         Ok(compact) => Ok(compact),
         Err(fault) => match fault {
             FormFault::Memory => Err(Memory),

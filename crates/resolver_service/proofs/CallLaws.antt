@@ -2,6 +2,7 @@
 use Rattle.std.proofs.Common.{◌≡◌, ◌≤◌, List, length, true, false, Option, Some, None, IfOk, Result, Ok, Err, sym, ap, ◌∙◌, subst}
 use Rattle.std.proofs.lemmas.Result.{IfOk-weaker}
 use Rattle.fed_ports.specs.Exchanges.{Exchange}
+use Rattle.fed_ports.specs.Times.{ClockAt, IsOneReading}
 use Rattle.http_plain.specs.declared.link.HttpLink.{HttpLink}
 use Rattle.http_plain.specs.declared.route.Route.{Route}
 use Rattle.http_plain.specs.Links.{Listening, link_network, link_routes}
@@ -25,16 +26,18 @@ use Rattle.fed_resolver.specs.declared.outcome.Outcome.{Outcome}
 use Rattle.fed_resolver.specs.declared.outcome.Refusal.{Refusal}
 use Rattle.fed_resolver.specs.declared.outcome.Refusal.TheVariants.{NoAnchor, NotFound, PolicyOnly, NoChain, Unavailable, Budget, Worn, Memory}
 use Rattle.fed_resolver.specs.Calls.{WornOnly}
-use Rattle.fed_resolver.specs.Told.{situation_of}
+use Rattle.fed_resolver.specs.Outcomes.{Tells}
+use Rattle.fed_resolver.specs.Told.{Situation, situation_of}
+use Rattle.fed_serve.specs.Desks.{NetworkAt}
 use Rattle.node_files.specs.declared.fault.NodeFault.{NodeFault}
 use Rattle.node_files.specs.declared.fault.NodeFault.TheVariants as fault
 use Rattle.node_files.specs.NodeFiles.{Answers, IsNodeOf, IsResolver}
 use Rattle.node_files.specs.declared.parts.Parts.{Parts}
 use Rattle.resolver_service.specs.Alone.{ResolvesAlone}
-use Rattle.resolver_service.specs.Calls.{Around, At, HasNoCall, HoldsWorn, IsCallBy, Question, is_worn}
+use Rattle.resolver_service.specs.Calls.{At, HasNoCall, HoldsWorn, IsCallBy, Question, around, is_worn}
 use Rattle.resolver_service.specs.Exchanged.{ExchangedBy}
 use Rattle.resolver_service.specs.Calls.{HasKeys}
-use Rattle.resolver_service.specs.CallSteps.{IsCallWith}
+use Rattle.resolver_service.specs.CallSteps.{IsCallAt}
 use Rattle.node_files.specs.ResolvingParts.{ArePartsOf}
 
 -- ---- the network is put back
@@ -84,16 +87,30 @@ sealed-live : (result : Result Reply Refusal) (ring : Ring) (pair keys : Keys) �
 sealed-live result ring pair keys signs same = IfOk-weaker result _ _
     (λ reply sealed short. subst (λ ks. IsSealedFor ks reply.text) same sealed (live_set ring) (record { short = short; named = signer_named ring pair signs }))
 
-pub call-by : (node : Node) (parts : Parts) (request : ResolveRequest) (before now : Around) (outcome : Outcome) (are : ArePartsOf node parts) → IsCallWith parts request before now outcome
-    → IsCallBy node are.resolver request before now outcome
-call-by node parts request before now outcome are call = record {
+told-bounds : (here : Situation) (signer : Signer) (outcome : Outcome) (result : Result Reply Refusal) → Tells here signer outcome result → outcome.trace.bounds ≡ here.bounds
+told-bounds here signer outcome (Ok reply) tells = tells.told.base.bounds
+told-bounds here signer outcome (Err NoAnchor) tells = tells.told.base.bounds
+told-bounds here signer outcome (Err NotFound) tells = tells.told.base.bounds
+told-bounds here signer outcome (Err PolicyOnly) tells = tells.told.base.bounds
+told-bounds here signer outcome (Err NoChain) tells = tells.told.base.bounds
+told-bounds here signer outcome (Err Unavailable) tells = tells.told.base.bounds
+told-bounds here signer outcome (Err (Budget calls paths)) tells = tells.told.base.bounds
+told-bounds here signer outcome (Err (Worn count)) tells = tells.bounds
+told-bounds here signer outcome (Err Memory) tells = tells.bounds
+
+-- a call by the parts of a node, at the moment that one reading of the clock gave, is one of this node
+pub call-by : {P : Type 0} (node : Node) (parts : Parts) (request : ResolveRequest) (first last : ClockAt) (before now : NetworkAt P) (outcome : Outcome) (are : ArePartsOf node parts)
+    → IsOneReading first last → IsCallAt parts request last.last before now outcome
+    → IsCallBy node are.resolver request (around first before.exchanges before.faults) (around last now.exchanges now.faults) outcome
+call-by node parts request first last before now outcome are reading call = record {
   pair = are.keys;
   signs = are.signs;
-  clock = call.clock;
+  clock = reading;
   anchors = parts.anchors;
   listed = are.listed;
-  alone = subst (λ (s : Signer). ResolvesAlone (situation_of request s.age now.clock.last) s parts.anchors outcome) are.signer call.told.alone;
+  alone = subst (λ (s : Signer). ResolvesAlone (situation_of request s last.last) s parts.anchors outcome) are.signer call.told.alone;
   keys = subst (λ listed. HasKeys listed outcome.trace.keys.keys outcome.result) (are.anchors request.anchor) call.told.keys;
+  bounds = told-bounds (situation_of request parts.signer last.last) parts.signer outcome outcome.result call.told.alone.resolves.tells ∙ are.bounds request.anchor;
   exchanges = subst (λ routes. ExchangedBy routes (asks_in outcome.trace.searches) before.exchanges now.exchanges outcome.result) are.routes call.exchanges;
   faults = call.fails.faults;
   unavailable = call.fails.unavailable;

@@ -77,7 +77,7 @@ module _ {P L C G : Type 0} where
       pass = (subst (λ o. IfSome o (λ (p : ResolverPart). IsKept p.commons old.pass new.pass)) has served.kept).of;
       worn = λ e.
           let told = told_worn served.told (sym (ap is_worn served.result) ∙ e) in
-          let w = served.serves.worn told.0 told.1 in
+          let w = (served.serves.worn told.0 told.1).is in
           subst (λ k. HasCounted k call_limit) (knows (known new.pass) new.link new.steps.ledger) (counted node _ _ _ _ w.handling told.0 w.uses w.worn);
     }
 

@@ -84,7 +84,7 @@ serves_adds node walks before now (Ok served) serves = let is = serves.answered 
 serves_adds node walks before now (Err Ended) serves = unknown before.call.known now.call.known (ap (λ (c : CallAt). c.known) (serves.silent (inl refl)).call)
 serves_adds node walks before now (Err ReadFault) serves = unknown before.call.known now.call.known (ap (λ (c : CallAt). c.known) (serves.silent (inr refl)).call)
 serves_adds node walks before now (Err WriteFault) serves = let is = serves.cut refl in uses_adds node walks now.clock.last before.call now.call is.handling is.handled.uses
-serves_adds node walks before now (Err (Worn count)) serves = let is = serves.worn count refl in uses_adds node walks now.clock.last before.call now.call is.handling is.uses
+serves_adds node walks before now (Err (Worn count)) serves = let is = (serves.worn count refl).is in uses_adds node walks now.clock.last before.call now.call is.handling is.uses
 
 -- ---- one object among all
 

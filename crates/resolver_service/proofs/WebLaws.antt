@@ -212,7 +212,7 @@ Completes =
 
 module _ (in_part : InPart) (node : Node) (resolver : Resolver) (request : ResolveRequest) (before now : Around) (outcome : Outcome) (call : IsCallBy node resolver request before now outcome) where
   abbrev here : Situation
-  here = situation_of request resolver.age now.clock.last
+  here = situation_of request (signer_of node resolver call.pair) now.clock.last
 
   abbrev signer : Signer
   signer = signer_of node resolver call.pair

@@ -20,14 +20,15 @@ use Rattle.fed_resolver.specs.Told.{situation_of}
 use Rattle.fed_resolver.specs.Uses.{CountsFaults}
 use Rattle.node_files.specs.declared.parts.Parts.{Parts}
 use Rattle.resolver_service.specs.Alone.{ResolvesAlone}
-use Rattle.resolver_service.specs.Calls.{Around, HasKeys}
+use Rattle.fed_serve.specs.Desks.{NetworkAt}
+use Rattle.resolver_service.specs.declared.call.OpenCall.{OpenCall}
+use Rattle.resolver_service.specs.Calls.{HasKeys}
 use Rattle.resolver_service.specs.Exchanged.{ExchangedBy}
 use Rattle.node_files.specs.ResolvingParts.{booked_keys}
-use Rattle.fed_ports.specs.Times.{IsOneReading}
 
 -- what one call tells of its trace at a moment, by the keys that its book was opened with
 pub record TellsBy (signer : Signer) (anchors : List AnchorKeys) (request : ResolveRequest) (moment : ℕ) (outcome : Outcome) : Type 0 where
-  pub alone : ResolvesAlone (situation_of request signer.age moment) signer anchors outcome
+  pub alone : ResolvesAlone (situation_of request signer moment) signer anchors outcome
   pub keys : HasKeys (booked_keys request.anchor anchors) outcome.trace.keys.keys outcome.result
   pub sealed : IfOk outcome.result (λ reply. IsSealedFor signer.keys reply.text)
 
@@ -36,11 +37,13 @@ pub record FailsBy (outcome : Outcome) (before now : ℕ) : Type 0 where
   pub faults : CountsFaults outcome.trace.searches before now
   pub unavailable : outcome.result ≡ Err Unavailable → Rose before now
 
--- one call by these parts
-pub record IsCallWith (parts : Parts) (request : ResolveRequest) (before now : Around) (outcome : Outcome) : Type 0 where
-  pub clock : IsOneReading before.clock now.clock
-  pub told : TellsBy parts.signer parts.anchors request now.clock.last outcome
+-- one call by these parts at a moment, over a network before it and after it
+pub record IsCallAt {P : Type 0} (parts : Parts) (request : ResolveRequest) (moment : ℕ) (before now : NetworkAt P) (outcome : Outcome) : Type 0 where
+  -- the result is the one that the trace calls for, and the trace is true
+  pub told : TellsBy parts.signer parts.anchors request moment outcome
+  -- what was got is what the exchanges of this call say
   pub exchanges : ExchangedBy parts.routes (asks_in outcome.trace.searches) before.exchanges now.exchanges outcome.result
+  -- the network fails only where a round had a fault
   pub fails : FailsBy outcome before.faults now.faults
 
 module _ {S V Q T W U : Type 0} where
@@ -50,3 +53,9 @@ module _ {S V Q T W U : Type 0} where
     pub of : IsPassOfAll commons pass
     pub unused : IsUnused pass
     pub whole : OwnsEach pass
+
+-- a call of these parts is ready: its cache is empty, its book has their anchors, and nothing was done
+pub record IsOpenCall {N : Type 0} (parts : Parts) (call : OpenCall N) : Type 0 where
+  pub signer : call.signer ≡ parts.signer
+  pub routes : call.routes ≡ parts.routes
+  pub new : IsNew call.commons parts.anchors call.pass

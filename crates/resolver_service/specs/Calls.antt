@@ -8,7 +8,7 @@ use Rattle.jws_form.specs.Compact.{max_bytes}
 use Rattle.sealed.specs.Seals.{IsSealedBy}
 use Rattle.slh_dsa.specs.Keys.{Keys}
 use Rattle.key_ring.specs.Sets.{live_set, signer_keys}
-use Rattle.node_config.specs.Nodes.{Resolver}
+use Rattle.node_config.specs.Nodes.{Resolver, entity_of}
 use Rattle.authority_core.specs.Nodes.{Node}
 use Rattle.turn_log.specs.Runs.{call_limit}
 use Rattle.turn_log.specs.Groups.{known}
@@ -29,7 +29,7 @@ use Rattle.node_files.specs.Moments.{NodeAt}
 use Rattle.node_files.specs.NodeFiles.{Counts, IsNodeOf, IsResolver}
 use Rattle.resolver_service.specs.Alone.{ResolvesAlone}
 use Rattle.resolver_service.specs.Exchanged.{ExchangedBy}
-use Rattle.node_files.specs.ResolvingParts.{configured_keys, signer_of, told_anchor}
+use Rattle.node_files.specs.ResolvingParts.{booked_entity, configured_bounds, configured_keys, signer_of}
 
 -- the name of a node's configuration file, and what is asked of the node
 pub record Question : Type 0 where
@@ -67,10 +67,12 @@ pub record IsCallBy (node : Node) (resolver : Resolver) (request : ResolveReques
   -- at the moment that it gave, the result is the one that the trace calls for, and the trace is true; no other call was made on the
   -- cache and the book, which were opened empty and with the anchors of the configuration
   pub anchors : List AnchorKeys
-  pub listed : map told_anchor anchors ≡ resolver.anchors
-  pub alone : ResolvesAlone (situation_of request resolver.age now.clock.last) (signer_of node resolver pair) anchors outcome
+  pub listed : map booked_entity anchors ≡ map entity_of resolver.anchors
+  pub alone : ResolvesAlone (situation_of request (signer_of node resolver pair) now.clock.last) (signer_of node resolver pair) anchors outcome
   -- the keys are those that the configuration gives the anchor
   pub keys : HasKeys (configured_keys request.anchor resolver.anchors) outcome.trace.keys.keys outcome.result
+  -- its searches go as far as the configuration sets for the anchor
+  pub bounds : outcome.trace.bounds ≡ configured_bounds request.anchor resolver.anchors
   -- what was got is what the exchanges of this call say
   pub exchanges : ExchangedBy resolver.routes (asks_in outcome.trace.searches) before.exchanges now.exchanges outcome.result
   -- the network fails only where a round had a fault

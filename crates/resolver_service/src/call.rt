@@ -1,15 +1,16 @@
 // One call.
 
-ghost use Rattle.std.specs.Prelude.{◌≡◌, IfOk, List, None, OnErr};
+ghost use Rattle.std.specs.Prelude.{◌≡◌, IfOk, List, None};
 ghost use Rattle.turn_log.specs.Groups.{known};
 ghost use Rattle.statement_shelf.specs.declared.calls.AnchorKeys.{AnchorKeys};
 ghost use Rattle.resolve_round.specs.Traces.{asks_in};
 ghost use Rattle.fed_resolver.specs.Calls.{GaveAll, WornOnly};
 ghost use Rattle.node_files.specs.Moments.{node_seen};
+ghost use Rattle.node_files.specs.declared.parts.Parts.{Parts};
 ghost use Rattle.resolver_service.specs.Calls.{HoldsWorn, ResolvesOnce, WornBy, is_worn};
-ghost use Rattle.resolver_service.specs.CallSteps.{FailsBy, IsCallWith, IsNew, TellsBy};
+ghost use Rattle.resolver_service.specs.CallSteps.{FailsBy, IsCallAt, IsNew, IsOpenCall, TellsBy};
 ghost use Rattle.resolver_service.specs.Exchanged.{ExchangedBy};
-ghost use Rattle.resolver_service.specs.Ports.{call_seen, listening_seen};
+ghost use Rattle.resolver_service.specs.Ports.{call_seen, listening_seen, network_seen};
 
 use fed_base::{Memory, Plain, Seq, Steps, Text};
 use fed_ports::{Clock, Link, Network, Store};
@@ -21,6 +22,7 @@ use statement_shelf::{Commons, FedPass};
 use std::alloc::Global;
 use std::mem::replace;
 use std::sync::Wait;
+use std::thread::Threads;
 
 // What is asked, of which cache and book, who signs the reply, and the moment.
 #[derive(Drop)]
@@ -33,10 +35,25 @@ struct Asked<'a, R> {
     moment: u64,
 }
 
+/// A resolve call that is ready: all memory is taken that is needed before it begins. Only `resolve_at` uses it.
+#[derive(Drop)]
+pub struct OpenCall<N> {
+    /// An empty cache, and the book of the trust anchors that the parts name.
+    pub commons: Commons,
+    /// The pass to both, which has seen nothing.
+    pub pass: FedPass,
+    /// Who signs the reply.
+    pub signer: Signer,
+    /// Where hosts are reached.
+    pub routes: Seq<Route>,
+    /// What stands in the network's place during the call.
+    pub another: N,
+}
+
 /// What the node of a configuration file answers to a request for an entity's resolved metadata, with the trace of what it did (OpenID
 /// Federation 1.0 section 8.3), or why there is no such node. It reads the clock once, and keeps nothing: its cache is empty at first, and
 /// its keys of trust anchors are those of the configuration. `worn` has the pass where a shared object has counted 2^62 calls.
-pub fn resolve_once<R: Wait, D: Store, N: Network + Drop, C: Clock>(
+pub fn resolve_once<R: Wait + Threads + Sync, D: Store, N: Network + Drop, C: Clock>(
     rt: &R,
     alloc: Global,
     config: &Text,
@@ -59,26 +76,15 @@ pub fn resolve_once<R: Wait, D: Store, N: Network + Drop, C: Clock>(
     let parts = parts_of(alloc, &registry);
     drop(registry);
     let parts = parts?;
-    let outcome = call_with(rt, alloc, parts, request, net, clock, worn)?;
-    Ok(outcome)
+    let call = open_call(alloc, parts, net)?;
+    // The clock is read once all memory is taken that is needed before the call.
+    let moment = clock.now();
+    Ok(resolve_at(rt, alloc, call, request, moment, net, worn))
 }
 
-// One call by the parts of a node. The clock is read once all memory is taken that is needed before the call.
-fn call_with<R: Wait, N: Network + Drop, C: Clock>(
-    rt: &R,
-    alloc: Global,
-    parts: Parts,
-    request: &ResolveRequest,
-    net: &mut N,
-    clock: &mut C,
-    worn: &mut Option<FedPass>,
-) -> Result<Outcome, Memory>
-    requires { worn.old ≡ None }
-    ensures call { IfOk result (IsCallWith parts request.now
-        (call_seen N.Network C.Clock net.old clock.old) (call_seen N.Network C.Clock net.new clock.new)) }
-    ensures worn { IfOk result (λ outcome. HoldsWorn outcome.result worn.new) }
-    ensures unasked { OnErr result ((net.new ≡ net.old) × (clock.new ≡ clock.old) × (worn.new ≡ worn.old)) }
-    ensures still { listening_seen N.Network net.new ≡ listening_seen N.Network net.old }
+/// Makes a resolve call by the parts of a node ready, over this network.
+pub fn open_call<N: Network>(alloc: Global, parts: Parts, net: &N) -> Result<OpenCall<N>, Memory>
+    ensures { IfOk result (IsOpenCall parts) }
 {
     let Parts {
         signer,
@@ -88,19 +94,55 @@ fn call_with<R: Wait, N: Network + Drop, C: Clock>(
         workers: _,
     } = parts;
     drop(control);
-    let (commons, mut pass) = Commons::new(alloc, anchors)?;
+    let (commons, pass) = Commons::new(alloc, anchors)?;
     let another = net.another(alloc)?;
+    Ok(OpenCall {
+        commons,
+        pass,
+        signer,
+        routes,
+        another,
+    })
+}
+
+/// What a node of these parts answers to a request for an entity's resolved metadata, at a moment in seconds since 1970, with the trace of
+/// what it did (OpenID Federation 1.0 section 8.3). `worn` has the pass where a shared object has counted 2^62 calls.
+pub fn resolve_at<R: Wait + Threads + Sync, N: Network + Drop>(
+    rt: &R,
+    alloc: Global,
+    call: OpenCall<N>,
+    request: &ResolveRequest,
+    moment: u64,
+    net: &mut N,
+    worn: &mut Option<FedPass>,
+) -> Outcome
+    requires none { worn.old ≡ None }
+    requires ready { (parts : Parts) × IsOpenCall parts call }
+    // It is the call that those parts make.
+    ensures call { (parts : Parts) → IsOpenCall parts call
+        → IsCallAt parts request.now moment (network_seen N.Network net.old) (network_seen N.Network net.new) result }
+    ensures worn { HoldsWorn result.result worn.new }
+    // The network listens as before, and nobody was accepted or settled.
+    ensures still { listening_seen N.Network net.new ≡ listening_seen N.Network net.old }
+{
+    let OpenCall {
+        commons,
+        mut pass,
+        signer,
+        routes,
+        another,
+    } = call;
     let asked = Asked {
         rt,
         alloc,
         commons: &commons,
         signer: &signer,
         request,
-        moment: clock.now(),
+        moment,
     };
     let outcome = call_over(&asked, &mut pass, routes, another, net);
     hold_worn(&outcome, pass, worn);
-    Ok(outcome)
+    outcome
 }
 
 // Hands the pass out where a shared object was worn.
@@ -121,7 +163,7 @@ fn is_worn(outcome: &Outcome) -> bool
 }
 
 // One call over the network, in whose place another stands meanwhile.
-fn call_over<R: Wait, N: Network + Drop>(
+fn call_over<R: Wait + Threads + Sync, N: Network + Drop>(
     asked: &Asked<R>,
     pass: &mut FedPass,
     routes: Seq<Route>,
@@ -144,7 +186,11 @@ fn call_over<R: Wait, N: Network + Drop>(
 }
 
 // One call over a link, by a pass that is alone.
-fn call_alone<R: Wait, L: Link>(asked: &Asked<R>, pass: &mut FedPass, link: &mut L) -> Outcome
+fn call_alone<R: Wait + Threads + Sync, L: Link>(
+    asked: &Asked<R>,
+    pass: &mut FedPass,
+    link: &mut L,
+) -> Outcome
     requires { (anchors : List AnchorKeys) × IsNew asked.now.commons.now anchors pass.old }
     ensures told { (anchors : List AnchorKeys) → IsNew asked.now.commons.now anchors pass.old
         → TellsBy asked.now.signer.now anchors asked.now.request.now asked.now.moment result }

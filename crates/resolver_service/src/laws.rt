@@ -35,7 +35,7 @@ pub fn hits()
 pub fn one_round()
     ensures { (node : Node) (resolver : Resolver) (request : AnyRequest) (before now : Around) (outcome : AnyOutcome)
         → (call : IsCallBy node resolver request before now outcome)
-        → (whole : IsWhole (situation_of request resolver.age now.clock.last) (signer_of node resolver call.pair) outcome)
+        → (whole : IsWhole (situation_of request (signer_of node resolver call.pair) now.clock.last) (signer_of node resolver call.pair) outcome)
         → HasOneRound whole.told.base.leaf }
 {}
 
@@ -44,7 +44,7 @@ pub fn one_round()
 pub fn webs()
     ensures speaks { (node : Node) (resolver : Resolver) (request : AnyRequest) (before now : Around) (outcome : AnyOutcome)
         → (call : IsCallBy node resolver request before now outcome) → (web : Web) → ShowsWeb resolver.routes before now web → IsAnswered outcome.result
-        → SpeaksFor (situation_of request resolver.age now.clock.last) (signer_of node resolver call.pair) web outcome }
+        → SpeaksFor (situation_of request (signer_of node resolver call.pair) now.clock.last) (signer_of node resolver call.pair) web outcome }
     // What the cache gave is the web's too.
     ensures agrees { (node : Node) (resolver : Resolver) (request : AnyRequest) (before now : Around) (outcome : AnyOutcome)
         → IsCallBy node resolver request before now outcome → (web : Web) → ShowsWeb resolver.routes before now web → IsAnswered outcome.result

@@ -17,6 +17,6 @@ mod server;
 mod service;
 mod stop;
 
-pub use call::resolve_once;
+pub use call::{OpenCall, open_call, resolve_at, resolve_once};
 pub use ending::ResolverEnd;
 pub use service::serve_resolver;

@@ -3,6 +3,7 @@ use Rattle.std.proofs.Common.{◌≤◌, ℕ, List, codes, cond, not, lit≤, Bo
 use Rattle.std.specs.Prelude.{Option, Some, None, Result, Ok, Err}
 use Rattle.std.specs.Result.{result_ok}
 use Rattle.hex.specs.Hex.{decode_sized}
+use Rattle.fed_base.specs.declared.algorithm.Alg.{Alg}
 use Rattle.fed_json.specs.declared.tree.Json.{Json}
 use Rattle.fed_json.specs.Forms.{whole}
 use Rattle.fed_json.specs.Reading.{tree_in}
@@ -19,17 +20,17 @@ use Rattle.ring_commands.specs.Replies.{plain, bad_input, refused}
 use Rattle.ring_commands.specs.Rotations.{add_reply, by_fault, change_reply, of_new_seeds}
 use Rattle.ring_commands.specs.declared.reply.Reply.{Reply}
 
-pub keygen_small : (at exp : ℕ) (text : List ℕ) → (keygen_reply at exp text).status ≤ 2
+pub keygen_small : (alg : Alg) (at exp : ℕ) (text : List ℕ) → (keygen_reply alg at exp text).status ≤ 2
 unfolding keygen_reply
-keygen_small at exp text = of_digits (result_ok (decode_sized text 48))
+keygen_small alg at exp text = of_digits (result_ok (decode_sized text 48))
   where
-    of_file : (seeds : List ℕ) (file : Result (List ℕ) RingFault) → (made seeds file).status ≤ 2
+    of_file : (seeds : List ℕ) (file : Result (List ℕ) RingFault) → (made alg seeds file).status ≤ 2
     of_file seeds (Ok file) = lit≤ tt
     of_file seeds (Err fault) = lit≤ tt
 
-    of_digits : (seeds : Option (List ℕ)) → (of_seeds at exp seeds).status ≤ 2
+    of_digits : (seeds : Option (List ℕ)) → (of_seeds alg at exp seeds).status ≤ 2
     of_digits None = lit≤ tt
-    of_digits (Some seeds) = of_file seeds (first_text seeds at exp)
+    of_digits (Some seeds) = of_file seeds (first_text alg seeds at exp)
 
 pub change_small : (ring : Ring) (change : Change) (line : List ℕ) → (change_reply ring change line).status ≤ 2
 unfolding change_reply
@@ -44,13 +45,13 @@ change_small ring change line = of_fault (fault_of ring change)
     of_fault (Some StoreFault) = lit≤ tt
     of_fault (Some Memory) = lit≤ tt
 
-pub add_small : (ring : Ring) (at exp : ℕ) (text : List ℕ) → (add_reply ring at exp text).status ≤ 2
+pub add_small : (ring : Ring) (alg : Alg) (at exp : ℕ) (text : List ℕ) → (add_reply ring alg at exp text).status ≤ 2
 unfolding add_reply
-add_small ring at exp text = of_digits (result_ok (decode_sized text 48))
+add_small ring alg at exp text = of_digits (result_ok (decode_sized text 48))
   where
-    of_digits : (seeds : Option (List ℕ)) → (of_new_seeds ring at exp seeds).status ≤ 2
+    of_digits : (seeds : Option (List ℕ)) → (of_new_seeds ring alg at exp seeds).status ≤ 2
     of_digits None = lit≤ tt
-    of_digits (Some seeds) = change_small ring (add_key seeds at exp) (kid_added seeds)
+    of_digits (Some seeds) = change_small ring (add_key alg seeds at exp) (kid_added alg seeds)
 
 pub issue_small : (keys : Keys) (typ : TextType) (text : List ℕ) → (issue_reply keys typ text).status ≤ 2
 unfolding issue_reply of_tree of_object sealed_reply

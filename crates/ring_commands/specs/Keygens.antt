@@ -1,7 +1,8 @@
--- What `keygen` makes of the seeds of a key (FIPS 205 Algorithm 18) and the moments that it is for.
+-- What `keygen` makes of the algorithm and the seeds of a key (FIPS 205 Algorithm 18) and the moments that it is for.
 use Rattle.std.specs.Prelude.{ℕ, List, [], ◌∷◌, ◌++◌, codes, Option, Some, None, Result, Ok, Err}
 use Rattle.std.specs.Result.{result_ok}
 use Rattle.hex.specs.Hex.{decode_sized}
+use Rattle.fed_base.specs.declared.algorithm.Alg.{Alg}
 use Rattle.fed_json.specs.Compact.{compact}
 use Rattle.jwk_set.specs.Trees.{own_tree}
 use Rattle.sealed.specs.Sealing.{signer_key, signer_name}
@@ -17,15 +18,15 @@ unfoldable pub public_line : Keys → List ℕ
 public_line keys = compact (own_tree (signer_name keys) keys.alg (signer_key keys)) ++ 10 ∷ []
 
 -- the key is kept in a ring of its own, where its moments are in their order
-abbrev pub made : List ℕ → Result (List ℕ) RingFault → Reply
-made seeds (Ok file) = record { status = 0; text = public_line (ring_pair seeds); kept = Some file }
-made seeds (Err fault) = refused (codes "Order")
+abbrev pub made : Alg → List ℕ → Result (List ℕ) RingFault → Reply
+made alg seeds (Ok file) = record { status = 0; text = public_line (ring_pair alg seeds); kept = Some file }
+made alg seeds (Err fault) = refused (codes "Order")
 
 -- the same of the seeds, where the input has them
-abbrev pub of_seeds : ℕ → ℕ → Option (List ℕ) → Reply
-of_seeds at exp None = bad_input
-of_seeds at exp (Some seeds) = made seeds (first_text seeds at exp)
+abbrev pub of_seeds : Alg → ℕ → ℕ → Option (List ℕ) → Reply
+of_seeds alg at exp None = bad_input
+of_seeds alg at exp (Some seeds) = made alg seeds (first_text alg seeds at exp)
 
 -- the input is 96 hexadecimal digits of either case
-unfoldable pub keygen_reply : ℕ → ℕ → List ℕ → Reply
-keygen_reply at exp input = of_seeds at exp (result_ok (decode_sized input 48))
+unfoldable pub keygen_reply : Alg → ℕ → ℕ → List ℕ → Reply
+keygen_reply alg at exp input = of_seeds alg at exp (result_ok (decode_sized input 48))

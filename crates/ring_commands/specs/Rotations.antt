@@ -2,6 +2,7 @@
 use Rattle.std.specs.Prelude.{◌≡◌, ℕ, List, [], ◌∷◌, ◌++◌, codes, Option, Some, None}
 use Rattle.std.specs.Result.{result_ok}
 use Rattle.hex.specs.Hex.{decode_sized}
+use Rattle.fed_base.specs.declared.algorithm.Alg.{Alg}
 use Rattle.key_ring.specs.Changes.{Change, add_key, after, fault_of, kid_added}
 use Rattle.key_ring.specs.Files.{ring_text}
 use Rattle.key_ring.specs.Rings.{Ring}
@@ -33,11 +34,11 @@ by_fault None changed line = record { status = 0; text = line ++ 10 ∷ []; kept
 unfoldable pub change_reply : Ring → Change → List ℕ → Reply
 change_reply ring change line = by_fault (fault_of ring change) (after ring change) line
 
--- a new key of these seeds, where the input has them; the line is its name (RFC 7638)
-abbrev pub of_new_seeds : Ring → ℕ → ℕ → Option (List ℕ) → Reply
-of_new_seeds ring at exp None = bad_input
-of_new_seeds ring at exp (Some seeds) = change_reply ring (add_key seeds at exp) (kid_added seeds)
+-- a new key of that algorithm and these seeds, where the input has them; the line is its name (RFC 7638)
+abbrev pub of_new_seeds : Ring → Alg → ℕ → ℕ → Option (List ℕ) → Reply
+of_new_seeds ring alg at exp None = bad_input
+of_new_seeds ring alg at exp (Some seeds) = change_reply ring (add_key alg seeds at exp) (kid_added alg seeds)
 
 -- the input is 96 hexadecimal digits of either case
-unfoldable pub add_reply : Ring → ℕ → ℕ → List ℕ → Reply
-add_reply ring at exp input = of_new_seeds ring at exp (result_ok (decode_sized input 48))
+unfoldable pub add_reply : Ring → Alg → ℕ → ℕ → List ℕ → Reply
+add_reply ring alg at exp input = of_new_seeds ring alg at exp (result_ok (decode_sized input 48))

@@ -15,25 +15,26 @@ use plain_notes::Notes;
 use slh_dsa::KeyPair;
 use std::alloc::Global;
 
-/// The ring file of a key of the seeds that the input has, for these moments, and its public key as a JWK.
+/// The ring file of a key of that algorithm and the seeds that the input has, for these moments, and its public key as a JWK.
 #[tactic(auto, unfolding(crate::specs::Keygens::keygen_reply))]
 pub fn keygen(
     alloc: Global,
+    alg: Alg,
     at: Moment,
     exp: Moment,
     input: &[u8],
     notes: &mut Notes,
 ) -> Result<Reply, Memory>
-    ensures { IfOk result (λ reply. reply ≡ keygen_reply at exp input.now) }
+    ensures { IfOk result (λ reply. reply ≡ keygen_reply alg at exp input.now) }
 {
     let Ok(seeds) = <[u8; 48]>::from_hex(input) else {
         explain_seeds(alloc, input, notes);
         return plain(alloc, 2, b"input\n");
     };
-    match first_file(alloc, &seeds, at.seconds(), exp.seconds()) {
+    match first_file(alloc, alg, &seeds, at.seconds(), exp.seconds()) {
         Ok(file) => Ok(Reply {
             status: 0,
-            text: public_line(alloc, &KeyPair::from_seeds(Alg::Small, &seeds))?,
+            text: public_line(alloc, &KeyPair::from_seeds(alg, &seeds))?,
             kept: Some(file),
         }),
         Err(RingFault::Memory) => Err(Memory),

@@ -22,21 +22,26 @@ use fed_ports::{Memory, Text};
 use fed_words::TextType;
 use jwk_set::thumbprint;
 use plain_notes::Notes;
-use sealed::seal_payload;
+use sealed::seal_signed;
+use sign_many::Workers;
 use slh_dsa::KeyPair;
 use std::alloc::Global;
+use std::thread::Threads;
 use trust_mark::{Mark, MarkFault, delegation_of_claims};
 
 // The most bytes that claims may have as compact JSON.
 const MOST_CLAIMS: usize = 179_000;
 
-/// The text of that type that the signer seals the claims in the input as, on its own line. A text of at most 262,144 bytes is sealed by
-/// each set in which the signer's key has its thumbprint.
+/// The text of that type that the signer seals the claims in the input as, on its own line, with a signature by so many workers, which are
+/// taken as 1 where they are 0 and as 16 where they are more. A text of at most 262,144 bytes is sealed by each set in which the signer's
+/// key has its thumbprint.
 #[tactic(auto, unfolding(crate::specs::Issues::issue_reply, crate::specs::Issues::of_tree))]
-pub fn issue(
+pub fn issue<R: Threads + Sync>(
+    rt: &R,
     alloc: Global,
     signer: &KeyPair,
     typ: TextType,
+    workers: u64,
     input: Text,
     notes: &mut Notes,
 ) -> Result<Reply, Memory>
@@ -49,7 +54,7 @@ pub fn issue(
         Err(TreeFault::Syntax) => return plain(alloc, 2, b"input\n"),
     };
     if is_object(&tree) {
-        seal_claims(alloc, signer, typ, tree, notes)
+        seal_claims(rt, alloc, signer, typ, workers, tree, notes)
     } else {
         plain(alloc, 2, b"input\n")
     }
@@ -73,10 +78,12 @@ fn is_object(tree: &Json) -> bool
 
 // The same of claims that are an object.
 #[tactic(auto, unfolding(crate::specs::Issues::of_object, crate::specs::Issues::sealed_reply))]
-fn seal_claims(
+fn seal_claims<R: Threads + Sync>(
+    rt: &R,
     alloc: Global,
     signer: &KeyPair,
     typ: TextType,
+    workers: u64,
     tree: Json,
     notes: &mut Notes,
 ) -> Result<Reply, Memory>
@@ -101,7 +108,8 @@ fn seal_claims(
         return plain(alloc, 1, b"refused Form\n");
     }
     let typ = typ.name(alloc)?;
-    let mut text = seal_payload(alloc, signer, &typ, payload.as_slice())?;
+    let by = Workers { rt, count: workers };
+    let mut text = seal_signed(alloc, signer, &typ, payload.as_slice(), &by)?;
     text.push(b'\n')?;
     Ok(Reply {
         status: 0,

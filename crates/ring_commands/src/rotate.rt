@@ -7,7 +7,7 @@ ghost use Rattle.ring_commands.specs.Rotations.{IsRefusedAs, add_reply, change_r
 
 use crate::reply::{Reply, plain};
 use fed_notes::{explain_change, explain_seeds};
-use fed_ports::{Memory, MemoryStore, Seq, Text};
+use fed_ports::{Alg, Memory, MemoryStore, Seq, Text};
 use fed_words::Moment;
 use hex::FromHex;
 use key_ring::{KeyRing, RevokeReason, RingFault};
@@ -22,20 +22,21 @@ fn blank_store(alloc: Global) -> Result<MemoryStore, Memory> {
     MemoryStore::new(alloc, Seq::new(alloc), ROOM, false, &[], 1)
 }
 
-/// The name of the key of the seeds in the input, which is added to the ring for these moments.
+/// The name of the key of that algorithm and the seeds in the input, which is added to the ring for these moments.
 #[tactic(auto, unfolding(crate::specs::Rotations::add_reply))]
 pub fn add(
     alloc: Global,
     ring: KeyRing,
+    alg: Alg,
     at: Moment,
     exp: Moment,
     input: &[u8],
     notes: &mut Notes,
 ) -> Result<Reply, Memory>
-    ensures { IfOk result (λ reply. reply ≡ add_reply ring at exp input.now) }
+    ensures { IfOk result (λ reply. reply ≡ add_reply ring alg at exp input.now) }
 {
     match <[u8; 48]>::from_hex(input) {
-        Ok(seeds) => add_key(alloc, ring, &seeds, at, exp, notes),
+        Ok(seeds) => add_key(alloc, ring, alg, &seeds, at, exp, notes),
         Err(_) => {
             explain_seeds(alloc, input, notes);
             plain(alloc, 2, b"input\n")
@@ -46,16 +47,25 @@ pub fn add(
 fn add_key(
     alloc: Global,
     mut ring: KeyRing,
+    alg: Alg,
     seeds: &[u8; 48],
     at: Moment,
     exp: Moment,
     notes: &mut Notes,
 ) -> Result<Reply, Memory>
-    ensures { IfOk result (λ reply. reply ≡ change_reply ring (add_key seeds.now at exp) (kid_added seeds.now)) }
+    ensures { IfOk result (λ reply. reply ≡ change_reply ring (add_key alg seeds.now at exp) (kid_added alg seeds.now)) }
 {
     let mut store = blank_store(alloc)?;
     let name = Text::new(alloc);
-    match ring.rotate(alloc, &mut store, &name, seeds, at.seconds(), exp.seconds()) {
+    match ring.rotate(
+        alloc,
+        &mut store,
+        &name,
+        alg,
+        seeds,
+        at.seconds(),
+        exp.seconds(),
+    ) {
         Ok(kid) => changed(alloc, kid, store.file(b"")),
         Err(fault) => refused(alloc, &fault, notes),
     }

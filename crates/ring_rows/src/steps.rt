@@ -3,7 +3,7 @@
 ghost use Rattle.fed_json.specs.Forms.{IsWhole};
 
 use crate::terms::add_terms;
-use crate::words::{add, add_fault, cut, cut_word, moment, reason, seeds};
+use crate::words::{add, add_fault, algorithm, cut, cut_word, moment, reason, seeds};
 use base64url::encode_32;
 use fed_base::{Memory, Seq, Text};
 use fed_json::{Json, write_tree};
@@ -15,12 +15,19 @@ use std::alloc::Global;
 // The room of a store, in bytes.
 const ROOM: usize = 40_000;
 
-/// The file of a new ring: its seeds, and the moments that it is for.
+/// The file of a new ring: the algorithm and the seeds of its key, and the moments that it is for.
 pub fn first(alloc: Global, given: &str) -> Result<Text, Memory> {
+    let (alg, given) = cut(given);
     let (digits, given) = cut(given);
     let (at, exp) = cut(given);
     let mut out = Text::new(alloc);
-    match first_file(alloc, &seeds(digits), moment(at), moment(exp)) {
+    match first_file(
+        alloc,
+        algorithm(alg),
+        &seeds(digits),
+        moment(at),
+        moment(exp),
+    ) {
         Ok(file) => add(&mut out, file.as_slice())?,
         Err(fault) => add_fault(alloc, &mut out, &fault)?,
     }
@@ -110,10 +117,19 @@ fn add_key(
     given: &str,
     out: &mut Text,
 ) -> Result<(), Memory> {
+    let (alg, given) = cut_word(given);
     let (digits, given) = cut_word(given);
     let (at, exp) = cut_word(given);
     let name = Text::of(alloc, b"r")?;
-    match ring.rotate(alloc, store, &name, &seeds(digits), moment(at), moment(exp)) {
+    match ring.rotate(
+        alloc,
+        store,
+        &name,
+        algorithm(alg),
+        &seeds(digits),
+        moment(at),
+        moment(exp),
+    ) {
         Ok(kid) => add(out, kid.as_slice()),
         Err(fault) => add_fault(alloc, out, &fault),
     }

@@ -3,7 +3,7 @@
 ghost use Rattle.std.specs.Prelude.{◌<◌};
 ghost use Rattle.fed_base.specs.Moments.{moment_limit};
 
-use fed_base::{Duplicate, MOMENT_LIMIT, Memory, Text};
+use fed_base::{Alg, Duplicate, MOMENT_LIMIT, Memory, Text};
 use hex::FromHex;
 use key_ring::{OrderFault, RevokeReason, RingFault};
 use std::alloc::Global;
@@ -23,6 +23,15 @@ pub(crate) fn moment(digits: &str) -> u64
     ensures { result < moment_limit }
 {
     digits.parse::<u64>().unwrap_or(0) % MOMENT_LIMIT
+}
+
+/// The algorithm that the word says.
+pub(crate) fn algorithm(word: &str) -> Alg {
+    if word == "128f" {
+        Alg::Fast
+    } else {
+        Alg::Small
+    }
 }
 
 /// The seeds that the digits say.

@@ -6,7 +6,7 @@ use Rattle.fed_base.specs.declared.faults.Memory.{Memory as NoMemory}
 use Rattle.fed_json.specs.declared.tree.Json.{Json}
 use Rattle.fed_json.specs.Compact.{compact}
 use Rattle.jws_form.specs.declared.compact.Compact.{Compact}
-use Rattle.jws_form.specs.Compact.{IsCompact, joined, max_bytes, signing_input_of}
+use Rattle.jws_form.specs.Compact.{IsCompact, IsJoined, joined, max_bytes, signing_input_of}
 use Rattle.jws_form.proofs.Laws.{IsCompact-unique}
 use Rattle.jwk_set.specs.declared.jwk.Jwk.{Jwk}
 use Rattle.jwk_set.specs.KeySets.{key_named}
@@ -17,7 +17,7 @@ use Rattle.sealed.specs.declared.fault.SealFault.{SealFault}
 use Rattle.sealed.specs.declared.fault.SealFault.TheVariants.{NoKid, NoKey, BadSignature, Memory}
 use Rattle.sealed.specs.Answers.{IsChecked, Decides}
 use Rattle.sealed.specs.Seals.{Pair, IsSealed, IsUnsealed, IsSealedBy, named_key}
-use Rattle.sealed.specs.Sealing.{HasParts, IsSealedFor, header_of, sealed_payload, signature_by, signed_of, signer_key, signer_name}
+use Rattle.sealed.specs.Sealing.{HasParts, IsSealedFor, IsSignedAs, header_of, sealed_payload, signature_by, signed_of, signer_key, signer_name}
 
 -- ---- a text is one compact text
 
@@ -98,4 +98,19 @@ parted (Ok text) keys alg typ kid payload signed signature same named splits = �
   typed = refl;
   named = ap Some named;
   says = refl;
+}
+
+-- a text of any length holds its parts, of which the signature verifies
+pub signed_as : (r : Result (List ℕ) NoMemory) (keys : Keys) (alg : Alg) (typ kid payload signed signature : List ℕ) → alg ≡ keys.alg → kid ≡ signer_name keys
+    → IfOk r (λ text. IsJoined text (compact_of alg text typ kid payload signed signature)) → Verifies keys.alg (signer_key keys) signed signature
+    → IfOk r (IsSignedAs keys typ payload)
+signed_as (Err e) keys alg typ kid payload signed signature same named joins verifies = tt
+signed_as (Ok text) keys alg typ kid payload signed signature same named joins verifies = record {
+  parts = compact_of alg text typ kid payload signed signature;
+  joins = joins;
+  signed_in = same;
+  typed = refl;
+  named = ap Some named;
+  says = refl;
+  verifies = verifies;
 }

@@ -4,7 +4,7 @@ use Rattle.fed_base.specs.declared.algorithm.Alg.{Alg}
 use Rattle.fed_json.specs.declared.tree.Json.{Json, Object}
 use Rattle.fed_json.specs.Compact.{compact}
 use Rattle.jws_form.specs.declared.compact.Compact.{Compact}
-use Rattle.jws_form.specs.Compact.{IsCompact, max_bytes, signing_input_of, joined}
+use Rattle.jws_form.specs.Compact.{IsCompact, IsJoined, max_bytes, signing_input_of, joined}
 use Rattle.jws_form.specs.Header.{algorithm}
 use Rattle.fed_json.specs.Members.{text_member}
 use Rattle.fed_json.specs.Trees.{as_object}
@@ -14,6 +14,7 @@ use Rattle.jwk_set.specs.Thumbprints.{thumbprint_of}
 use Rattle.slh_dsa.specs.Algorithms.{set_of}
 use Rattle.slh_dsa.specs.Keys.{Keys, public_key}
 use Rattle.slh_dsa.specs.Signing.{signature_of}
+use Rattle.slh_dsa.specs.Verifying.{Verifies}
 use Rattle.sealed.specs.Seals.{IsSealedBy}
 
 -- the claims are an object (RFC 7519 section 4)
@@ -67,3 +68,14 @@ pub record IsSealable (keys : Keys) (text : List ℕ) (set : List Jwk) : Type 0 
 -- the text is sealed by each such set (RFC 7515 section 5.2)
 abbrev pub IsSealedFor : Keys → List ℕ → Type 0
 IsSealedFor keys text = (set : List Jwk) → IsSealable keys text set → IsSealedBy text set
+
+-- the text, whatever its length, is a header with its signer's algorithm, this type and its signer's name, this payload, and a signature
+-- over both that verifies under its signer's key (RFC 7515 sections 5.1 and 5.2)
+pub record IsSignedAs (keys : Keys) (typ payload text : List ℕ) : Type 0 where
+  pub parts : Compact
+  pub joins : IsJoined text parts
+  pub signed_in : parts.alg ≡ keys.alg
+  pub typed : parts.typ ≡ Some typ
+  pub named : parts.kid ≡ Some (signer_name keys)
+  pub says : parts.payload ≡ payload
+  pub verifies : Verifies keys.alg (signer_key keys) parts.signed parts.signature

@@ -8,11 +8,13 @@
 mod fault;
 mod pairs;
 mod sealing;
+mod signs;
 mod tested;
 mod testing;
 
 pub use fault::SealFault;
 pub use pairs::{Sealed, Unsealed};
-pub use sealing::{seal, seal_payload};
+pub use sealing::{seal, seal_payload, seal_signed};
+pub use signs::{Alone, Signs};
 pub use tested::Tested;
 pub use testing::{check_sealed, is_sealed, test_key};

@@ -7,13 +7,14 @@ ghost use Rattle.fed_json.specs.Compact.{compact};
 ghost use Rattle.fed_json.specs.Reading.{tree_in};
 ghost use Rattle.jws_form.specs.Compact.{max_bytes};
 ghost use Rattle.jws_form.specs.Header.{IsHeader};
-ghost use Rattle.sealed.specs.Sealing.{HasParts, IsObject, IsSealedFor, header_of, sealed_payload, sealed_text};
+ghost use Rattle.sealed.specs.Sealing.{HasParts, IsObject, IsSealedFor, IsSignedAs, header_of, sealed_payload, sealed_text};
 
+use crate::signs::{Alone, Signs};
 use fed_base::{Alg, Memory, Seq, Text};
 use fed_json::{Json, text_member, write_tree};
 use jwk_set::thumbprint;
 use jws_form::{algorithm_name, join, signing_input};
-use slh_dsa::{KeyPair, MOST_SIGNATURE_BYTES, sign, signature_bytes};
+use slh_dsa::{KeyPair, MOST_SIGNATURE_BYTES, signature_bytes};
 use std::alloc::Global;
 
 /// Signs claims as a text of that type (RFC 7515 section 5.1): [`seal_payload`] of the claims as compact JSON, which read
@@ -25,6 +26,7 @@ pub fn seal(alloc: Global, keys: &KeyPair, typ: &Text, claims: &Json) -> Result<
     ensures text { IfOk result (λ text. text ≡ sealed_text keys.now typ.now claims.now) }
     ensures sealed { IfOk result (IsSealedFor keys.now) }
     ensures splits { IfOk result (λ text. length text ≤ max_bytes → HasParts keys.now typ.now (compact claims.now) text) }
+    ensures signed { IfOk result (IsSignedAs keys.now typ.now (compact claims.now)) }
     ensures reads_back { IfOk result (λ _. nesting claims.now ≤ 127 → tree_in (compact claims.now) ≡ Some claims.now) }
 {
     let payload = write_tree(alloc, claims)?;
@@ -44,6 +46,25 @@ pub fn seal_payload(
     ensures text { IfOk result (λ text. text ≡ sealed_payload keys.now typ.now payload.now) }
     ensures sealed { IfOk result (IsSealedFor keys.now) }
     ensures splits { IfOk result (λ text. length text ≤ max_bytes → HasParts keys.now typ.now payload.now text) }
+    ensures signed { IfOk result (IsSignedAs keys.now typ.now payload.now) }
+{
+    seal_signed(alloc, keys, typ, payload, &Alone)
+}
+
+/// As [`seal_payload`], with the signature made as the caller wants it: the header, what is signed, and the text around it.
+pub fn seal_signed<S: Signs>(
+    alloc: Global,
+    keys: &KeyPair,
+    typ: &Text,
+    payload: &[u8],
+    signer: &S,
+) -> Result<Text, Memory>
+    requires typ { IsUtf8 typ.now }
+    requires ready { S.ready signer.now }
+    ensures text { IfOk result (λ text. text ≡ sealed_payload keys.now typ.now payload.now) }
+    ensures sealed { IfOk result (IsSealedFor keys.now) }
+    ensures splits { IfOk result (λ text. length text ≤ max_bytes → HasParts keys.now typ.now payload.now text) }
+    ensures signed { IfOk result (IsSignedAs keys.now typ.now payload.now) }
 {
     let alg = keys.alg();
     let kid = thumbprint(alloc, alg, &keys.public())?;
@@ -51,7 +72,7 @@ pub fn seal_payload(
     let signed = signing_input(alloc, &header, payload)?;
     let mut buffer = [0; MOST_SIGNATURE_BYTES];
     let signature = &mut buffer[..signature_bytes(alg)];
-    sign(keys, signed.as_slice(), signature);
+    signer.sign(keys, signed.as_slice(), signature);
     join(alloc, &signed, signature)
 }
 

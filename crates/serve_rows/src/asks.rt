@@ -12,6 +12,7 @@ use fed_serve::{Kind, Node, ServeFault, Served, serve_one};
 use statement_shelf::Commons;
 use std::alloc::Global;
 use std::sync::Wait;
+use std::thread::Threads;
 
 // The moment of the rows that give none.
 const MOMENT: u64 = 7;
@@ -55,7 +56,7 @@ fn answered(alloc: Global, answer: &Result<Served, ServeFault>) -> Result<Text, 
 }
 
 // Serves a peer by a node that doesn't resolve, so that it uses neither the pass nor the link that it is handed.
-fn serve_alone<R: Wait, P: Peer>(
+fn serve_alone<R: Wait + Threads + Sync, P: Peer>(
     rt: &R,
     alloc: Global,
     node: &Node,
@@ -74,7 +75,7 @@ fn serve_alone<R: Wait, P: Peer>(
 }
 
 // Serves a peer at a moment: what was answered, how often the clock was read, and how many signatures were tested.
-fn served<R: Wait, P: Peer>(
+fn served<R: Wait + Threads + Sync, P: Peer>(
     rt: &R,
     alloc: Global,
     node: &Node,
@@ -101,7 +102,7 @@ fn served<R: Wait, P: Peer>(
 }
 
 // The same, and what the peer was given.
-fn served_in_memory<R: Wait>(
+fn served_in_memory<R: Wait + Threads + Sync>(
     rt: &R,
     alloc: Global,
     node: &Node,
@@ -114,7 +115,7 @@ fn served_in_memory<R: Wait>(
 }
 
 /// `ask MOMENT BYTES`: what is answered at a moment to these bytes, and written.
-pub(crate) fn ask<R: Wait>(
+pub(crate) fn ask<R: Wait + Threads + Sync>(
     rt: &R,
     alloc: Global,
     node: &Node,
@@ -127,7 +128,7 @@ pub(crate) fn ask<R: Wait>(
 }
 
 /// `pieces MOST BYTES`: the same where each reading gives, and each writing takes, at most so many bytes.
-pub(crate) fn pieces<R: Wait>(
+pub(crate) fn pieces<R: Wait + Threads + Sync>(
     rt: &R,
     alloc: Global,
     node: &Node,
@@ -143,7 +144,7 @@ pub(crate) fn pieces<R: Wait>(
 }
 
 /// `reads NUMBER BYTES`: the same where the reading of that number fails.
-pub(crate) fn reads<R: Wait>(
+pub(crate) fn reads<R: Wait + Threads + Sync>(
     rt: &R,
     alloc: Global,
     node: &Node,
@@ -156,7 +157,7 @@ pub(crate) fn reads<R: Wait>(
 }
 
 /// `writes ROOM BYTES`: the same where the peer takes so many bytes and then fails.
-pub(crate) fn writes<R: Wait>(
+pub(crate) fn writes<R: Wait + Threads + Sync>(
     rt: &R,
     alloc: Global,
     node: &Node,
@@ -170,7 +171,12 @@ pub(crate) fn writes<R: Wait>(
 }
 
 // Whether these bytes are told as ended, with nothing written and no reading of the clock.
-fn is_ended<R: Wait>(rt: &R, alloc: Global, node: &Node, sent: &[u8]) -> Result<bool, Memory> {
+fn is_ended<R: Wait + Threads + Sync>(
+    rt: &R,
+    alloc: Global,
+    node: &Node,
+    sent: &[u8],
+) -> Result<bool, Memory> {
     let mut peer = MemoryPeer::new(alloc, sent, ROOM, &[], &[], 1000)?;
     let told = served(rt, alloc, node, MOMENT, &mut peer)?;
     Ok(told.as_slice() == b"Ended clock 0 tests 0".as_slice() && peer.as_slice().is_empty())
@@ -178,7 +184,7 @@ fn is_ended<R: Wait>(rt: &R, alloc: Global, node: &Node, sent: &[u8]) -> Result<
 
 /// `cut BYTES`: how often the bytes are told as ended, with nothing written and no reading of the clock, where they are cut before each of
 /// them in turn, and how many they are.
-pub(crate) fn cut_short<R: Wait>(
+pub(crate) fn cut_short<R: Wait + Threads + Sync>(
     rt: &R,
     alloc: Global,
     node: &Node,
@@ -205,7 +211,7 @@ fn counted(alloc: Global, word: &[u8], n: u64, all: usize) -> Result<Text, Memor
 }
 
 // Whether a reading that fails, behind so many that give one byte each, is told as that, with nothing written and no reading of the clock.
-fn reading_fails<R: Wait>(
+fn reading_fails<R: Wait + Threads + Sync>(
     rt: &R,
     alloc: Global,
     node: &Node,
@@ -219,7 +225,7 @@ fn reading_fails<R: Wait>(
 
 /// `each-reading BYTES`: how often a fault of reading is told, with nothing written and no reading of the clock, where the bytes are read
 /// one by one and the reading of each of them in turn fails, and how many they are.
-pub(crate) fn each_reading<R: Wait>(
+pub(crate) fn each_reading<R: Wait + Threads + Sync>(
     rt: &R,
     alloc: Global,
     node: &Node,
@@ -237,14 +243,19 @@ pub(crate) fn each_reading<R: Wait>(
 }
 
 // What is written where each writing takes one byte.
-fn answer_of<R: Wait>(rt: &R, alloc: Global, node: &Node, sent: &[u8]) -> Result<Text, Memory> {
+fn answer_of<R: Wait + Threads + Sync>(
+    rt: &R,
+    alloc: Global,
+    node: &Node,
+    sent: &[u8],
+) -> Result<Text, Memory> {
     let mut peer = Pieces::new(alloc, sent, 1, ROOM, &[], &[])?;
     drop(served(rt, alloc, node, MOMENT, &mut peer)?);
     Text::of(alloc, peer.as_slice())
 }
 
 // Whether a writing that fails, behind those that take these first bytes of the answer one by one, is told as that, with these written.
-fn writing_fails<R: Wait>(
+fn writing_fails<R: Wait + Threads + Sync>(
     rt: &R,
     alloc: Global,
     node: &Node,
@@ -258,7 +269,7 @@ fn writing_fails<R: Wait>(
 
 /// `each-writing BYTES`: how often a fault of writing is told, with the answer's bytes before it written, where the answer is taken byte by
 /// byte and the writing of each of them in turn fails, and how many it has.
-pub(crate) fn each_writing<R: Wait>(
+pub(crate) fn each_writing<R: Wait + Threads + Sync>(
     rt: &R,
     alloc: Global,
     node: &Node,

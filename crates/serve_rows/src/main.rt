@@ -17,10 +17,11 @@ use fed_serve::Node;
 use std::alloc::Global;
 use std::io::{self, Print};
 use std::sync::Wait;
+use std::thread::Threads;
 use words::cut;
 
 // What the node answers to a row.
-fn ask<R: Wait>(
+fn ask<R: Wait + Threads + Sync>(
     rt: &R,
     alloc: Global,
     node: &Node,
@@ -40,7 +41,7 @@ fn ask<R: Wait>(
 }
 
 // What is answered to a row, which may keep a node for those behind it.
-fn answer<R: Wait>(
+fn answer<R: Wait + Threads + Sync>(
     rt: &R,
     alloc: Global,
     row: &str,
@@ -72,7 +73,7 @@ fn write<R: Print>(rt: &R, told: Result<Text, Memory>) -> io::Result<()> {
 }
 
 // Answers the row that a line is.
-fn step<R: Print + Wait>(
+fn step<R: Print + Wait + Threads + Sync>(
     rt: &R,
     alloc: Global,
     line: io::Result<String>,

@@ -37,6 +37,8 @@ fn answer<R: Threads + Wait + Sync>(
         "shared_hit" => desks::shared_hit(rt, alloc, web),
         "lone_client" => lone::lone_client(rt, alloc),
         "authority_in_memory" => authority::authority_in_memory(rt, alloc),
+        "authority_of_one" => authority::authority_of_one(rt, alloc),
+        "authority_of_streams" => authority::authority_of_streams(rt, alloc),
         _ => Text::of(alloc, b"no such test"),
     }
 }

@@ -44,24 +44,32 @@ fn store(alloc: Global, files: Files) -> Result<MemoryStore, Memory> {
     MemoryStore::new(alloc, named, ROOM, false, &[], CALLS)
 }
 
-/// Serves so many connections as the authority of the files, and tells how that ended.
-pub(crate) fn authority_served<R: Wait, N: Network + Drop>(
+/// What an authority is to serve: of which files, how many connections, and whether each is kept.
+#[derive(Clone, Copy, Drop)]
+pub(crate) struct Served {
+    pub(crate) files: Files,
+    pub(crate) connections: u64,
+    pub(crate) stream: bool,
+}
+
+/// Serves as the authority of the files, and tells how that ended.
+pub(crate) fn authority_served<R: Wait + Threads + Sync, N: Network + Drop>(
     rt: &R,
     alloc: Global,
-    files: Files,
-    connections: u64,
+    asked: Served,
     net: &mut N,
 ) -> Result<Text, Memory> {
     let config = Text::of(alloc, b"node")?;
     let mut clock = MemoryClock::new(alloc, &[MOMENT])?;
-    let mut store = store(alloc, files)?;
+    let mut store = store(alloc, asked.files)?;
     let mut notes = Notes::new(alloc, None);
     let end = serve_authority(
         rt,
         alloc,
         &config,
         PORT,
-        connections,
+        asked.connections,
+        asked.stream,
         &mut store,
         net,
         &mut clock,

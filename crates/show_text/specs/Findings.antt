@@ -1,8 +1,10 @@
 -- What a signed text is, by its form, its type and its claims, or the first reason why it isn't. No signature is looked at.
-use Rattle.std.specs.Prelude.{ℕ, List, [], ◌∷◌, ◌++◌, codes, bytes_eq, true, false, Option, Some, None, Result, Ok, Err, if◌then◌else◌}
+use Rattle.std.specs.Prelude.{ℕ, List, [], ◌∷◌, ◌++◌, length, codes, bytes_eq, nat_lt, true, false, Option, Some, None, Result, Ok, Err, if◌then◌else◌}
 use Rattle.jws_form.specs.declared.compact.Compact.{Compact}
 use Rattle.jws_form.specs.declared.fault.FormFault.{FormFault}
-use Rattle.jws_form.specs.Splitting.{splitting}
+use Rattle.jws_form.specs.declared.fault.FormFault.TheVariants.{TooLong}
+use Rattle.jws_form.specs.Compact.{max_bytes}
+use Rattle.jws_form.specs.Splitting.{long_splitting, splitting}
 use Rattle.entity_statement.specs.Claims.{Claims, Identifier}
 use Rattle.entity_statement.specs.Table.{claims_of, statement_type}
 use Rattle.entity_statement.specs.declared.fault.StatementFault.{StatementFault}
@@ -60,6 +62,14 @@ abbrev pub other_found : Option (List ℕ) → View
 other_found (Some typ) = good (codes "signed text of type " ++ string typ)
 other_found None = good (codes "signed text without a type")
 
+-- the type of a resolver's reply (section 8.3.2)
+abbrev pub reply_type_name : List ℕ
+reply_type_name = codes "resolve-response+jwt"
+
+-- a text that is none of these has too many bytes
+abbrev pub too_long : View
+too_long = refused (form_reason TooLong)
+
 -- a text in compact form, by the type that its header tells (RFC 7515 section 4.1.9)
 unfoldable pub compact_found : Compact → View
 compact_found c =
@@ -73,6 +83,11 @@ abbrev pub split_found : Result Compact FormFault → View
 split_found (Ok c) = compact_found c
 split_found (Err fault) = refused (form_reason fault)
 
+-- a text that is longer than statements and marks may be is shown as a resolver's reply, which holds the texts of a chain (section 8.3.2)
+abbrev pub long_found : Result Compact FormFault → View
+long_found (Ok c) = if has_type reply_type_name c.typ then other_found c.typ else too_long
+long_found (Err fault) = too_long
+
 -- any text
 unfoldable pub text_found : List ℕ → View
-text_found text = split_found (splitting text)
+text_found text = if nat_lt max_bytes (length text) then long_found (long_splitting text) else split_found (splitting text)

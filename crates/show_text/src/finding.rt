@@ -1,28 +1,38 @@
 // What a signed text is.
 
-ghost use Rattle.std.specs.Prelude.{◌≡◌, ◌≢◌, IfOk};
+ghost use Rattle.std.specs.Prelude.{◌≡◌, ◌≢◌, IfOk, Ok};
+ghost use Rattle.jws_form.specs.Splitting.{long_splitting};
 ghost use Rattle.entity_statement.specs.Table.{claims_of};
 ghost use Rattle.trust_mark.specs.Claims.{delegation_claims, has_type, mark_claims, status_claims};
 ghost use Rattle.trust_mark.specs.declared.fault.MarkFault.TheVariants.{Memory as WantOfMemory};
 ghost use Rattle.show_text.specs.Faults.{mark_reason};
-ghost use Rattle.show_text.specs.Findings.{about, compact_found, delegation_found, delegation_words, mark_found, mark_words, other_found, refused, statement_found, status_found, status_words, text_found};
+ghost use Rattle.show_text.specs.Findings.{about, compact_found, delegation_found, delegation_words, long_found, mark_found, mark_words, other_found, refused, statement_found, status_found, status_words, text_found, too_long};
 
 use crate::faults::{form_reason, mark_reason, statement_reason};
 use crate::lines::{append_plain, append_quoted, good, refused};
 use crate::view::View;
 use entity_statement::{STATEMENT_TYPE, Statement, StatementFault};
 use fed_base::{Memory, Text};
-use jws_form::{Compact, FormFault, split};
+use jws_form::{Compact, FormFault, split, split_long};
 use std::alloc::Global;
 use trust_mark::{
     DELEGATION_TYPE, MARK_TYPE, Mark, MarkFault, STATUS_TYPE, StatusAnswer, read_delegation,
 };
+
+// How many bytes a statement, a mark or a delegation has at most.
+const MAX_BYTES: usize = 262_144;
+
+// The type of a resolver's reply (OpenID Federation 1.0 section 8.3.2).
+const REPLY_TYPE: &[u8] = b"resolve-response+jwt";
 
 /// What the text is, or the first reason why it isn't.
 #[tactic(auto, unfolding(crate::specs::Findings::text_found))]
 pub(crate) fn text_found(alloc: Global, text: &[u8]) -> Result<View, Memory>
     ensures { IfOk result (λ view. view ≡ text_found text.now) }
 {
+    if text.len() > MAX_BYTES {
+        return long_found(alloc, text);
+    }
     match split(alloc, text) {
         Ok(compact) => {
             let found = compact_found(alloc, &compact);
@@ -35,6 +45,39 @@ pub(crate) fn text_found(alloc: Global, text: &[u8]) -> Result<View, Memory>
             refused(alloc, reason.as_slice())
         }
     }
+}
+
+// What a text is that is longer than statements and marks may be.
+fn long_found(alloc: Global, text: &[u8]) -> Result<View, Memory>
+    ensures { IfOk result (λ view. view ≡ long_found (long_splitting text.now)) }
+{
+    match split_long(alloc, text) {
+        Ok(compact) => {
+            let found = reply_found(alloc, &compact);
+            drop(compact);
+            found
+        }
+        Err(FormFault::Memory) => Err(Memory),
+        Err(_) => too_long(alloc),
+    }
+}
+
+// The same of one in compact form.
+fn reply_found(alloc: Global, compact: &Compact) -> Result<View, Memory>
+    ensures { IfOk result (λ view. view ≡ long_found (Ok compact.now)) }
+{
+    if has_type(compact, REPLY_TYPE) {
+        other_found(alloc, compact)
+    } else {
+        too_long(alloc)
+    }
+}
+
+fn too_long(alloc: Global) -> Result<View, Memory>
+    ensures { IfOk result (λ view. view ≡ too_long) }
+{
+    let reason = form_reason(alloc, FormFault::TooLong)?;
+    refused(alloc, reason.as_slice())
 }
 
 // What a text in compact form is, by its type.

@@ -9,7 +9,7 @@ pub(crate) fn warn_of_moments(alloc: Global, command: &Command, notes: &mut Note
     match command {
         Command::Keygen { at, exp, .. }
         | Command::Rotate {
-            act: Act::Add { at, exp },
+            act: Act::Add { at, exp, .. },
             ..
         } => {
             warn_of_moment(alloc, b"--at", at.seconds(), notes);

@@ -2,75 +2,78 @@
 
 use entity_id::{EntityId, IdFault};
 use fed_help::{Form, OptionName};
-use fed_words::{CONNECTIONS, PORTS, TextType, count_of, moment_of, params_of};
+use fed_words::{CONNECTIONS, PORTS, TextType, WORKERS, alg_of, count_of, moment_of, params_of};
 use key_ring::RevokeReason;
 use plain_notes::{Notes, Sentence};
 use std::alloc::Global;
 
-/// Says why the value isn't one of the option's. It answers whether it isn't.
+/// Says what the option takes where the value isn't one of its. It answers whether it isn't.
 pub(crate) fn explain_value(
     alloc: Global,
     name: OptionName,
     value: &[u8],
     notes: &mut Notes,
 ) -> bool {
-    let fault: &[u8] = match name.form() {
-        Form::Word => b"",
-        Form::Moment => moment_fault(value),
-        Form::Connections => unless(
-            count_of(value, CONNECTIONS).is_some(),
-            b"; it is a number from 1 to 1,000,000, in decimal digits alone",
-        ),
-        Form::Params => unless(
-            params_of(value).is_some(),
-            b"; it is a number from 0 to 200, in decimal digits alone",
-        ),
-        Form::Port => unless(
-            count_of(value, PORTS).is_some(),
-            b"; a port is a number from 1 to 65535, in decimal digits alone",
-        ),
-        Form::Identifier => identifier_fault(alloc, value),
-        Form::TextType => unless(
-            TextType::of(value).is_some(),
-            b"; it is entity-statement+jwt, trust-mark+jwt or trust-mark-delegation+jwt",
-        ),
-        Form::Act => unless(is_act(value), b"; it is add, retire or revoke"),
-        Form::Reason => unless(
-            RevokeReason::of_word(value).is_some(),
-            b"; it is unspecified, compromised or superseded",
-        ),
-    };
-    if fault.is_empty() {
+    let taken = taken_in_place_of(alloc, name, value);
+    if taken.is_empty() {
         return false;
     }
     notes.say(
         Sentence::of(alloc, name.word())
-            .and(b" ")
-            .and(value)
-            .and(b" isn't of its form")
-            .and(fault),
+            .and(b" takes ")
+            .and(taken)
+            .and(b", and not ")
+            .and(value),
     );
     true
 }
 
-fn unless(holds: bool, fault: &'static [u8]) -> &'static [u8] {
-    if holds { b"" } else { fault }
+// What the option takes, where the value isn't such a one, and else nothing.
+fn taken_in_place_of(alloc: Global, name: OptionName, value: &[u8]) -> &'static [u8] {
+    match name.form() {
+        Form::Word => b"",
+        Form::Moment => unless(
+            moment_of(value).is_some(),
+            b"a moment in seconds since 1970, below 2^62, in decimal digits without sign and leading zero",
+        ),
+        Form::Connections => unless(
+            count_of(value, CONNECTIONS).is_some(),
+            b"a number from 1 to 1,000,000",
+        ),
+        Form::Params => unless(params_of(value).is_some(), b"a number from 0 to 200"),
+        Form::Port => unless(
+            count_of(value, PORTS).is_some(),
+            b"a number from 1 to 65535",
+        ),
+        Form::Workers => unless(count_of(value, WORKERS).is_some(), b"a number from 1 to 16"),
+        Form::Identifier => taken_as_identifier(alloc, value),
+        Form::TextType => unless(
+            TextType::of(value).is_some(),
+            b"entity-statement+jwt, trust-mark+jwt or trust-mark-delegation+jwt",
+        ),
+        Form::Act => unless(is_act(value), b"add, retire or revoke"),
+        Form::Alg => unless(
+            alg_of(value).is_some(),
+            b"128s (SLH-DSA-SHA2-128s, small signatures) or 128f (SLH-DSA-SHA2-128f, fast ones)",
+        ),
+        Form::Reason => unless(
+            RevokeReason::of_word(value).is_some(),
+            b"unspecified, compromised or superseded",
+        ),
+        Form::Stream => unless(value == b"yes".as_slice(), b"yes"),
+    }
 }
 
-fn moment_fault(value: &[u8]) -> &'static [u8] {
-    unless(
-        moment_of(value).is_some(),
-        b"; a moment is in seconds since 1970, below 2^62, in decimal digits without sign and leading zero",
-    )
+fn unless(holds: bool, taken: &'static [u8]) -> &'static [u8] {
+    if holds { b"" } else { taken }
 }
 
-fn identifier_fault(alloc: Global, value: &[u8]) -> &'static [u8] {
+fn taken_as_identifier(alloc: Global, value: &[u8]) -> &'static [u8] {
     match EntityId::read(alloc, value) {
         Ok(_) | Err(IdFault::Memory) => b"",
-        Err(IdFault::NotUrl) =>
-            b"; an identifier is a URL of at most 2,048 bytes, without spaces and backslashes",
-        Err(IdFault::Scheme) => b"; an identifier begins with https:// or http://",
-        Err(IdFault::Extra) => b"; an identifier has neither query, fragment nor user",
+        Err(IdFault::NotUrl) => b"a URL of at most 2,048 bytes, without spaces and backslashes",
+        Err(IdFault::Scheme) => b"a URL that begins with https:// or http://",
+        Err(IdFault::Extra) => b"a URL without query, fragment and user",
     }
 }
 

@@ -206,6 +206,17 @@ fn option_of(usage: &Usage, word: &[u8]) -> Option<OptionName> {
 
 // An option that the command hasn't.
 fn explain_option(alloc: Global, usage: &Usage, option: &[u8], notes: &mut Notes) {
+    if usage.verb == Verb::Resolver && option == OptionName::Stream.word() {
+        notes.say(Sentence::of(
+            alloc,
+            b"resolver has no --stream: it answers a connection once; authority may keep connections",
+        ));
+    } else {
+        explain_unknown_option(alloc, usage, option, notes);
+    }
+}
+
+fn explain_unknown_option(alloc: Global, usage: &Usage, option: &[u8], notes: &mut Notes) {
     let sentence = Sentence::of(alloc, b"the option ")
         .and(option)
         .and(b" isn't known to ")

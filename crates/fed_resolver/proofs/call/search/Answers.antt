@@ -23,7 +23,7 @@ use Rattle.fed_base.specs.Counts.{counted}
 
 pub returns-in_err-aim-clause-goes : goal.returns-in_err-aim-clause-goes
 returns-in_err-aim-clause-goes g c =
-    let here = situation_of c.args.request.now c.args.signer.now.age c.args.t in
+    let here = situation_of c.args.request.now c.args.signer.now c.args.t in
     let seen = link_seen (g.L.Link.calls c.args.link.now) (g.L.Link.link_faults c.args.link.now) (g.L.Link.web c.args.link.now) in
     let p = err_from_is_err_and c.from_residual.result c.from_residual.ensures.1 in
     rw (p.1, p.2) (inl (goes-still c.args.signer.now.age (moment_at c.args.call.now.trace.now (known c.args.call.now.pass.now) seen) (begun-true here c.args.signer.now.age c.args.call.now.trace.now c.requires.begun)))
@@ -51,8 +51,8 @@ pub rounds_for-ended-requires-clause-ready : goal.rounds_for-ended-requires-clau
 rounds_for-ended-requires-clause-ready g c =
     record {
       of = c.requires.of;
-      told = begun-true (situation_of c.args.request.now c.args.signer.now.age c.args.t) c.in_ok-aim.aim.age c.args.call.now.trace.now c.requires.begun;
-      good = begun-good (situation_of c.args.request.now c.args.signer.now.age c.args.t) c.args.call.now.trace.now c.requires.begun;
+      told = begun-true (situation_of c.args.request.now c.args.signer.now c.args.t) c.in_ok-aim.aim.age c.args.call.now.trace.now c.requires.begun;
+      good = begun-good (situation_of c.args.request.now c.args.signer.now c.args.t) c.args.call.now.trace.now c.requires.begun;
     }
 
 pub rounds_for-ended-requires-clause-looks : goal.rounds_for-ended-requires-clause-looks
@@ -80,7 +80,7 @@ returns-in_err-end-clause-walked g c =
 
 pub returns-in_err-end-clause-counted : goal.returns-in_err-end-clause-counted
 returns-in_err-end-clause-counted g c =
-    let here = situation_of c.args.request.now c.args.signer.now.age c.args.t in
+    let here = situation_of c.args.request.now c.args.signer.now c.args.t in
     let ticks = g.G.Ledger.count c.args.call.now.steps.now.ledger in
     let later = g.G.Ledger.count c.rounds_for-ended.new.call.steps.now.ledger in
     let p = err_from_is_err_and c.from_residual-in_err-end.result c.from_residual-in_err-end.ensures.1 in
@@ -91,7 +91,7 @@ returns-in_err-end-clause-counted g c =
 -- ---- a chain was found
 
 pub reply_on-requires-clause-ready : goal.reply_on-requires-clause-ready
-reply_on-requires-clause-ready g c =
+reply_on-requires-clause-ready g c = λ lives within.
     record {
       of = acted-of c.args.call.now c.rounds_for-ended.new.call c.in_ok-end.ensures.acts;
       told = subst (λ (a : Aim). IsTrueSoFar a.age c.rounds_for-ended.new.call.trace.now) c.in_ok-aim.ensures c.in_ok-end.ensures.goes.told;
@@ -99,14 +99,14 @@ reply_on-requires-clause-ready g c =
     }
 
 pub reply_on-requires-clause-leaf : goal.reply_on-requires-clause-leaf
-reply_on-requires-clause-leaf g c =
+reply_on-requires-clause-leaf g c = λ lives within.
     let seen = link_seen (g.L.Link.calls c.args.link.now) (g.L.Link.link_faults c.args.link.now) (g.L.Link.web c.args.link.now) in
     let now = link_seen (g.L.Link.calls c.rounds_for-ended.new.link) (g.L.Link.link_faults c.rounds_for-ended.new.link) (g.L.Link.web c.rounds_for-ended.new.link) in
     let old_moment = moment_at c.args.call.now.trace.now (known c.args.call.now.pass.now) seen in
     let new_moment = moment_at c.rounds_for-ended.new.call.trace.now (known c.rounds_for-ended.new.call.pass.now) now in
     let goes = subst (λ (a : Aim). Goes a.age 0 old_moment new_moment) c.in_ok-aim.ensures c.in_ok-end.ensures.goes in
     let has = subst (λ (a : Aim). HasRounds a c.args.call.now.trace.now c.rounds_for-ended.new.call.trace.now c.in_ok-end.field-0) c.in_ok-aim.ensures c.in_ok-end.ensures.rounds in
-    leaf-found c.args.request.now c.args.signer.now.age c.args.t c.args.call.now.trace.now c.rounds_for-ended.new.call.trace.now (known c.args.call.now.pass.now) (known c.rounds_for-ended.new.call.pass.now) seen now c.requires.begun goes c.in_ok-end.field-0 has c.in-Some.chain c.in-Some.is
+    leaf-found c.args.request.now c.args.signer.now c.args.t c.args.call.now.trace.now c.rounds_for-ended.new.call.trace.now (known c.args.call.now.pass.now) (known c.rounds_for-ended.new.call.pass.now) seen now c.requires.begun goes c.in_ok-end.field-0 has c.in-Some.chain c.in-Some.is
 
 pub returns-in_err-reply-in-Some-clause-worn : goal.returns-in_err-reply-in-Some-clause-worn
 returns-in_err-reply-in-Some-clause-worn g c =
@@ -125,7 +125,7 @@ returns-in_err-reply-in-Some-clause-goes g c =
 
 pub returns-in_err-reply-in-Some-clause-whole : goal.returns-in_err-reply-in-Some-clause-whole
 returns-in_err-reply-in-Some-clause-whole g c =
-    let here = situation_of c.args.request.now c.args.signer.now.age c.args.t in
+    let here = situation_of c.args.request.now c.args.signer.now c.args.t in
     let p = err_from_is_err_and c.from_residual-in_err-reply-in-Some.result c.from_residual-in_err-reply-in-Some.ensures.1 in
     rw (p.1, p.2) (whole-broken here c.args.signer.now c.reply_on.new.call.trace.now c.in_err-reply-in-Some.field-0.0)
 
@@ -137,7 +137,7 @@ returns-in_err-reply-in-Some-clause-walked g c =
 
 pub returns-in_err-reply-in-Some-clause-counted : goal.returns-in_err-reply-in-Some-clause-counted
 returns-in_err-reply-in-Some-clause-counted g c =
-    let here = situation_of c.args.request.now c.args.signer.now.age c.args.t in
+    let here = situation_of c.args.request.now c.args.signer.now c.args.t in
     let ticks = g.G.Ledger.count c.args.call.now.steps.now.ledger in
     let p = err_from_is_err_and c.from_residual-in_err-reply-in-Some.result c.from_residual-in_err-reply-in-Some.ensures.1 in
     let start = sym (ap (λ cs. counted (length cs) ticks) c.requires.begun.checks) in
@@ -186,7 +186,7 @@ returns-in-None-clause-worn g c =
 
 pub returns-in-None-clause-whole : goal.returns-in-None-clause-whole
 returns-in-None-clause-whole g c =
-    let here = situation_of c.args.request.now c.args.signer.now.age c.args.t in
+    let here = situation_of c.args.request.now c.args.signer.now c.args.t in
     let first = moment_at c.args.call.now.trace.now (known c.args.call.now.pass.now) (link_seen (g.L.Link.calls c.args.link.now) (g.L.Link.link_faults c.args.link.now) (g.L.Link.web c.args.link.now)) in
     let mid = moment_at c.rounds_for-ended.new.call.trace.now (known c.rounds_for-ended.new.call.pass.now) (link_seen (g.L.Link.calls c.rounds_for-ended.new.link) (g.L.Link.link_faults c.rounds_for-ended.new.link) (g.L.Link.web c.rounds_for-ended.new.link)) in
     let goes = subst (λ (a : Aim). Goes a.age 0 first mid) c.in_ok-aim.ensures c.in_ok-end.ensures.goes in
@@ -198,14 +198,14 @@ returns-in-None-clause-whole g c =
     let start = sym (ap (λ cs. counted (length cs) ticks) c.requires.begun.checks) in
     let count = checks-counted c.args.call.now.trace.now.checks c.rounds_for-ended.new.call.trace.now.checks ticks ticks later start c.in_ok-end.ensures.counted in
     let answered = refused-answered c.in_ok-end.field-0.end faults in
-    let all = leaf-refused c.args.request.now c.args.signer.now.age c.args.t c.args.call.now.trace.now c.rounds_for-ended.new.call.trace.now (known c.args.call.now.pass.now) (known c.rounds_for-ended.new.call.pass.now) (link_seen (g.L.Link.calls c.args.link.now) (g.L.Link.link_faults c.args.link.now) (g.L.Link.web c.args.link.now)) (link_seen (g.L.Link.calls c.rounds_for-ended.new.link) (g.L.Link.link_faults c.rounds_for-ended.new.link) (g.L.Link.web c.rounds_for-ended.new.link))
-    c.requires.begun goes c.in_ok-end.field-0 has c.args.signer.now c.in-None.is c.in_ok-end.ensures.good faults are ticks later count in
+    let all = leaf-refused c.args.request.now c.args.signer.now c.args.t c.args.call.now.trace.now c.rounds_for-ended.new.call.trace.now (known c.args.call.now.pass.now) (known c.rounds_for-ended.new.call.pass.now) (link_seen (g.L.Link.calls c.args.link.now) (g.L.Link.link_faults c.args.link.now) (g.L.Link.web c.args.link.now)) (link_seen (g.L.Link.calls c.rounds_for-ended.new.link) (g.L.Link.link_faults c.rounds_for-ended.new.link) (g.L.Link.web c.rounds_for-ended.new.link))
+    c.requires.begun goes c.in_ok-end.field-0 has c.in-None.is c.in_ok-end.ensures.good faults are ticks later count in
     subst (λ r. WholeBy here c.args.signer.now c.rounds_for-ended.new.call.trace.now (Err r)) (sym c.refused_by.ensures)
     (whole-by here c.args.signer.now c.rounds_for-ended.new.call.trace.now (Err (refused_by c.in_ok-end.field-0.end faults)) answered all.whole)
 
 pub returns-in-None-clause-counted : goal.returns-in-None-clause-counted
 returns-in-None-clause-counted g c =
-    let here = situation_of c.args.request.now c.args.signer.now.age c.args.t in
+    let here = situation_of c.args.request.now c.args.signer.now c.args.t in
     let first = moment_at c.args.call.now.trace.now (known c.args.call.now.pass.now) (link_seen (g.L.Link.calls c.args.link.now) (g.L.Link.link_faults c.args.link.now) (g.L.Link.web c.args.link.now)) in
     let mid = moment_at c.rounds_for-ended.new.call.trace.now (known c.rounds_for-ended.new.call.pass.now) (link_seen (g.L.Link.calls c.rounds_for-ended.new.link) (g.L.Link.link_faults c.rounds_for-ended.new.link) (g.L.Link.web c.rounds_for-ended.new.link)) in
     let goes = subst (λ (a : Aim). Goes a.age 0 first mid) c.in_ok-aim.ensures c.in_ok-end.ensures.goes in
@@ -217,8 +217,8 @@ returns-in-None-clause-counted g c =
     let start = sym (ap (λ cs. counted (length cs) ticks) c.requires.begun.checks) in
     let count = checks-counted c.args.call.now.trace.now.checks c.rounds_for-ended.new.call.trace.now.checks ticks ticks later start c.in_ok-end.ensures.counted in
     let answered = refused-answered c.in_ok-end.field-0.end faults in
-    let all = leaf-refused c.args.request.now c.args.signer.now.age c.args.t c.args.call.now.trace.now c.rounds_for-ended.new.call.trace.now (known c.args.call.now.pass.now) (known c.rounds_for-ended.new.call.pass.now) (link_seen (g.L.Link.calls c.args.link.now) (g.L.Link.link_faults c.args.link.now) (g.L.Link.web c.args.link.now)) (link_seen (g.L.Link.calls c.rounds_for-ended.new.link) (g.L.Link.link_faults c.rounds_for-ended.new.link) (g.L.Link.web c.rounds_for-ended.new.link))
-    c.requires.begun goes c.in_ok-end.field-0 has c.args.signer.now c.in-None.is c.in_ok-end.ensures.good faults are ticks later count in
+    let all = leaf-refused c.args.request.now c.args.signer.now c.args.t c.args.call.now.trace.now c.rounds_for-ended.new.call.trace.now (known c.args.call.now.pass.now) (known c.rounds_for-ended.new.call.pass.now) (link_seen (g.L.Link.calls c.args.link.now) (g.L.Link.link_faults c.args.link.now) (g.L.Link.web c.args.link.now)) (link_seen (g.L.Link.calls c.rounds_for-ended.new.link) (g.L.Link.link_faults c.rounds_for-ended.new.link) (g.L.Link.web c.rounds_for-ended.new.link))
+    c.requires.begun goes c.in_ok-end.field-0 has c.in-None.is c.in_ok-end.ensures.good faults are ticks later count in
     subst (λ r. CountsTests here c.args.signer.now (outcome_of (Err r) c.rounds_for-ended.new.call.trace.now) (Err r) ticks later) (sym c.refused_by.ensures)
     (counts-by here c.args.signer.now c.rounds_for-ended.new.call.trace.now (Err (refused_by c.in_ok-end.field-0.end faults)) ticks later answered all)
 

@@ -1,5 +1,6 @@
-use Rattle.std.proofs.Common.{[], ◌∷◌, ◌++◌, sym, ap, ◌∙◌, subst}
-use Rattle.fed_resolver.specs.Going.{KeepsBy}
+use Rattle.std.proofs.Common.{[], ◌∷◌, ◌++◌, ap₂, ◌∙◌}
+use Rattle.fed_resolver.specs.Going.{first_text}
+use Rattle.fed_resolver.proofs.KeptLaws.{keys-of-text}
 use Rattle.fed_resolver.proofs.ResultLaws.{ok-on}
 use Rattle.fed_resolver.proofs.issuers.keep_issuer.Goals as goal
 
@@ -7,5 +8,8 @@ pub returns : goal.returns
 returns c =
     let own = c.in_ok-keys.ensures in
     ok-on c.push.result _ _ c.push.ensures.ok
-    (λ are. subst (λ o. KeepsBy c.args.id.now o c.args.found.now c.push.new.self) (sym own.1)
-    (c.in_ok-keys.keys, are ∙ ap (λ i. c.args.found.now ++ record { id = i; keys = c.in_ok-keys.keys } ∷ []) c.in_ok-id.ensures, own.2))
+    (λ are. (
+      c.in_ok-keys.keys,
+      are ∙ ap₂ (λ i t. c.args.found.now ++ record { id = i; keys = c.in_ok-keys.keys; text = t } ∷ []) c.in_ok-id.ensures c.in_ok-text.ensures,
+      keys-of-text (first_text c.args.chain.now) own.0 c.in_ok-keys.keys own.1 own.2,
+    ))

@@ -4,7 +4,7 @@ use Rattle.std.proofs.lemmas.List.{take_all}
 use Rattle.resolve_round.specs.Linking.{link_view}
 use Rattle.resolve_round.proofs.TestingLaws.{counts-none, counts-sum}
 use Rattle.resolve_round.proofs.CallLaws.{acted-none, acted-of, acted-then}
-use Rattle.fed_resolver.specs.Going.{HasIssuers, usual_aim}
+use Rattle.fed_resolver.specs.Going.{HasIssuers, first_aim}
 use Rattle.fed_resolver.specs.Stretches.{moment_of}
 use Rattle.fed_resolver.proofs.IssuerLaws.{fresh-at, issuers-more, issuers-none, taken-more}
 use Rattle.fed_resolver.proofs.StretchLaws.{goes-on_to, goes-still, goes-then, stumbled-still, stumbles-then, walked-still, walks-then}
@@ -20,7 +20,7 @@ returns-in_err-searched-clause-acts g c =
 pub returns-in_err-searched-clause-goes : goal.returns-in_err-searched-clause-goes
 returns-in_err-searched-clause-goes g c =
     let p = err_from_is_err_and c.from_residual.result c.from_residual.ensures.1 in
-    rw (p.1, p.2) (inl (goes-still c.args.age (moment_of (link_view g.L.Link.calls g.L.Link.link_faults g.L.Link.web g.L.Link.gave) c.args.call.now c.args.link.now) c.requires.ready.told))
+    rw (p.1, p.2) (inl (goes-still c.args.signer.now.age (moment_of (link_view g.L.Link.calls g.L.Link.link_faults g.L.Link.web g.L.Link.gave) c.args.call.now c.args.link.now) c.requires.ready.told))
 
 pub returns-in_err-searched-clause-walked : goal.returns-in_err-searched-clause-walked
 returns-in_err-searched-clause-walked g c =
@@ -35,12 +35,12 @@ returns-in_err-searched-clause-counted g c = counts-none c.args.call.now.trace.n
 pub loop-id-init : goal.loop-id-init
 loop-id-init g c = record {
   acted = acted-none c.args.call.now c.requires.ready.of;
-  goes = goes-still c.args.age (moment_of (link_view g.L.Link.calls g.L.Link.link_faults g.L.Link.web g.L.Link.gave) c.args.call.now c.args.link.now) c.requires.ready.told;
+  goes = goes-still c.args.signer.now.age (moment_of (link_view g.L.Link.calls g.L.Link.link_faults g.L.Link.web g.L.Link.gave) c.args.call.now c.args.link.now) c.requires.ready.told;
   walked = walked-still g.L.Link.gave c.args.link.now c.args.call.now.trace.now;
   counted = counts-none c.args.call.now.trace.now.checks c.args.call.now.trace.now.checks _ _ refl refl;
   good = c.requires.ready.good;
   by_mark = refl;
-  issuers = subst (HasIssuers (usual_aim c.args.request.now.sub c.args.request.now.anchor c.args.age) [] c.args.call.now.trace.now c.args.call.now.trace.now) (sym c.requires.none) (issuers-none (usual_aim c.args.request.now.sub c.args.request.now.anchor c.args.age) c.args.call.now.trace.now);
+  issuers = subst (HasIssuers (first_aim c.args.request.now.sub c.args.request.now.anchor c.args.signer.now) [] c.args.call.now.trace.now c.args.call.now.trace.now) (sym c.requires.none) (issuers-none (first_aim c.args.request.now.sub c.args.request.now.anchor c.args.signer.now) c.args.call.now.trace.now);
 }
 
 pub search_issuer-requires : goal.search_issuer-requires
@@ -55,7 +55,7 @@ returns-in_err-search_issuer-clause-acts g c =
 pub returns-in_err-search_issuer-clause-goes : goal.returns-in_err-search_issuer-clause-goes
 returns-in_err-search_issuer-clause-goes g c =
     let p = err_from_is_err_and c.from_residual-in_err-search_issuer.result c.from_residual-in_err-search_issuer.ensures.1 in
-    rw (p.1, p.2) (goes-on_to c.args.age (moment_of (link_view g.L.Link.calls g.L.Link.link_faults g.L.Link.web g.L.Link.gave) c.args.call.now c.args.link.now) (moment_of (link_view g.L.Link.calls g.L.Link.link_faults g.L.Link.web g.L.Link.gave) c.loop-id.call c.loop-id.link) (moment_of (link_view g.L.Link.calls g.L.Link.link_faults g.L.Link.web g.L.Link.gave) c.search_issuer.new.call c.search_issuer.new.link) c.in_err-search_issuer.field-0.0 c.loop-id.invariant.goes c.in_err-search_issuer.ensures.goes)
+    rw (p.1, p.2) (goes-on_to c.args.signer.now.age (moment_of (link_view g.L.Link.calls g.L.Link.link_faults g.L.Link.web g.L.Link.gave) c.args.call.now c.args.link.now) (moment_of (link_view g.L.Link.calls g.L.Link.link_faults g.L.Link.web g.L.Link.gave) c.loop-id.call c.loop-id.link) (moment_of (link_view g.L.Link.calls g.L.Link.link_faults g.L.Link.web g.L.Link.gave) c.search_issuer.new.call c.search_issuer.new.link) c.in_err-search_issuer.field-0.0 c.loop-id.invariant.goes c.in_err-search_issuer.ensures.goes)
 
 pub returns-in_err-search_issuer-clause-walked : goal.returns-in_err-search_issuer-clause-walked
 returns-in_err-search_issuer-clause-walked g c =
@@ -73,18 +73,18 @@ loop-id-preserved g c =
     let id = c.id-item.result in
     let less : c.loop-id.id-index < length searched = search rules in
     let at : id ≡ get_or searched c.loop-id.id-index id = c.id-item.is in
-    let aim = usual_aim c.args.request.now.sub c.args.request.now.anchor c.args.age in
+    let aim = first_aim c.args.request.now.sub c.args.request.now.anchor c.args.signer.now in
     let fresh = fresh-at c.args.issuers.now.by_mark searched c.loop-id.id-index id (c.as_slice-id-items.ensures ∙ c.in_ok-searched.ensures) less at in
     record {
       acted = acted-then c.args.call.now c.loop-id.call c.search_issuer.new.call before.acted made.acts;
-      goes = goes-then c.args.age 0 (moment_of (link_view g.L.Link.calls g.L.Link.link_faults g.L.Link.web g.L.Link.gave) c.args.call.now c.args.link.now) (moment_of (link_view g.L.Link.calls g.L.Link.link_faults g.L.Link.web g.L.Link.gave) c.loop-id.call c.loop-id.link) (moment_of (link_view g.L.Link.calls g.L.Link.link_faults g.L.Link.web g.L.Link.gave) c.search_issuer.new.call c.search_issuer.new.link) before.goes made.goes;
+      goes = goes-then c.args.signer.now.age 0 (moment_of (link_view g.L.Link.calls g.L.Link.link_faults g.L.Link.web g.L.Link.gave) c.args.call.now c.args.link.now) (moment_of (link_view g.L.Link.calls g.L.Link.link_faults g.L.Link.web g.L.Link.gave) c.loop-id.call c.loop-id.link) (moment_of (link_view g.L.Link.calls g.L.Link.link_faults g.L.Link.web g.L.Link.gave) c.search_issuer.new.call c.search_issuer.new.link) before.goes made.goes;
       walked = walks-then g.L.Link.gave c.args.link.now c.loop-id.link c.search_issuer.new.link c.args.call.now.trace.now c.loop-id.call.trace.now c.search_issuer.new.call.trace.now before.walked made.walked;
       counted = counts-sum c.args.call.now.trace.now.checks c.loop-id.call.trace.now.checks c.search_issuer.new.call.trace.now.checks _ _ _ before.counted made.counted;
       good = made.good;
       by_mark = before.by_mark;
       issuers =
           subst (λ ids. HasIssuers aim ids c.args.call.now.trace.now c.search_issuer.new.call.trace.now c.search_issuer.new.found) (sym (taken-more searched c.loop-id.id-index id less at))
-          (issuers-more c.args.request.now.sub c.args.request.now.anchor c.args.age (take c.loop-id.id-index searched) id c.args.call.now.trace.now c.loop-id.call.trace.now c.search_issuer.new.call.trace.now c.loop-id.issuers.found c.search_issuer.new.found
+          (issuers-more c.args.request.now.sub c.args.request.now.anchor c.args.signer.now (take c.loop-id.id-index searched) id c.args.call.now.trace.now c.loop-id.call.trace.now c.search_issuer.new.call.trace.now c.loop-id.issuers.found c.search_issuer.new.found
           before.issuers fresh before.goes.call made.issuer);
     }
 
@@ -93,6 +93,6 @@ returns-clause-acts g c = c.loop-id.invariant.acted
 
 pub returns-clause-issuers : goal.returns-clause-issuers
 returns-clause-issuers g c =
-    let aim = usual_aim c.args.request.now.sub c.args.request.now.anchor c.args.age in
+    let aim = first_aim c.args.request.now.sub c.args.request.now.anchor c.args.signer.now in
     let all = take_all c.loop-id.id-index c.as_slice-id-items.result.now c.loop-id-test.false in
     subst (λ ids. HasIssuers aim ids c.args.call.now.trace.now c.loop-id.call.trace.now c.loop-id.issuers.found) (all ∙ c.as_slice-id-items.ensures ∙ c.in_ok-searched.ensures) c.loop-id.invariant.issuers

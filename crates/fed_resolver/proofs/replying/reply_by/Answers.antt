@@ -12,7 +12,7 @@ use Rattle.resolve_search.proofs.CallLaws.{acts-around}
 use Rattle.fed_resolver.specs.Going.{first_text, last_text}
 use Rattle.fed_resolver.specs.Outcomes.{asked_query}
 use Rattle.fed_resolver.specs.Told.{situation_of}
-use Rattle.fed_resolver.proofs.AnswerLaws.{reply-all}
+use Rattle.fed_resolver.proofs.AnswerLaws.{reply-all, reply-configs, reply-end}
 use Rattle.fed_resolver.proofs.ChainTexts.{valid-utf8}
 use Rattle.fed_resolver.proofs.MarkCounts.{leaf-tests}
 use Rattle.fed_resolver.proofs.StretchLaws.{stumbles-none}
@@ -32,9 +32,9 @@ returns-in_err-issuers-clause-counted g c = λ before start.
     (checks-counted c.args.call.now.trace.now.checks c.found_issuers.new.call.trace.now.checks before (g.G.Ledger.count c.args.call.now.steps.now.ledger) (g.G.Ledger.count c.found_issuers.new.call.steps.now.ledger) start c.in_err-issuers.ensures.counted))
 
 pub sealed_reply-requires-clause-writable : goal.sealed_reply-requires-clause-writable
-sealed_reply-requires-clause-writable g c =
+sealed_reply-requires-clause-writable g c = λ lives within.
     let found = c.requires.leaf.is_found in
-    let query = asked_query (situation_of c.args.request.now c.args.signer.now.age c.args.t) c.args.call.now.trace.now in
+    let query = asked_query (situation_of c.args.request.now c.args.signer.now c.args.t) c.args.call.now.trace.now in
     let utf8 = valid-utf8 (chain_of (pages_in c.requires.leaf.rounds.last) c.requires.leaf.path) query.anchor query.keys query.moment found.verdict.0 in
     (found.written, subst (λ ts. IsTrue (list_all is_utf8 ts)) (sym found.are) utf8)
 
@@ -64,9 +64,31 @@ returns-clause-whole g c =
     let here = judging_by own.sub anchor c.in_ok-issuers.issuers.found c.args.t in
     let own_reads : statement_of (first_text c.args.chain.texts) ≡ Some own = c.requires.ends.0 in
     let anchor_reads : statement_of (last_text c.args.chain.texts) ≡ Some anchor = c.requires.ends.1 in
-    (reply-all c.args.request.now c.args.signer.now.age c.args.t c.args.signer.now c.args.call.now.trace.now c.found_issuers.new.call.trace.now c.args.chain c.requires.leaf goes.call goes.continues.more goes.continues.are goes.continues.works
+    (reply-all c.args.request.now c.args.signer.now c.args.t c.args.call.now.trace.now c.found_issuers.new.call.trace.now c.args.chain c.requires.leaf goes.call goes.continues.more goes.continues.are goes.continues.works
     c.in_ok-issuers.ensures.counted.more c.in_ok-issuers.ensures.counted.are goes.told c.in_ok-issuers.ensures.good own anchor own_reads anchor_reads c.in_ok-issuers.issuers.found c.in_ok-issuers.ensures.issuers.searched
     c.in_ok-reply.reply c.in_ok-reply.ensures.reply 0 (counted (length c.found_issuers.new.call.trace.now.checks + tests_of_marks here (looked_at own.marks)) 0) refl).whole
+
+pub returns-clause-chain_exp : goal.returns-clause-chain_exp
+returns-clause-chain_exp g c =
+    let goes = c.in_ok-issuers.ensures.goes in
+    let own = told c.args.ends.now.leaf in
+    let anchor = told c.args.ends.now.anchor in
+    let own_reads : statement_of (first_text c.args.chain.texts) ≡ Some own = c.requires.ends.0 in
+    let anchor_reads : statement_of (last_text c.args.chain.texts) ≡ Some anchor = c.requires.ends.1 in
+    reply-end c.args.request.now c.args.signer.now c.args.t c.args.call.now.trace.now c.found_issuers.new.call.trace.now c.args.chain c.requires.leaf goes.call goes.continues.more goes.continues.are goes.continues.works
+    c.in_ok-issuers.ensures.counted.more c.in_ok-issuers.ensures.counted.are goes.told c.in_ok-issuers.ensures.good own anchor own_reads anchor_reads c.in_ok-issuers.issuers.found c.in_ok-issuers.ensures.issuers.searched
+    c.in_ok-reply.reply c.in_ok-reply.ensures.reply
+
+pub returns-clause-configs : goal.returns-clause-configs
+returns-clause-configs g c =
+    let goes = c.in_ok-issuers.ensures.goes in
+    let own = told c.args.ends.now.leaf in
+    let anchor = told c.args.ends.now.anchor in
+    let own_reads : statement_of (first_text c.args.chain.texts) ≡ Some own = c.requires.ends.0 in
+    let anchor_reads : statement_of (last_text c.args.chain.texts) ≡ Some anchor = c.requires.ends.1 in
+    reply-configs c.args.request.now c.args.signer.now c.args.t c.args.call.now.trace.now c.found_issuers.new.call.trace.now c.args.chain c.requires.leaf goes.call goes.continues.more goes.continues.are goes.continues.works
+    c.in_ok-issuers.ensures.counted.more c.in_ok-issuers.ensures.counted.are goes.told c.in_ok-issuers.ensures.good own anchor own_reads anchor_reads c.in_ok-issuers.issuers.found c.in_ok-issuers.ensures.issuers.searched
+    c.in_ok-reply.reply c.in_ok-reply.ensures.reply
 
 pub returns-clause-counted : goal.returns-clause-counted
 returns-clause-counted g c = λ before start.
@@ -77,7 +99,7 @@ returns-clause-counted g c = λ before start.
     let own_reads : statement_of (first_text c.args.chain.texts) ≡ Some own = c.requires.ends.0 in
     let anchor_reads : statement_of (last_text c.args.chain.texts) ≡ Some anchor = c.requires.ends.1 in
     let mid = checks-counted c.args.call.now.trace.now.checks c.found_issuers.new.call.trace.now.checks before (g.G.Ledger.count c.args.call.now.steps.now.ledger) (g.G.Ledger.count c.found_issuers.new.call.steps.now.ledger) start c.in_ok-issuers.ensures.counted in
-    reply-all c.args.request.now c.args.signer.now.age c.args.t c.args.signer.now c.args.call.now.trace.now c.found_issuers.new.call.trace.now c.args.chain c.requires.leaf goes.call goes.continues.more goes.continues.are goes.continues.works
+    reply-all c.args.request.now c.args.signer.now c.args.t c.args.call.now.trace.now c.found_issuers.new.call.trace.now c.args.chain c.requires.leaf goes.call goes.continues.more goes.continues.are goes.continues.works
     c.in_ok-issuers.ensures.counted.more c.in_ok-issuers.ensures.counted.are goes.told c.in_ok-issuers.ensures.good own anchor own_reads anchor_reads c.in_ok-issuers.issuers.found c.in_ok-issuers.ensures.issuers.searched
     c.in_ok-reply.reply c.in_ok-reply.ensures.reply before (g.G.Ledger.count c.sealed_reply.new.steps.ledger)
     (marks-counted (length c.found_issuers.new.call.trace.now.checks) (tests_of_marks here (looked_at own.marks)) before (g.G.Ledger.count c.found_issuers.new.call.steps.now.ledger) (g.G.Ledger.count c.sealed_reply.new.steps.ledger) mid c.in_ok-reply.ensures.counted)

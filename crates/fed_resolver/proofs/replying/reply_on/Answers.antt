@@ -15,14 +15,14 @@ use Rattle.fed_resolver.proofs.replying.reply_on.Goals as goal
 pub read_ends-requires-clause-first : goal.read_ends-requires-clause-first
 read_ends-requires-clause-first g c =
     let leaf = c.requires.leaf in
-    let query = asked_query (situation_of c.args.request.now c.args.signer.now.age c.args.t) c.args.call.now.trace.now in
+    let query = asked_query (situation_of c.args.request.now c.args.signer.now c.args.t) c.args.call.now.trace.now in
     let says = first-says query leaf.rounds.last leaf.rounds.last_round leaf.path leaf.is_path c.args.call.now.trace.now c.args.chain leaf.is_found in
     subst IsSome (sym (ap (λ l. statement_of (first_text l)) c.as_slice.ensures ∙ says.reads)) refl
 
 pub read_ends-requires-clause-last : goal.read_ends-requires-clause-last
 read_ends-requires-clause-last g c =
     let leaf = c.requires.leaf in
-    let query = asked_query (situation_of c.args.request.now c.args.signer.now.age c.args.t) c.args.call.now.trace.now in
+    let query = asked_query (situation_of c.args.request.now c.args.signer.now c.args.t) c.args.call.now.trace.now in
     let says = last-says query leaf.rounds.last leaf.rounds.last_round leaf.path leaf.is_path c.args.call.now.trace.now c.args.chain leaf.is_found in
     subst IsSome (sym (ap (λ l. statement_of (last_text l)) c.as_slice.ensures ∙ says.reads)) refl
 

@@ -44,7 +44,7 @@ join_mut-result-requires-after_bounds g t c κs within =
     let rest = c.in-Some.rest.now in
     let whole = c.in-Some.ensures.cases.0 in
     let free = g.D.Place.is_free c.args.node.now in (
-      (c.in_ok-peer.peer, first, first_free free c.args.desks.now first rest whole c.requires.free, c.take.ensures),
+      (search (runtime, sendable, crosses) depth 40 fits 4000, c.in_ok-peer.peer, first, first_free free c.args.desks.now first rest whole c.requires.free, c.take.ensures),
       (
         omega (arith, c.decreases, c.in-Some.ensures.cases.1),
         (

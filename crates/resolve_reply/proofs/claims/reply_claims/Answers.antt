@@ -15,3 +15,14 @@ returns-clause-whole c = λ writable.
     subst IsWhole (sym (returns-clause-tree c))
     (claims-whole c.args.iss.now c.args.said writable c.times_and_issuer.ensures.exp_bounded c.times_and_issuer.ensures.iat_bounded (subst IsUtf8 c.text.ensures.text c.text.ensures.utf8)
     (subst IsUtf8 c.text-2.ensures.text c.text-2.ensures.utf8))
+
+pub returns-clause-says : goal.returns-clause-says
+returns-clause-says c = λ writable. record {
+  iss = c.args.iss.now;
+  said = c.args.said;
+  claims_are = returns-clause-tree c;
+  writable = writable;
+  iat = c.times_and_issuer.ensures.iat_bounded;
+  iss_utf8 = subst IsUtf8 c.text.ensures.text c.text.ensures.utf8;
+  sub_utf8 = subst IsUtf8 c.text-2.ensures.text c.text-2.ensures.utf8;
+}

@@ -1,6 +1,7 @@
 use Rattle.std.proofs.Common.{◌≡◌, ◌≤◌, ℕ, List, [], ◌∷◌, ◌++◌, length, Ok, Err, refl, ap, ◌∙◌, subst, inl, inr, rules}
 use Rattle.std.specs.Prelude.{slice_set}
 use Rattle.std.proofs.lemmas.Result.{err_from_is_err_and}
+use Rattle.fed_ports.specs.declared.page.Page.{Page}
 use Rattle.fed_ports.specs.declared.link.LinkFault.TheVariants.{Failed, Memory}
 use Rattle.resolve_round.specs.declared.trace.Ask.{Ask}
 use Rattle.resolve_round.specs.declared.trace.Got.{Got}
@@ -17,6 +18,11 @@ use Rattle.resolve_round.proofs.asking.fetch.Goals as goal
 asked : (old pushed new : List Ask) (x : Ask) (at : ℕ) (told url : List ℕ) (got : Got) → at ≡ length old → pushed ≡ old ++ x ∷ [] → new ≡ slice_set pushed at (ask_of told got) → told ≡ url
     → new ≡ old ++ ask_of url got ∷ []
 asked old pushed new x at told url got place push is same = put-last old pushed new x (ask_of told got) at place push is ∙ ap (λ u. old ++ ask_of u got ∷ []) same
+
+-- the page whose bytes are shared is the page
+of_page : (pushed new : List Ask) (at : ℕ) (told : List ℕ) (shared page : Page) → shared ≡ page → new ≡ slice_set pushed at (ask_of told (Fetched shared))
+    → new ≡ slice_set pushed at (ask_of told (Fetched page))
+of_page pushed new at told shared page same is = subst (λ p. new ≡ slice_set pushed at (ask_of told (Fetched p))) same is
 
 pub set-requires : goal.set-requires
 set-requires g c = last-within c.args.search.now.asks c.push.new.self _ c.len-at.result c.len-at.ensures c.in_ok-push.ensures.ok
@@ -45,7 +51,8 @@ returns-in_err-push-clause-tried g c =
 pub returns-in-Ok-clause-ok : goal.returns-in-Ok-clause-ok
 returns-in-Ok-clause-ok g c =
     let is : c.get.result ≡ Ok c.in-Ok.page = c.in-Ok.is in
-    let asks = asked c.args.search.now.asks c.push.new.self c.set.new.self _ c.len-at.result c.in_ok-told.told c.args.url.now (Fetched c.in-Ok.page) c.len-at.ensures c.in_ok-push.ensures.ok c.set.ensures c.in_ok-told.ensures in
+    let kept = of_page c.push.new.self c.set.new.self c.len-at.result c.in_ok-told.told c.shared.result c.in-Ok.page c.shared.ensures c.set.ensures in
+    let asks = asked c.args.search.now.asks c.push.new.self c.set.new.self _ c.len-at.result c.in_ok-told.told c.args.url.now (Fetched c.in-Ok.page) c.len-at.ensures c.in_ok-push.ensures.ok kept c.in_ok-told.ensures in
     record {
       got = Fetched c.in-Ok.page;
       is = same-search _ (with_ask c.args.search.now (ask_of c.args.url.now (Fetched c.in-Ok.page))) refl asks refl refl refl refl refl;
@@ -55,7 +62,8 @@ returns-in-Ok-clause-ok g c =
 pub returns-in-Ok-clause-used : goal.returns-in-Ok-clause-used
 returns-in-Ok-clause-used g c =
     let is : c.get.result ≡ Ok c.in-Ok.page = c.in-Ok.is in
-    let asks = asked c.args.search.now.asks c.push.new.self c.set.new.self _ c.len-at.result c.in_ok-told.told c.args.url.now (Fetched c.in-Ok.page) c.len-at.ensures c.in_ok-push.ensures.ok c.set.ensures c.in_ok-told.ensures in
+    let kept = of_page c.push.new.self c.set.new.self c.len-at.result c.in_ok-told.told c.shared.result c.in-Ok.page c.shared.ensures c.set.ensures in
+    let asks = asked c.args.search.now.asks c.push.new.self c.set.new.self _ c.len-at.result c.in_ok-told.told c.args.url.now (Fetched c.in-Ok.page) c.len-at.ensures c.in_ok-push.ensures.ok kept c.in_ok-told.ensures in
     uses-page (link_seen (g.L.Link.calls c.args.link.now) (g.L.Link.link_faults c.args.link.now) (g.L.Link.web c.args.link.now))
     (link_seen (g.L.Link.calls c.get.new.self) (g.L.Link.link_faults c.get.new.self) (g.L.Link.web c.get.new.self)) c.args.search.now _ c.args.url.now c.get.ensures.calls c.get.ensures.web c.in-Ok.page
     (same-search _ (with_ask c.args.search.now (ask_of c.args.url.now (Fetched c.in-Ok.page))) refl asks refl refl refl refl refl)
@@ -98,7 +106,8 @@ returns-in-Err-Memory-clause-tried g c =
 pub returns-in-Ok-clause-walked : goal.returns-in-Ok-clause-walked
 returns-in-Ok-clause-walked g c =
     let is : c.get.result ≡ Ok c.in-Ok.page = c.in-Ok.is in
-    let asks = asked c.args.search.now.asks c.push.new.self c.set.new.self _ c.len-at.result c.in_ok-told.told c.args.url.now (Fetched c.in-Ok.page) c.len-at.ensures c.in_ok-push.ensures.ok c.set.ensures c.in_ok-told.ensures in
+    let kept = of_page c.push.new.self c.set.new.self c.len-at.result c.in_ok-told.told c.shared.result c.in-Ok.page c.shared.ensures c.set.ensures in
+    let asks = asked c.args.search.now.asks c.push.new.self c.set.new.self _ c.len-at.result c.in_ok-told.told c.args.url.now (Fetched c.in-Ok.page) c.len-at.ensures c.in_ok-push.ensures.ok kept c.in_ok-told.ensures in
     walked-one g.L.Link.gave c.args.link.now c.get.new.self c.args.search.now.asks _ (ask_of c.args.url.now (Fetched c.in-Ok.page)) asks
     (subst (λ r. g.L.Link.gave c.args.link.now c.get.new.self c.args.url.now r) is c.get.ensures.gave)
 

@@ -49,17 +49,17 @@ returns-in_err-seal-clause-tests g c =
     let p = err_from_is_err_and c.from_residual.result c.from_residual.ensures.1 in
     rw (p.1, p.2) (record {
       acts = (acted-still c.args.call.now _ (record { commons = refl; pass = refl; trace = refl; steps = refl }) c.requires.of refl refl, tt);
-      only = only-none c.args.call.now.trace.now c.args.url.now (pair_of c.args.compact.now.whole c.args.public.now) _ (same-trace _ c.args.call.now.trace.now refl refl refl refl c.in_err-seal.ensures.err refl);
+      only = only-none c.args.call.now.trace.now c.args.url.now (pair_of c.args.compact.now.whole c.args.public.now) _ (same-trace _ c.args.call.now.trace.now refl refl refl refl refl c.in_err-seal.ensures.err refl);
       counted = c.in_err-seal.ensures.counted;
     })
 
 pub returns-in_err-seal-clause-stays_true : goal.returns-in_err-seal-clause-stays_true
 returns-in_err-seal-clause-stays_true g c =
-    true-none c.args.call.now.trace.now c.args.url.now (pair_of c.args.compact.now.whole c.args.public.now) _ (same-trace _ c.args.call.now.trace.now refl refl refl refl c.in_err-seal.ensures.err refl)
+    true-none c.args.call.now.trace.now c.args.url.now (pair_of c.args.compact.now.whole c.args.public.now) _ (same-trace _ c.args.call.now.trace.now refl refl refl refl refl c.in_err-seal.ensures.err refl)
 
 pub returns-in_err-seal-clause-stays_known : goal.returns-in_err-seal-clause-stays_known
 returns-in_err-seal-clause-stays_known g c =
-    known-none c.args.call.now.trace.now c.args.url.now (pair_of c.args.compact.now.whole c.args.public.now) _ (same-trace _ c.args.call.now.trace.now refl refl refl refl c.in_err-seal.ensures.err refl)
+    known-none c.args.call.now.trace.now c.args.url.now (pair_of c.args.compact.now.whole c.args.public.now) _ (same-trace _ c.args.call.now.trace.now refl refl refl refl refl c.in_err-seal.ensures.err refl)
 
 -- ---- it verifies
 
@@ -70,7 +70,7 @@ returns-in_err-url-in-Yes-clause-tests g c =
     let checks = rw c.in-Yes.is at c.in_ok-seal.ensures.ok in
     rw (p.1, p.2) (record {
       acts = (acted-still c.args.call.now _ (record { commons = refl; pass = refl; trace = refl; steps = refl }) c.requires.of refl refl, tt);
-      only = only-check c.args.call.now.trace.now c.args.url.now pair _ true (same-trace _ (with_check c.args.call.now.trace.now (check_of pair true)) refl refl refl refl checks refl);
+      only = only-check c.args.call.now.trace.now c.args.url.now pair _ true (same-trace _ (with_check c.args.call.now.trace.now (check_of pair true)) refl refl refl refl refl checks refl);
       counted = c.in_ok-seal.ensures.counted;
     })
 
@@ -81,14 +81,14 @@ returns-in_err-url-in-Yes-clause-stays_true g c =
     let tested : IsTested c.args.compact.now c.args.public.now (Yes c.in-Yes.seal) = rw c.in-Yes.is at c.in_ok-seal.ensures.tested in
     let gives = shown c.args.call.now.trace.now c.as_slice.result.now c.args.compact.now.whole c.args.public.now c.known_answer.result None c.known_answer.ensures c.as_slice.ensures c.in_default.is in
     let unknown = unknown-is c.args.call.now.trace.now c.args.compact.now c.args.public.now c.requires.compact c.requires.answers gives in
-    true-check c.args.call.now.trace.now c.args.url.now pair _ true (same-trace _ (with_check c.args.call.now.trace.now (check_of pair true)) refl refl refl refl checks refl)
+    true-check c.args.call.now.trace.now c.args.url.now pair _ true (same-trace _ (with_check c.args.call.now.trace.now (check_of pair true)) refl refl refl refl refl checks refl)
     (tested-answer c.args.compact.now c.args.public.now (Yes c.in-Yes.seal) c.requires.compact tested) unknown.0 unknown.1
 
 pub returns-in_err-url-in-Yes-clause-stays_known : goal.returns-in_err-url-in-Yes-clause-stays_known
 returns-in_err-url-in-Yes-clause-stays_known g c =
     let pair = pair_of c.args.compact.now.whole c.args.public.now in
     let checks = rw c.in-Yes.is at c.in_ok-seal.ensures.ok in
-    known-check c.args.call.now.trace.now c.args.url.now pair _ true (same-trace _ (with_check c.args.call.now.trace.now (check_of pair true)) refl refl refl refl checks refl)
+    known-check c.args.call.now.trace.now c.args.url.now pair _ true (same-trace _ (with_check c.args.call.now.trace.now (check_of pair true)) refl refl refl refl refl checks refl)
 
 pub returns-in_err-record_call-in-Yes-clause-tests : goal.returns-in_err-record_call-in-Yes-clause-tests
 returns-in_err-record_call-in-Yes-clause-tests g c =
@@ -99,7 +99,7 @@ returns-in_err-record_call-in-Yes-clause-tests g c =
       acts = (record { parts = record { commons = refl; pass = refl; trace = refl; steps = refl }; kept = c.in_err-record_call-in-Yes.ensures.kept; continues = c.in_err-record_call-in-Yes.ensures.continues }, c.in_err-record_call-in-Yes.ensures.halt);
       only =
           only-check c.args.call.now.trace.now c.args.url.now pair _ true
-          (same-trace _ (with_check c.args.call.now.trace.now (check_of pair true)) refl refl refl refl checks c.in_err-record_call-in-Yes.ensures.err);
+          (same-trace _ (with_check c.args.call.now.trace.now (check_of pair true)) refl refl refl refl refl checks c.in_err-record_call-in-Yes.ensures.err);
       counted = c.in_ok-seal.ensures.counted;
     })
 
@@ -111,7 +111,7 @@ returns-in_err-record_call-in-Yes-clause-stays_true g c =
     let gives = shown c.args.call.now.trace.now c.as_slice.result.now c.args.compact.now.whole c.args.public.now c.known_answer.result None c.known_answer.ensures c.as_slice.ensures c.in_default.is in
     let unknown = unknown-is c.args.call.now.trace.now c.args.compact.now c.args.public.now c.requires.compact c.requires.answers gives in
     true-check c.args.call.now.trace.now c.args.url.now pair _ true
-    (same-trace _ (with_check c.args.call.now.trace.now (check_of pair true)) refl refl refl refl checks c.in_err-record_call-in-Yes.ensures.err)
+    (same-trace _ (with_check c.args.call.now.trace.now (check_of pair true)) refl refl refl refl refl checks c.in_err-record_call-in-Yes.ensures.err)
     (tested-answer c.args.compact.now c.args.public.now (Yes c.in-Yes.seal) c.requires.compact tested) unknown.0 unknown.1
 
 pub returns-in_err-record_call-in-Yes-clause-stays_known : goal.returns-in_err-record_call-in-Yes-clause-stays_known
@@ -119,7 +119,7 @@ returns-in_err-record_call-in-Yes-clause-stays_known g c =
     let pair = pair_of c.args.compact.now.whole c.args.public.now in
     let checks = rw c.in-Yes.is at c.in_ok-seal.ensures.ok in
     known-check c.args.call.now.trace.now c.args.url.now pair _ true
-    (same-trace _ (with_check c.args.call.now.trace.now (check_of pair true)) refl refl refl refl checks c.in_err-record_call-in-Yes.ensures.err)
+    (same-trace _ (with_check c.args.call.now.trace.now (check_of pair true)) refl refl refl refl refl checks c.in_err-record_call-in-Yes.ensures.err)
 
 pub returns-in-Yes-clause-answer : goal.returns-in-Yes-clause-answer
 returns-in-Yes-clause-answer g c =
@@ -132,7 +132,7 @@ returns-in-Yes-clause-good g c =
     let checks = rw c.in-Yes.is at c.in_ok-seal.ensures.ok in
     let tested : IsTested c.args.compact.now c.args.public.now (Yes c.in-Yes.seal) = rw c.in-Yes.is at c.in_ok-seal.ensures.tested in
     let proved = prove-recorded c.args.call.now.trace.now.events c.record_call.new.events c.args.url.now c.in_ok-url-in-Yes.url c.in-Yes.seal (check_of pair true) (Prove c.in_ok-url-in-Yes.url c.in-Yes.seal) c.in_ok-url-in-Yes.ensures tested.0 refl c.in_ok-record_call-in-Yes.ensures.ok in
-    λ aye. known-both c.args.call.now.trace.now c.args.url.now pair proved.0 _ (same-trace _ (with_prove (with_check c.args.call.now.trace.now (check_of pair true)) c.args.url.now pair proved.0) refl refl refl refl checks proved.1)
+    λ aye. known-both c.args.call.now.trace.now c.args.url.now pair proved.0 _ (same-trace _ (with_prove (with_check c.args.call.now.trace.now (check_of pair true)) c.args.url.now pair proved.0) refl refl refl refl refl checks proved.1)
 
 pub returns-in-Yes-clause-tests : goal.returns-in-Yes-clause-tests
 returns-in-Yes-clause-tests g c =
@@ -142,7 +142,7 @@ returns-in-Yes-clause-tests g c =
     let proved = prove-recorded c.args.call.now.trace.now.events c.record_call.new.events c.args.url.now c.in_ok-url-in-Yes.url c.in-Yes.seal (check_of pair true) (Prove c.in_ok-url-in-Yes.url c.in-Yes.seal) c.in_ok-url-in-Yes.ensures tested.0 refl c.in_ok-record_call-in-Yes.ensures.ok in
     record {
       acts = record { parts = record { commons = refl; pass = refl; trace = refl; steps = refl }; kept = c.in_ok-record_call-in-Yes.ensures.kept; continues = c.in_ok-record_call-in-Yes.ensures.continues };
-      only = only-both c.args.call.now.trace.now c.args.url.now pair proved.0 _ (same-trace _ (with_prove (with_check c.args.call.now.trace.now (check_of pair true)) c.args.url.now pair proved.0) refl refl refl refl checks proved.1);
+      only = only-both c.args.call.now.trace.now c.args.url.now pair proved.0 _ (same-trace _ (with_prove (with_check c.args.call.now.trace.now (check_of pair true)) c.args.url.now pair proved.0) refl refl refl refl refl checks proved.1);
       counted = c.in_ok-seal.ensures.counted;
     }
 
@@ -154,7 +154,7 @@ returns-in-Yes-clause-stays_true g c =
     let proved = prove-recorded c.args.call.now.trace.now.events c.record_call.new.events c.args.url.now c.in_ok-url-in-Yes.url c.in-Yes.seal (check_of pair true) (Prove c.in_ok-url-in-Yes.url c.in-Yes.seal) c.in_ok-url-in-Yes.ensures tested.0 refl c.in_ok-record_call-in-Yes.ensures.ok in
     let gives = shown c.args.call.now.trace.now c.as_slice.result.now c.args.compact.now.whole c.args.public.now c.known_answer.result None c.known_answer.ensures c.as_slice.ensures c.in_default.is in
     let unknown = unknown-is c.args.call.now.trace.now c.args.compact.now c.args.public.now c.requires.compact c.requires.answers gives in
-    true-both c.args.call.now.trace.now c.args.url.now pair proved.0 _ (same-trace _ (with_prove (with_check c.args.call.now.trace.now (check_of pair true)) c.args.url.now pair proved.0) refl refl refl refl checks proved.1)
+    true-both c.args.call.now.trace.now c.args.url.now pair proved.0 _ (same-trace _ (with_prove (with_check c.args.call.now.trace.now (check_of pair true)) c.args.url.now pair proved.0) refl refl refl refl refl checks proved.1)
     (tested-answer c.args.compact.now c.args.public.now (Yes c.in-Yes.seal) c.requires.compact tested) unknown.0 unknown.1
 
 pub returns-in-Yes-clause-stays_known : goal.returns-in-Yes-clause-stays_known
@@ -163,7 +163,7 @@ returns-in-Yes-clause-stays_known g c =
     let checks = rw c.in-Yes.is at c.in_ok-seal.ensures.ok in
     let tested : IsTested c.args.compact.now c.args.public.now (Yes c.in-Yes.seal) = rw c.in-Yes.is at c.in_ok-seal.ensures.tested in
     let proved = prove-recorded c.args.call.now.trace.now.events c.record_call.new.events c.args.url.now c.in_ok-url-in-Yes.url c.in-Yes.seal (check_of pair true) (Prove c.in_ok-url-in-Yes.url c.in-Yes.seal) c.in_ok-url-in-Yes.ensures tested.0 refl c.in_ok-record_call-in-Yes.ensures.ok in
-    known-more c.args.call.now.trace.now c.args.url.now pair proved.0 _ (same-trace _ (with_prove (with_check c.args.call.now.trace.now (check_of pair true)) c.args.url.now pair proved.0) refl refl refl refl checks proved.1)
+    known-more c.args.call.now.trace.now c.args.url.now pair proved.0 _ (same-trace _ (with_prove (with_check c.args.call.now.trace.now (check_of pair true)) c.args.url.now pair proved.0) refl refl refl refl refl checks proved.1)
 
 pub returns-in-Yes-clause-proved : goal.returns-in-Yes-clause-proved
 returns-in-Yes-clause-proved g c =
@@ -171,7 +171,7 @@ returns-in-Yes-clause-proved g c =
     let checks = rw c.in-Yes.is at c.in_ok-seal.ensures.ok in
     let tested : IsTested c.args.compact.now c.args.public.now (Yes c.in-Yes.seal) = rw c.in-Yes.is at c.in_ok-seal.ensures.tested in
     let proved = prove-recorded c.args.call.now.trace.now.events c.record_call.new.events c.args.url.now c.in_ok-url-in-Yes.url c.in-Yes.seal (check_of pair true) (Prove c.in_ok-url-in-Yes.url c.in-Yes.seal) c.in_ok-url-in-Yes.ensures tested.0 refl c.in_ok-record_call-in-Yes.ensures.ok in
-    proved-both c.args.call.now.trace.now c.args.url.now pair proved.0 _ (same-trace _ (with_prove (with_check c.args.call.now.trace.now (check_of pair true)) c.args.url.now pair proved.0) refl refl refl refl checks proved.1)
+    proved-both c.args.call.now.trace.now c.args.url.now pair proved.0 _ (same-trace _ (with_prove (with_check c.args.call.now.trace.now (check_of pair true)) c.args.url.now pair proved.0) refl refl refl refl refl checks proved.1)
 
 -- ---- it doesn't verify
 
@@ -186,7 +186,7 @@ returns-clause-tests g c =
     let checks = rw c.in-No.is at c.in_ok-seal.ensures.ok in
     record {
       acts = acted-still c.args.call.now _ (record { commons = refl; pass = refl; trace = refl; steps = refl }) c.requires.of refl refl;
-      only = only-check c.args.call.now.trace.now c.args.url.now pair _ false (same-trace _ (with_check c.args.call.now.trace.now (check_of pair false)) refl refl refl refl checks refl);
+      only = only-check c.args.call.now.trace.now c.args.url.now pair _ false (same-trace _ (with_check c.args.call.now.trace.now (check_of pair false)) refl refl refl refl refl checks refl);
       counted = c.in_ok-seal.ensures.counted;
     }
 
@@ -197,17 +197,17 @@ returns-clause-stays_true g c =
     let tested : IsTested c.args.compact.now c.args.public.now (No c.in-No.field-0) = rw c.in-No.is at c.in_ok-seal.ensures.tested in
     let gives = shown c.args.call.now.trace.now c.as_slice.result.now c.args.compact.now.whole c.args.public.now c.known_answer.result None c.known_answer.ensures c.as_slice.ensures c.in_default.is in
     let unknown = unknown-is c.args.call.now.trace.now c.args.compact.now c.args.public.now c.requires.compact c.requires.answers gives in
-    true-check c.args.call.now.trace.now c.args.url.now pair _ false (same-trace _ (with_check c.args.call.now.trace.now (check_of pair false)) refl refl refl refl checks refl)
+    true-check c.args.call.now.trace.now c.args.url.now pair _ false (same-trace _ (with_check c.args.call.now.trace.now (check_of pair false)) refl refl refl refl refl checks refl)
     (tested-answer c.args.compact.now c.args.public.now (No c.in-No.field-0) c.requires.compact tested) unknown.0 unknown.1
 
 pub returns-clause-stays_known : goal.returns-clause-stays_known
 returns-clause-stays_known g c =
     let pair = pair_of c.args.compact.now.whole c.args.public.now in
     let checks = rw c.in-No.is at c.in_ok-seal.ensures.ok in
-    known-check c.args.call.now.trace.now c.args.url.now pair _ false (same-trace _ (with_check c.args.call.now.trace.now (check_of pair false)) refl refl refl refl checks refl)
+    known-check c.args.call.now.trace.now c.args.url.now pair _ false (same-trace _ (with_check c.args.call.now.trace.now (check_of pair false)) refl refl refl refl refl checks refl)
 
 pub returns-clause-proved : goal.returns-clause-proved
 returns-clause-proved g c =
     let pair = pair_of c.args.compact.now.whole c.args.public.now in
     let checks = rw c.in-No.is at c.in_ok-seal.ensures.ok in
-    proved-bad c.args.call.now.trace.now c.args.url.now pair _ (same-trace _ (with_check c.args.call.now.trace.now (check_of pair false)) refl refl refl refl checks refl)
+    proved-bad c.args.call.now.trace.now c.args.url.now pair _ (same-trace _ (with_check c.args.call.now.trace.now (check_of pair false)) refl refl refl refl refl checks refl)

@@ -5,5 +5,4 @@ use Rattle.resolve_search.proofs.judging.compact_of.Goals as goal
 
 pub unreachable-requires : goal.unreachable-requires
 unreachable-requires c =
-    let gives = rw c.as_slice.ensures at c.split.ensures.exact in
-    ⊎_elim (λ wanting. c.in_default.not-Memory (cc (wanting, c.in-Err.is))) (λ given. cc (given.1, c.in-Err.is)) (split-or c.split.result (splitting c.args.text.now) gives c.requires)
+    ⊎_elim (λ wanting. c.in_default.not-Memory (cc (wanting, c.in-Err.is))) (λ given. cc (given.1, c.in-Err.is)) (split-or c.split_text.result (splitting c.args.text.now) c.split_text.ensures.exact c.requires)

@@ -30,7 +30,7 @@ returns-in_err-session-clause-link g c =
 pub loop-session-init : goal.loop-session-init
 loop-session-init g c = record {
   acted = acted-none c.args.call.now c.requires.ready.of;
-  same = record { moment = refl; epoch = refl; keys = refl; searches = refl };
+  same = record { moment = refl; epoch = refl; keys = refl; bounds = refl; searches = refl };
   used = uses-none (link_seen (g.L.Link.calls c.args.link.now) (g.L.Link.link_faults c.args.link.now) (g.L.Link.web c.args.link.now)) c.args.search.now c.args.search.now refl;
   walked = walked-none g.L.Link.gave c.args.link.now c.args.link.now c.args.search.now.asks c.args.search.now.asks refl refl;
   holds = c.requires.ready.holds;

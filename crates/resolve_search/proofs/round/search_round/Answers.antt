@@ -20,7 +20,7 @@ returns-in_err-search-clause-acts g c =
     rw (p.1, p.2) (record { parts = record { commons = refl; pass = refl; trace = refl; steps = refl }; kept = kept-same c.args.call.now.commons.now c.args.call.now.pass.now c.requires.of; continues = continues-none c.args.call.now.trace.now.events (known c.args.call.now.pass.now) }, tt)
 
 pub returns-in_err-search-clause-call : goal.returns-in_err-search-clause-call
-returns-in_err-search-clause-call g c = record { moment = refl; epoch = refl; keys = refl; searches = inl refl }
+returns-in_err-search-clause-call g c = record { moment = refl; epoch = refl; keys = refl; bounds = refl; searches = inl refl }
 
 pub returns-in_err-search-clause-link : goal.returns-in_err-search-clause-link
 returns-in_err-search-clause-link g c =
@@ -36,7 +36,7 @@ returns-in_err-begun-clause-acts g c =
     rw (p.1, p.2) (record { parts = record { commons = refl; pass = refl; trace = refl; steps = refl }; kept = kept-same c.args.call.now.commons.now c.args.call.now.pass.now c.requires.of; continues = continues-none c.args.call.now.trace.now.events (known c.args.call.now.pass.now) }, tt)
 
 pub returns-in_err-begun-clause-call : goal.returns-in_err-begun-clause-call
-returns-in_err-begun-clause-call g c = record { moment = refl; epoch = refl; keys = refl; searches = inl refl }
+returns-in_err-begun-clause-call g c = record { moment = refl; epoch = refl; keys = refl; bounds = refl; searches = inl refl }
 
 pub returns-in_err-begun-clause-link : goal.returns-in_err-begun-clause-link
 returns-in_err-begun-clause-link g c =
@@ -52,7 +52,7 @@ returns-in_err-push-clause-acts g c =
     rw (p.1, p.2) (record { parts = record { commons = refl; pass = refl; trace = refl; steps = refl }; kept = kept-same c.args.call.now.commons.now c.args.call.now.pass.now c.requires.of; continues = continues-none c.args.call.now.trace.now.events (known c.args.call.now.pass.now) }, tt)
 
 pub returns-in_err-push-clause-call : goal.returns-in_err-push-clause-call
-returns-in_err-push-clause-call g c = record { moment = refl; epoch = refl; keys = refl; searches = inl c.in_err-push.ensures.err }
+returns-in_err-push-clause-call g c = record { moment = refl; epoch = refl; keys = refl; bounds = refl; searches = inl c.in_err-push.ensures.err }
 
 pub returns-in_err-push-clause-link : goal.returns-in_err-push-clause-link
 returns-in_err-push-clause-link g c =
@@ -112,7 +112,7 @@ returns-clause-call g c =
     let at = c.drive-result.ensures.keeps.same.searches ∙ c.in_ok-push.ensures.ok in
     let set = put-last c.args.call.now.trace.now.searches c.drive-result.new.call.trace.now.searches c.set.new.self c.in_ok-begun.field-0 c.drive-result.new.search c.len-at.result c.len-at.ensures at c.set.ensures in
     let same = c.drive-result.ensures.keeps.same in
-    record { moment = same.moment; epoch = same.epoch; keys = same.keys; searches = inr (c.drive-result.new.search, set) }
+    record { moment = same.moment; epoch = same.epoch; keys = same.keys; bounds = same.bounds; searches = inr (c.drive-result.new.search, set) }
 
 pub returns-clause-link : goal.returns-clause-link
 returns-clause-link g c =

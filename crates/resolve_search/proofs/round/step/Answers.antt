@@ -53,7 +53,7 @@ returns-in-Judge-clause-link g c =
 pub returns-in-Done-clause-keeps : goal.returns-in-Done-clause-keeps
 returns-in-Done-clause-keeps g c = record {
   acts = acted-none c.args.call.now c.requires.ready.of;
-  same = record { moment = refl; epoch = refl; keys = refl; searches = refl };
+  same = record { moment = refl; epoch = refl; keys = refl; bounds = refl; searches = refl };
   counted = counts-none c.args.call.now.trace.now.checks c.args.call.now.trace.now.checks _ _ refl refl;
   holds = holds-ended c.args.aim.now.age c.args.call.now.trace.now c.args.search.now c.done.new.search (ended_as c.in-Done.end c.args.search.now.ended) c.done.ensures.search c.requires.ready.holds;
   good = good-ended c.args.aim.now.age c.args.call.now.trace.now c.args.search.now c.done.new.search (ended_as c.in-Done.end c.args.search.now.ended) c.done.ensures.search c.requires.ready.good;

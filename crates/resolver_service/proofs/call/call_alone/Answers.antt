@@ -20,7 +20,7 @@ returns-clause-told g c = λ anchors fresh.
         history = history;
       };
       keys =
-          has-keys anchors (situation_of c.args.asked.now.request.now c.args.asked.now.signer.now.age c.args.asked.now.moment) c.args.asked.now.signer.now c.resolve-outcome.result
+          has-keys anchors (situation_of c.args.asked.now.request.now c.args.asked.now.signer.now c.args.asked.now.moment) c.args.asked.now.signer.now c.resolve-outcome.result
           (legal-book c.args.asked.now.commons.now anchors c.args.pass.now c.resolve-outcome.new.pass fresh events all history)
           c.resolve-outcome.ensures.resolves.tells;
       sealed = c.resolve-outcome.ensures.sealed;
@@ -29,5 +29,5 @@ returns-clause-told g c = λ anchors fresh.
 pub returns-clause-fails : goal.returns-clause-fails
 returns-clause-fails g c = record {
   faults = c.resolve-outcome.ensures.link.faults;
-  unavailable = unavailable (situation_of c.args.asked.now.request.now c.args.asked.now.signer.now.age c.args.asked.now.moment) c.args.asked.now.signer.now c.resolve-outcome.result _ _ c.resolve-outcome.ensures.resolves.tells c.resolve-outcome.ensures.link.faults;
+  unavailable = unavailable (situation_of c.args.asked.now.request.now c.args.asked.now.signer.now c.args.asked.now.moment) c.args.asked.now.signer.now c.resolve-outcome.result _ _ c.resolve-outcome.ensures.resolves.tells c.resolve-outcome.ensures.link.faults;
 }

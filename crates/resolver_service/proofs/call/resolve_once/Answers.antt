@@ -1,6 +1,8 @@
-use Rattle.std.proofs.Common.{refl, ap₂}
+use Rattle.std.proofs.Common.{refl, sym, subst}
 use Rattle.std.proofs.lemmas.Result.{err_from_is_err_and}
-use Rattle.resolver_service.specs.Ports.{call_seen}
+use Rattle.fed_ports.specs.Times.{IsOneReading, Told}
+use Rattle.resolver_service.specs.CallSteps.{IsCallAt}
+use Rattle.resolver_service.specs.Ports.{clock_seen, network_seen}
 use Rattle.resolver_service.proofs.CallLaws.{call-by, no-memory, no-node}
 use Rattle.resolver_service.proofs.call.resolve_once.Goals as goal
 
@@ -25,25 +27,36 @@ returns-in_err-parts-clause-resolves g c =
       store = c.in_ok-registry.ensures.counts;
     })
 
-pub returns-in_err-outcome-clause-resolves : goal.returns-in_err-outcome-clause-resolves
-returns-in_err-outcome-clause-resolves g c =
-    let p = err_from_is_err_and c.from_residual-in_err-outcome.result c.from_residual-in_err-outcome.ensures.1 in
+pub returns-in_err-call-clause-resolves : goal.returns-in_err-call-clause-resolves
+returns-in_err-call-clause-resolves g c =
+    let p = err_from_is_err_and c.from_residual-in_err-call.result c.from_residual-in_err-call.ensures.1 in
     rw (p.1, p.2) (record {
-      calls = no-memory _ _ _ (ap₂ (call_seen g.N.Network g.C.Clock) c.in_err-outcome.ensures.unasked.0 c.in_err-outcome.ensures.unasked.1);
+      calls = no-memory _ _ _ refl;
       files = c.in_ok-registry.ensures.files;
       store = c.in_ok-registry.ensures.counts;
     })
 
+pub resolve_at-requires-clause-ready : goal.resolve_at-requires-clause-ready
+resolve_at-requires-clause-ready g c = λ lives within. (c.in_ok-parts.parts, c.in_ok-call.ensures)
+
 pub returns-clause-resolves : goal.returns-clause-resolves
 returns-clause-resolves g c =
     let are = c.in_ok-parts.ensures in
+    let reading : IsOneReading (clock_seen g.C.Clock c.args.clock.now) (clock_seen g.C.Clock c.now-moment.new.self) = record {
+      counted = c.now-moment.ensures.counted;
+      added = subst (Told (g.C.Clock.readings c.args.clock.now) (g.C.Clock.told c.args.clock.now) (g.C.Clock.told c.now-moment.new.self)) (sym c.now-moment.ensures.last) c.now-moment.ensures.told;
+    } in
     record {
       calls = record {
         node = c.in_ok-registry.registry;
         is_node = c.in_ok-registry.ensures.node.0;
         resolver = are.resolver;
         resolves = are.resolves;
-        call = call-by c.in_ok-registry.registry c.in_ok-parts.parts c.args.request.now _ _ c.in_ok-outcome.outcome are c.in_ok-outcome.ensures.call;
+        call =
+            call-by c.in_ok-registry.registry c.in_ok-parts.parts c.args.request.now (clock_seen g.C.Clock c.args.clock.now) (clock_seen g.C.Clock c.now-moment.new.self)
+            (network_seen g.N.Network c.args.net.now) (network_seen g.N.Network c.resolve_at.new.net) c.resolve_at.result are reading
+            (subst (λ moment. IsCallAt c.in_ok-parts.parts c.args.request.now moment (network_seen g.N.Network c.args.net.now) (network_seen g.N.Network c.resolve_at.new.net) c.resolve_at.result)
+            (sym c.now-moment.ensures.last) (c.resolve_at.ensures.call c.in_ok-parts.parts c.in_ok-call.ensures));
       };
       files = c.in_ok-registry.ensures.files;
       store = c.in_ok-registry.ensures.counts;

@@ -5,4 +5,4 @@ use Rattle.resolver_service.proofs.laws.one_round.Goals as goal
 
 pub returns : goal.returns
 returns c = λ node resolver request before now outcome call whole.
-    one-round (situation_of request resolver.age now.clock.last) (signer_of node resolver call.pair) call.anchors outcome call.alone whole.told
+    one-round (situation_of request (signer_of node resolver call.pair) now.clock.last) (signer_of node resolver call.pair) call.anchors outcome call.alone whole.told

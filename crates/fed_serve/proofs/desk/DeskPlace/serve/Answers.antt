@@ -1,6 +1,10 @@
 use Rattle.std.proofs.Common.{refl, rules}
+use denote.Param.Send.{given_sync, param_sync}
 use Rattle.fed_serve.proofs.DeskLaws.{served_at}
 use Rattle.fed_serve.proofs.desk.DeskPlace.serve.Goals as goal
+
+pub serve_by-told-requires-sync-R : goal.serve_by-told-requires-sync-R
+serve_by-told-requires-sync-R g c κs within = param_sync _ _ (given_sync _ g.row.R c.requires.sync)
 
 pub returns : goal.returns
 returns g c =

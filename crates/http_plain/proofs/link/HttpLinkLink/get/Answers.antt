@@ -1,4 +1,5 @@
-use Rattle.std.proofs.Common.{subst}
+use Rattle.std.proofs.Common.{◌∙◌, subst}
+use Rattle.http_plain.specs.Clients.{message_of}
 use Rattle.http_plain.specs.Links.{link_routes}
 use Rattle.http_plain.specs.Plans.{IsTarget}
 use Rattle.http_plain.proofs.Exchanging.{leaves}
@@ -6,12 +7,12 @@ use Rattle.http_plain.proofs.link.HttpLinkLink.get.Goals as goal
 
 pub returns-in-Err-Failed-clause-left : goal.returns-in-Err-Failed-clause-left
 returns-in-Err-Failed-clause-left g c =
-    leaves (link_routes c.args.self.now) _ c.args.url.now _ _ _ c.in-Some.target.to _ _ c.as_slice.ensures c.as_slice-2.ensures
-    (subst (IsTarget c.as_slice.result.now c.as_slice-2.result.now) c.in-Some.is c.in_ok-target.ensures) c.as_bytes-message.ensures.value
+    leaves message_of (link_routes c.args.self.now) _ c.args.url.now _ _ _ c.in-Some.target.url c.in-Some.target.to _ c.as_slice.ensures c.as_slice-2.ensures
+    (subst (IsTarget c.as_slice.result.now c.as_slice-2.result.now) c.in-Some.is c.in_ok-target.ensures) (c.as_bytes.ensures.value ∙ c.in_ok-message.ensures)
     c.in-Err-Failed.ensures.left
 
 pub returns-clause-left : goal.returns-clause-left
 returns-clause-left g c =
-    leaves (link_routes c.args.self.now) _ c.args.url.now _ _ _ c.in-Some.target.to _ _ c.as_slice.ensures c.as_slice-2.ensures
-    (subst (IsTarget c.as_slice.result.now c.as_slice-2.result.now) c.in-Some.is c.in_ok-target.ensures) c.as_bytes-message.ensures.value
+    leaves message_of (link_routes c.args.self.now) _ c.args.url.now _ _ _ c.in-Some.target.url c.in-Some.target.to _ c.as_slice.ensures c.as_slice-2.ensures
+    (subst (IsTarget c.as_slice.result.now c.as_slice-2.result.now) c.in-Some.is c.in_ok-target.ensures) (c.as_bytes.ensures.value ∙ c.in_ok-message.ensures)
     c.in-Err-Memory.ensures.left

@@ -1,5 +1,0 @@
-use Rattle.std.proofs.Common.{rules}
-use Rattle.fed_serve.proofs.answer.issue.Goals as goal
-
-pub returns-in-HistoricalKeys-clause-response : goal.returns-in-HistoricalKeys-clause-response
-returns-in-HistoricalKeys-clause-response g c = search rules

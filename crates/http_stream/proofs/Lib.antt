@@ -1,0 +1,4 @@
+pub mod OneStream
+pub mod Reaching
+pub mod Serving
+pub mod Streaming

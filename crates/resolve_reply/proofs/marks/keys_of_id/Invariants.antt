@@ -1,6 +1,0 @@
-use Rattle.std.proofs.Common.{◌≡◌, drop}
-use Rattle.resolve_reply.specs.Marks.{keys_of}
-use Rattle.resolve_reply.proofs.marks.keys_of_id.Given as goal
-
-abbrev pub invariant-loop-issuer : goal.invariant-loop-issuer
-invariant-loop-issuer l = keys_of l.found l.id ≡ keys_of (drop l.issuer-index l.found) l.id
