@@ -66,9 +66,13 @@ def deep(size):
 
 
 def wide(size):
-    """A leaf with so many superiors, of whom the last hints the anchor."""
+    """A leaf with so many superiors, of whom one hints the anchor: at most 32 are hinted by the leaf, which can't hint more, and the others by
+    these, from the last of them on. The search asks for two pages of each, and for three more."""
     names = [f"https://im-{number}.example" for number in range(size)]
-    return {LEAF: names, **{name: [] for name in names[:-1]}, names[-1]: [ANCHOR], ANCHOR: []}
+    hinted, others = names[:32], names[32:]
+    above = {name: others[31 * at : 31 * at + 31] for at, name in enumerate(reversed(hinted))}
+    above[hinted[-1]] = [*above[hinted[-1]], ANCHOR]
+    return {LEAF: hinted, **{name: above.get(name, []) for name in names}, ANCHOR: []}
 
 
 def served(pages):

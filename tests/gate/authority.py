@@ -50,11 +50,11 @@ def type_of(text):
 
 
 class Node:
-    """An authority on a port of its own for so many connections."""
+    """An authority on a port of its own for so many connections, which go on where it streams."""
 
-    def __init__(self, config, connections):
+    def __init__(self, config, connections, stream=False):
         self.port = free_port()
-        words = ["authority", "--config", config, "--port", str(self.port), "--connections", str(connections)]
+        words = ["authority", "--config", config, "--port", str(self.port), "--connections", str(connections), *["--stream", "yes"] * stream]
         self.running = subprocess.Popen([FED, *words], cwd=place, stdout=subprocess.PIPE, stderr=subprocess.PIPE)
         started.append(self.running)
         self.connections = connections
@@ -244,6 +244,66 @@ def behind_empty_lines():
     tell(f"the log of these: {log!r}", [line.split(" ")[2:5] for line in log.splitlines()] == [["GET", "/fed/list", "200"]] * len(leads))
 
 
+def streams():
+    """Connections that go on: by http.client and curl, in one piece and byte by byte, and one that is idle while another caller waits."""
+    good = b"GET /fed/list HTTP/1.1\r\nHost: a\r\n\r\n"
+    has_curl = shutil.which("curl") is not None
+    node = Node(NODE, 6 + has_curl, stream=True)
+    kept = http.client.HTTPConnection("127.0.0.1", node.port, timeout=PATIENCE)
+    kept.sock = connection = node.connect()
+    for path, wanted in (("/fed/list", 200), ("/fed/fetch?sub=https%3A%2F%2Fno.example", 404), ("/fed/nothing", 400), ("/fed/list", 200)):
+        kept.request("GET", path)
+        answer = kept.getresponse()
+        answer.read()
+        so = (answer.status, answer.getheader("Connection"), kept.sock is connection) == (wanted, "keep-alive", True)
+        tell(f"one connection, {path}: {answer.status} {answer.getheader('Connection')}", so)
+    kept.request("GET", "/fed/list", headers={"Connection": "Close"})
+    answer = kept.getresponse()
+    tell(f"the last of it: {answer.status} {answer.getheader('Connection')}", (answer.status, answer.getheader("Connection")) == (200, "close"))
+    connection.close()
+
+    def words_of(got):
+        return [it.split(b"\r\n")[0] for it in got.split(b"Connection: ")[1:]]
+
+    tell("two in one piece", words_of(node.raw(good + good)) == [b"keep-alive"] * 2)
+    with node.connect() as it:
+        it.setsockopt(socket.IPPROTO_TCP, socket.TCP_NODELAY, 1)
+        for byte in good + good:
+            it.sendall(bytes([byte]))
+        it.shutdown(socket.SHUT_WR)
+        got = b""
+        while piece := it.recv(65536):
+            got += piece
+    tell("two byte by byte", words_of(got) == [b"keep-alive"] * 2)
+    stray = good[:-2] + b"Content-Length: 5\r\n\r\n"
+    got = node.raw(stray + b"GET /" + good)
+    tell(f"a GET that states a body: {got[:40]!r}", got.startswith(b"HTTP/1.1 400") and words_of(got) == [b"close"])
+    # of a request whose beginning came with the end of the one before nothing is told but the status: of the second of two in one piece, and of the
+    # second of two by single bytes where the node read several at once
+    lines = [("GET", "/fed/list", "200"), ("GET", "/fed/fetch", "404"), ("GET", "/fed/nothing", "400"), ("GET", "/fed/list", "200"),
+             ("GET", "/fed/list", "200"), ("GET", "/fed/list", "200"), ("-", "-", "200"), ("GET", "/fed/list", "200"),
+             ("GET", "/fed/list", "200"), ("GET", "/fed/list", "400")]
+    if has_curl:
+        url = f"http://127.0.0.1:{node.port}/fed/list"
+        done = subprocess.run(["curl", "-q", "-s", "-v", "--noproxy", "*", "--fail", url, url], capture_output=True, timeout=PATIENCE)
+        tell(f"curl asks twice: {done.returncode} {done.stderr[-300:]}", done.returncode == 0 and b"Re-using" in done.stderr)
+        lines += [("GET", "/fed/list", "200")] * 2
+    with node.connect() as idle:
+        idle.sendall(good)
+        idle.recv(65536)
+        began = time.monotonic()
+        got = node.raw(good)
+        spent = time.monotonic() - began
+        tell(f"beside an idle caller: {got[:40]!r} in {spent} s", got.startswith(b"HTTP/1.1 200") and spent < 2)
+        tell("the idle one gets its end", idle.recv(65536) == b"")
+    end = node.ended()
+    tell(f"the end of streams: {end[:2]}", end[:2] == (0, f"served {6 + has_curl}\n"))
+    told = [tuple(line.split(" ")[2:5]) for line in end[2].splitlines()]
+    if told[8:9] == [("-", "-", "200")]:
+        told[8] = lines[8]
+    tell(f"the log: a line for each answer: {told}", told == lines + [("GET", "/fed/list", "200")] * 2)
+
+
 def port_taken():
     with socket.socket() as it:
         it.bind(("127.0.0.1", 0))
@@ -314,7 +374,7 @@ def limits():
 def main():
     subprocess.run([FED, "--version"], check=True, stdout=subprocess.DEVNULL)
     try:
-        return tried("authority", [paths, revoked_marks, by_curl, listens, hostile, behind_empty_lines, port_taken, faulty, limits, many])
+        return tried("authority", [paths, revoked_marks, by_curl, listens, hostile, behind_empty_lines, streams, port_taken, faulty, limits, many])
     finally:
         shutil.rmtree(place)
 

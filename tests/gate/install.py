@@ -273,7 +273,7 @@ def pages_say_what_is():
     # of a ring's words, those of its states and of the keys that are told of it aren't members
     ring = text_of("man/fed-ring.5")
     words_of = set(members_in("man/fed-ring.5")) | set(re.findall(r"dq(\w+)\\", ring))
-    told = {"alg", "kid", "kty", "pub", "revoked"}
+    told = {"kid", "kty", "pub", "revoked"}
     same("the words of fed-ring(5)", words_of, named_in("key_ring") - told)
 
 
@@ -288,7 +288,7 @@ def examples_run():
     with open(f"{folder}/node.ring", encoding="utf-8") as it:
         kept = it.read()
     keys = json.loads(kept)["keys"]
-    same("the keys of the ring of the examples", [sorted(key) for key in keys], [["exp", "iat", "seeds", "state"]] * 2)
+    same("the keys of the ring of the examples", [sorted(key) for key in keys], [["alg", "exp", "iat", "seeds", "state"]] * 2)
     shown = [shown_ring(key["seeds"], key["iat"], key["exp"]) for key in keys]
     same("the ring of the examples", kept, shown[0].replace("}]", "}," + json.dumps(keys[1], separators=(",", ":")) + "]"))
 
@@ -368,8 +368,8 @@ def options_in(call):
 
 
 def told_values(*words):
-    """Gives the values that the program says of an option whose value isn't of its form."""
-    return re.split(", | or ", re.search("it is (.*)$", fed(*words)[2].strip())[1])
+    """Gives the values that the program says an option takes, where it is given another; what stands in brackets says what they mean."""
+    return re.split(", | or ", re.sub(r" \([^)]*\)", "", re.search("takes (.*), and not x$", fed(*words)[2].strip())[1]))
 
 
 def table_has_the_words():
@@ -383,8 +383,10 @@ def table_has_the_words():
     same("options with a file", sorted(it for it in values if values[it] == ["file"]), sorted(it for it in options if options[it] == "FILE"))
     wanted = {
         "--act": told_values("rotate", "--ring", "r", "--act", "x"),
+        "--alg": told_values("keygen", "--ring", "r", "--at", "1", "--exp", "2", "--alg", "x"),
         "--typ": told_values("issue", "--ring", "r", "--typ", "x"),
         "--reason": told_values("rotate", "--ring", "r", "--act", "revoke", "--kid", "k", "--at", "1", "--reason", "x"),
+        "--stream": told_values("authority", "--config", "c", "--stream", "x"),
     }
     same("values", {it: words for it, words in values.items() if words != ["file"]}, wanted)
     same("acts", values["--act"], [options_in(call)["--act"] for call in said if call[0] == "rotate"])

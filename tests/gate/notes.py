@@ -90,27 +90,52 @@ def sealed(ring, claims):
 
 USAGE = [
     "usage: fed verify PUB < TEXT",
-    "usage: fed keygen --ring FILE --at T --exp T < SEEDS",
-    "usage: fed issue --ring FILE --typ TYP < CLAIMS",
-    "usage: fed rotate --ring FILE --act add --at T --exp T < SEEDS",
+    "usage: fed keygen --ring FILE --at T --exp T [--alg ALG] < SEEDS",
+    "usage: fed issue --ring FILE --typ TYP [--workers W] < CLAIMS",
+    "usage: fed rotate --ring FILE --act add --at T --exp T [--alg ALG] < SEEDS",
     "usage: fed rotate --ring FILE --act retire --kid KID",
     "usage: fed rotate --ring FILE --act revoke --kid KID --at T --reason R",
     "usage: fed public --ring FILE [--kid KID]",
     "usage: fed check --anchor ID --keys FILE [--at T] < CHAIN",
     "usage: fed show < TEXT",
     "usage: fed check-config --config FILE [--at T]",
-    "usage: fed authority --config FILE --port P --connections N",
+    "usage: fed authority --config FILE --port P --connections N [--stream yes]",
     "usage: fed resolver --config FILE --port P --connections N",
     "usage: fed resolve --config FILE --sub ID --anchor ID",
     "usage: fed rehearse --params N",
     "usage: fed help COMMAND",
     "usage: fed --help | --version",
 ]
-NO_MOMENT = "isn't of its form; a moment is in seconds since 1970, below 2^62, in decimal digits without sign and leading zero"
+MOMENT = "a moment in seconds since 1970, below 2^62, in decimal digits without sign and leading zero"
+ALGORITHMS = "128s (SLH-DSA-SHA2-128s, small signatures) or 128f (SLH-DSA-SHA2-128f, fast ones)"
 
 
 def faulty(words, *sentences):
     row(words, "", 2, "words\n", *sentences)
+
+
+def check_free_words():
+    """Options that may be left out: their values, and that each stands once."""
+    for words in "keygen --ring r --at 1 --exp 2", "rotate --act add --ring r --at 1 --exp 2":
+        for value in "128", "SLH-DSA-SHA2-128f", "128F":
+            faulty(f"{words} --alg {value}", f"--alg takes {ALGORITHMS}, and not {value}")
+        faulty(f"{words} --alg 128f --alg 128s", "the option --alg stands twice")
+        faulty(f"{words} --alg", "the option --alg has no value; it takes ALG")
+    faulty("rotate --ring r --act retire --kid k --alg 128f", "the option --alg isn't known to rotate --act retire; see fed --help")
+    for value in "0", "17", "01", "+4", "x", "16.0", "-1":
+        faulty(f"issue --ring r --workers {value} --typ {STATEMENT}", f"--workers takes a number from 1 to 16, and not {value}")
+    faulty(f"issue --workers 4 --ring r --workers 4 --typ {STATEMENT}", "the option --workers stands twice")
+    faulty("issue --workers 4 --ring r", "the option --typ TYP is missing")
+    faulty("public --ring r --workers 4", "the option --workers isn't known to public; see fed --help")
+    served = "--config c --port 1 --connections 1"
+    for value in "no", "Yes", "1":
+        faulty(f"authority {served} --stream {value}", f"--stream takes yes, and not {value}")
+    faulty(f"authority --stream yes {served} --stream yes", "the option --stream stands twice")
+    faulty("authority --stream yes --config c --port 1", "the option --connections N is missing")
+    faulty(f"authority {served} --stream", "the option --stream has no value; it takes yes")
+    faulty(f"resolver {served} --stream yes",
+           "resolver has no --stream: it answers a connection once; authority may keep connections")
+    row("authority --config none.json --stream yes --port 1 --connections 1", "", 2, "input\n", "none.json isn't there")
 
 
 def check_words():
@@ -139,36 +164,37 @@ def check_words():
     faulty("check", "the option --anchor ID is missing", "the option --keys FILE is missing")
     faulty("check --keys k --keys k --anchor https://a.example", "the option --keys stands twice")
     faulty("check --keys k --anchor ta.example",
-           "--anchor ta.example isn't of its form; an identifier begins with https:// or http://")
+           "--anchor takes a URL that begins with https:// or http://, and not ta.example")
     faulty("check --keys k --anchor https://a.example/?q",
-           "--anchor https://a.example/?q isn't of its form; an identifier has neither query, fragment nor user")
+           "--anchor takes a URL without query, fragment and user, and not https://a.example/?q")
     faulty(["check", "--keys", "k", "--anchor", "https://a example"],
-           "--anchor https://a example isn't of its form; an identifier is a URL of at most 2,048 bytes, without spaces and backslashes")
+           "--anchor takes a URL of at most 2,048 bytes, without spaces and backslashes, and not https://a example")
     for value in ["now", "01", "-1", "1.5", str(1 << 62)]:
-        faulty(f"check --keys k --anchor https://a.example --at {value}", f"--at {value} {NO_MOMENT}")
+        faulty(f"check --keys k --anchor https://a.example --at {value}", f"--at takes {MOMENT}, and not {value}")
     faulty("issue --ring r --typ JWT",
-           "--typ JWT isn't of its form; it is entity-statement+jwt, trust-mark+jwt or trust-mark-delegation+jwt")
+           "--typ takes entity-statement+jwt, trust-mark+jwt or trust-mark-delegation+jwt, and not JWT")
     faulty("issue --ring r", "the option --typ TYP is missing")
     faulty("keygen --ring r --at 1", "the option --exp T is missing")
     faulty("keygen --ring r --at 1 --exp 2 --kid k", "the option --kid isn't known to keygen; see fed --help")
     faulty("rotate --ring r --at 1", "the option --act is missing; it is add, retire or revoke")
-    faulty("rotate --ring r --act remove", "--act remove isn't of its form; it is add, retire or revoke")
+    faulty("rotate --ring r --act remove", "--act takes add, retire or revoke, and not remove")
     faulty("rotate --ring r --act retire --kid k --at 1", "the option --at isn't known to rotate --act retire; see fed --help")
     faulty("rotate --ring r --act revoke --kid k --at 1 --reason lost",
-           "--reason lost isn't of its form; it is unspecified, compromised or superseded")
+           "--reason takes unspecified, compromised or superseded, and not lost")
     faulty("rotate --act add --at 1 --exp 2", "the option --ring FILE is missing")
     faulty("authority --config c", "the option --port P is missing", "the option --connections N is missing")
     faulty("authority --config c --port 65536 --connections 1",
-           "--port 65536 isn't of its form; a port is a number from 1 to 65535, in decimal digits alone")
+           "--port takes a number from 1 to 65535, and not 65536")
     faulty("authority --config c --port 1 --connections 0",
-           "--connections 0 isn't of its form; it is a number from 1 to 1,000,000, in decimal digits alone")
+           "--connections takes a number from 1 to 1,000,000, and not 0")
     faulty("authority --confg c --port 1 --connections 1", "the option --confg isn't known to authority; did you mean --config?")
     row("authority --config none.json --port 1 --connections 1", "", 2, "input\n", "none.json isn't there")
+    check_free_words()
     faulty("resolver --config c", "the option --port P is missing", "the option --connections N is missing")
     faulty("resolver --config c --port 1 --connections 1 --workers 4", "the option --workers isn't known to resolver; see fed --help")
     row("resolver --config none.json --port 1 --connections 1", "", 2, "input\n", "none.json isn't there")
     faulty("resolve --config c --sub https://rp.example", "the option --anchor ID is missing")
-    faulty("resolve --config c --sub rp --anchor https://ta.example", "--sub rp isn't of its form; an identifier begins with https:// or http://")
+    faulty("resolve --config c --sub rp --anchor https://ta.example", "--sub takes a URL that begins with https:// or http://, and not rp")
     row("resolve --config none.json --sub https://rp.example --anchor https://ta.example", "", 2, "input\n", "none.json isn't there")
 
 
@@ -206,7 +232,7 @@ def check_rings(key):
     one = ring["keys"][0]
     for given, sentence in [
         ({"keys": [key]}, "bad.ring: key 0 has no iat or no exp, moments in seconds since 1970"),
-        (key, 'bad.ring isn\'t a ring\'s file, {"keys":[..],"version":1}'),
+        (key, 'bad.ring isn\'t a ring\'s file, {"keys":[..],"version":2}'),
         ("x", "bad.ring isn't JSON"),
         ({**ring, "keys": []}, "bad.ring has 0 keys; a ring has 1 to 16"),
         ({**ring, "keys": [{**one, "exp": 1}]}, "bad.ring: key 0 has an exp that isn't after its iat"),
@@ -217,8 +243,11 @@ def check_rings(key):
         ({**ring, "keys": [{**one, "state": {"reason": "lost", "revoked_at": 1}}]},
          "bad.ring: key 0 has a state that isn't live, retired or a revocation"),
         ({**ring, "keys": [{**one, "state": {"reason": "superseded", "revoked_at": 1}}]}, "bad.ring has no live key"),
-        ({**ring, "version": 2}, "bad.ring has no version 1"),
-        ({"keys": ring["keys"]}, "bad.ring has no version 1"),
+        ({**ring, "version": 3}, "bad.ring has no version, 1 or 2"),
+        ({"keys": ring["keys"]}, "bad.ring has no version, 1 or 2"),
+        ({**ring, "version": 1}, "bad.ring: key 0 has an alg, which a ring's file has from version 2 on"),
+        ({**ring, "keys": [without(one, "alg")]}, "bad.ring: key 0 has no alg, SLH-DSA-SHA2-128s or SLH-DSA-SHA2-128f"),
+        ({**ring, "keys": [{**one, "alg": "128f"}]}, "bad.ring: key 0 has no alg, SLH-DSA-SHA2-128s or SLH-DSA-SHA2-128f"),
         ({**ring, "keys": [{**one, "state": "retired"}]}, "bad.ring has no live key"),
         ({**ring, "keys": [one, one]}, "bad.ring has one key twice, or a member that isn't a ring's"),
         ({**ring, "more": 1}, "bad.ring has one key twice, or a member that isn't a ring's"),
@@ -230,6 +259,14 @@ def check_rings(key):
     row("rotate --ring none.ring --act retire --kid k", "", 2, "input\n", "none.ring isn't there")
     row("keygen --ring ring --at 1 --exp 2", seeds(3), 1, "refused Exists\n",
         "ring is there already; keygen makes a new file and changes none")
+    make("old.ring", {"keys": [without(one, "alg")], "version": 1})
+    os.chmod("old.ring", 0o600)
+    row("rotate --ring old.ring --act retire --kid k", "", 1, "refused Unknown\n", "there is no key k in the ring")
+    words = ["rotate", "--ring", "old.ring", "--act", "add", "--at", "1", "--exp", "2", "--alg", "128f"]
+    added = run(words, seeds(3))
+    compare(words, (added[0], len(added[1]), added[2]),
+            (0, 44, said(["the change writes old.ring in version 2, which programs before this one don't read"])))
+    row(f"rotate --ring old.ring --act retire --kid {added[1].strip()}", "", 0, "done\n")
     row("keygen --ring no/such/ring --at 1 --exp 2", seeds(3), 6, "", "no/such/ring can't be kept", "no such folder: no/such")
 
 
@@ -448,7 +485,7 @@ def check_inspections(key):
     row("public --ring ring --kid x", "", 1, "refused Unknown\n", "there is no key x in the ring")
     row("public --ring no.ring", "", 2, "input\n", "no.ring isn't there")
     make("object", {})
-    row("public --ring object", "", 2, "input\n", "object isn't a ring's file, {\"keys\":[..],\"version\":1}")
+    row("public --ring object", "", 2, "input\n", "object isn't a ring's file, {\"keys\":[..],\"version\":2}")
     last = "nothing was verified\n"
     row("show", "x", 1, f"refused Parts\n{last}", "standard input: the text isn't three parts with full stops between them")
     row("show", "[\"x\",\"a.b\"]", 1, f"text 0\nrefused Parts\ntext 1\nrefused Parts\nchain of 2\n{last}",

@@ -94,9 +94,22 @@ answers 1 "refused Known" "$place/two" rotate --act add --ring "$place/ring" --e
 echo '{"exp":2,"iat":1,"iss":"https://a.example","jwks":{"keys":[]},"sub":"https://a.example"}' >"$place/claims"
 "$fed" issue --ring "$place/ring" --typ entity-statement+jwt <"$place/claims" >"$place/issued"
 answers 0 "valid https://a.example" "$place/issued" verify "$(pub_of <<<"$second")"
+answers 0 "$(cat "$place/issued")" "$place/claims" issue --workers 4 --ring "$place/ring" --typ entity-statement+jwt
 answers 1 "refused Signature" "$place/issued" verify "$(pub_of <<<"$first")"
 answers 0 "done" /dev/null rotate --ring "$place/ring" --act revoke --kid "$(kid_of <<<"$first")" --at 5 --reason compromised
 answers 1 "refused Order" /dev/null rotate --ring "$place/ring" --act retire --kid "$(kid_of <<<"$second")"
 answers 2 input "$place/two" rotate --ring "$place/claims" --act add --at 3 --exp 4
+# A key of the second algorithm: one text by any number of workers, and a ring with a key of the first beside it.
+third=$("$fed" keygen --alg 128f --ring "$place/fast" --at 1 --exp 2 <"$place/one")
+"$fed" issue --ring "$place/fast" --typ entity-statement+jwt <"$place/claims" >"$place/alone"
+answers 0 "valid https://a.example" "$place/alone" verify "$(pub_of <<<"$third")"
+for workers in 1 2 3 16; do
+    answers 0 "$(cat "$place/alone")" "$place/claims" issue --ring "$place/fast" --workers "$workers" --typ entity-statement+jwt
+done
+answers 2 words "$place/claims" issue --ring "$place/fast" --workers 17 --typ entity-statement+jwt
+answers 0 "$(kid_of <<<"$second")" "$place/two" rotate --alg 128s --act add --ring "$place/fast" --at 3 --exp 4
+answers 0 "$(cat "$place/issued")" "$place/claims" issue --ring "$place/fast" --typ entity-statement+jwt
+answers 1 "refused Exists" "$place/one" keygen --ring "$place/fast" --at 1 --exp 2 --alg 128f
+answers 2 words "$place/one" keygen --ring "$place/none" --at 1 --exp 2 --alg 128
 
 told

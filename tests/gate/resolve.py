@@ -16,7 +16,7 @@ sys.path.insert(0, f"{os.path.dirname(os.path.dirname(os.path.abspath(__file__))
 from laid import free_port, started, tell, tried  # noqa: E402
 from resolving import (  # noqa: E402
     CALLS, CHAIN, END, ENVIRONMENT, FED, IM, IM_OWN, IM_RP, ISSUERS, JM, KEYS, MARK, METADATA, NOW, PATIENCE, POLICY, RESOLVED, RP, RP_OWN, TA, TA_OWN,
-    USUAL, Web, about, claims_of, config_of, differs_in, endpoint, fed, fetch_of, hosts_in, own, page_of, place, sealed, unsealed, written)
+    USUAL, Web, about, anchor_of, claims_of, config_of, differs_in, endpoint, fed, fetch_of, hosts_in, own, page_of, place, sealed, unsealed, written)
 
 ERRORS = {
     "anchor": '{"error":"invalid_trust_anchor","error_description":"no such trust anchor"}\n',
@@ -38,9 +38,9 @@ SAID = {
 numbers = iter(range(1000000))
 
 
-def call(routes, sub=RP, anchor=TA, **more):
+def call(routes, sub=RP, anchor=TA, anchors=None, **more):
     """Calls the resolver, and gives its status, what it wrote, its sentences, and the moments around the call."""
-    name = written(f"resolver-{next(numbers)}.json", config_of(routes))
+    name = written(f"resolver-{next(numbers)}.json", config_of(routes, **({"anchors": anchors} if anchors else {})))
     begin = int(time.time())
     done = fed("resolve", "--config", name, "--sub", sub, "--anchor", anchor, **more)
     return done.returncode, done.stdout.decode(), done.stderr.decode(), (begin, int(time.time()))
@@ -50,20 +50,20 @@ def said(sentences):
     return "".join(f"fed: {sentence}\n" for sentence in sentences)
 
 
-def refused(row, pages, status, written_text, calls, *sentences, sub=RP, routes=None):
+def refused(row, pages, status, written_text, calls, *sentences, sub=RP, routes=None, anchors=None):
     """A call that isn't answered by a reply: the whole of what it does."""
     with Web(pages) as web:
         found = {**hosts_in(pages, web), **(routes or {})}
-        got = call({host: port for host, port in found.items() if port}, sub=sub)
+        got = call({host: port for host, port in found.items() if port}, sub=sub, anchors=anchors)
     wanted = (status, written_text, said(sentences))
     tell(f"{row}: {got[:3]}, not {wanted}"[:2000], got[:3] == wanted)
     tell(f"{row}: asked for {web.calls}, not {calls}"[:2000], web.calls == calls)
 
 
-def resolved(row, pages, calls, chain, metadata, exp=END, marks=(), sub=RP, routes=None):
+def resolved(row, pages, calls, chain, metadata, exp=END, marks=(), sub=RP, routes=None, anchors=None):
     """A call that is answered by this reply, by fixed texts."""
     with Web(pages) as web:
-        status, text, sentences, moments = call({**hosts_in(pages, web), **(routes or {})}, sub=sub)
+        status, text, sentences, moments = call({**hosts_in(pages, web), **(routes or {})}, sub=sub, anchors=anchors)
     tell(f"{row}: {status} {text[:200]} {sentences}", (status, sentences) == (0, ""))
     tell(f"{row}: asked for {web.calls}, not {calls}"[:2000], web.calls == calls)
     tell(f"{row}: differs in {status or differs_in(text, moments, sub, chain, exp, metadata, marks)}"[:2000],
@@ -141,6 +141,7 @@ def no_route(entity):
 
 
 NO_PATH = f"no path came up to {TA}"
+UNJUDGED = f"the search ended before it judged a path that is valid: {RP} {IM} {TA}"
 
 
 def entity_pages():
@@ -232,6 +233,31 @@ def chains():
         refused(f"a chain: {row}", {**USUAL, **pages}, 1, ERRORS[why], CALLS, *lost(why, path, sentence))
 
 
+def spent(calls, most_calls, paths, most_paths):
+    return (f"the search ended at its bound: {calls} pages of at most {most_calls}, {paths} paths of at most {most_paths}; "
+            "see depth, calls and paths of the anchor in the configuration")
+
+
+def bounds():
+    """The usual web, of five pages and three paths, within bounds that it just needs, and past each of them. The bounds are those of the anchor that
+    is asked for: another one's change nothing."""
+    far = anchor_of(JM, depth=1, calls=1, paths=1)
+    for row, anchors in (
+            ("needed", [anchor_of(TA, depth=2, calls=5, paths=3)]), ("the most", [anchor_of(TA, depth=12, calls=160, paths=4096)]), ("none", [anchor_of(TA)]),
+            ("another anchor's before it", [far, anchor_of(TA)]), ("another anchor's behind it", [anchor_of(TA, depth=2, calls=5, paths=3), far])):
+        resolved(f"bounds: {row}", USUAL, CALLS, CHAIN, RESOLVED, exp=NOW + 7200, anchors=anchors)
+    for others in ([], [anchor_of(JM)]):
+        refused("a depth of 1", USUAL, 1, ERRORS["chain"], CALLS[:3], *lost("chain", NO_PATH), anchors=[anchor_of(TA, depth=1), *others])
+        refused("4 calls", USUAL, 9, "", CALLS[:4], spent(4, 4, 2, "4,096"), NO_PATH, anchors=[*others, anchor_of(TA, calls=4)])
+        refused("2 paths", USUAL, 9, "", CALLS, spent(5, 160, 2, "2"), UNJUDGED, anchors=[anchor_of(TA, paths=2), *others])
+    refused("1 call, 1 path", USUAL, 9, "", CALLS[:1], spent(1, 1, 1, "1"), NO_PATH, anchors=[anchor_of(TA, calls=1, paths=1)])
+    both = [anchor_of(TA, depth=1), anchor_of(IM, depth=1)]
+    for anchor, status, calls in ((IM, 0, CALLS[:3]), (TA, 1, CALLS[:3])):
+        with Web(USUAL) as web:
+            got = call(hosts_in(USUAL, web), anchor=anchor, anchors=both)
+        tell(f"two anchors with a depth of 1, {anchor}: {got}, {web.calls}"[:2000], (got[0], web.calls) == (status, calls))
+
+
 def searches():
     """Webs that are made to be searched for long: hints in a circle, and more of them than pages are asked for."""
     jm = sealed(own(JM, authority_hints=[IM, RP, JM], metadata=endpoint(JM)), JM)
@@ -243,7 +269,7 @@ def searches():
     jm = sealed(own(JM, authority_hints=late, metadata=endpoint(JM)), JM)
     pages = {page_of(RP): rp, page_of(JM): jm, fetch_of(JM, RP): unsealed(about(JM, RP))}
     asked = [*early, *late[:30]]
-    sentences = ["the search ended at its bound: 64 pages of at most 64, 2 paths of at most 4,096",
+    sentences = [spent(64, 64, 2, "4,096"),
                  *(f"{url(entity)} is answered with status 404" for entity in asked), NO_PATH]
     with Web(pages) as web:
         got = call({name: web.port for name in [*hosts_in(pages, web), *(it.removeprefix("https://") for it in [*early, *late])]})
@@ -264,11 +290,14 @@ def faulty():
     anchor, keys, route = {"entity_id": TA, "jwks": {"keys": [KEYS[TA]]}}, {"keys": [KEYS["other"]]}, {"host": "a", "ip": "127.0.0.1", "port": 1}
     many = [{**anchor, "entity_id": f"https://a{number}.example"} for number in range(65)]
     rows = [("anchors", value) for value in (None, [], {}, [anchor, anchor], many, [{"entity_id": TA}], [{**anchor, "entity_id": "ta"}], [{**anchor, "jwks": 1}])]
+    rows += [("anchors", [{**anchor, member: value}]) for member, most in (("depth", 12), ("calls", 160), ("paths", 4096))
+             for value in (0, most + 1, str(most), 1.5, -1, True, None, {"a": 1})]
     rows += [("age", value) for value in (None, 0, 86401, "60", 1.5)] + [("workers", value) for value in (None, 0, 17, "1")]
     rows += [("control", value) for value in (None, [], {"keys": 1}, KEYS["other"])] + [("routes", value) for value in (None, {}, [1])]
     rows += [("routes", [{**route, member: value}]) for member, value in (("host", 1), ("port", 0), ("port", 65536), ("port", "1"))]
     rows += [("routes", [{**route, "ip": value}]) for value in (1, "127.0.0", "127.0.0.1.1", "127.0.0.256", "127.0.0.01", "::1", "localhost")]
-    wanted = " must be an object with anchors, age, workers, control and routes\n"
+    wanted = (" must be an object with anchors, age, workers, control and routes; "
+              "of an anchor depth is 1 to 12, calls 1 to 160, paths 1 to 4,096\n")
     for member, value in rows:
         config = config_of({})
         config["resolver"].pop(member)
@@ -360,7 +389,7 @@ def endpoints(entity):
 
 def main():
     try:
-        return tried("resolve", [found, marked, listed, entity_pages, superior_pages, chains, searches, faults, faulty, federation])
+        return tried("resolve", [found, marked, listed, entity_pages, superior_pages, chains, bounds, searches, faults, faulty, federation])
     finally:
         shutil.rmtree(place)
 

@@ -19,7 +19,7 @@ from laid import TOP  # noqa: E402
 from program import FED, Rows, run  # noqa: E402
 
 AT = 1800000000
-STATEMENT, ALGORITHM = "entity-statement+jwt", "SLH-DSA-SHA2-128s"
+STATEMENT, ALGORITHM, FAST = "entity-statement+jwt", "SLH-DSA-SHA2-128s", "SLH-DSA-SHA2-128f"
 LAST = "nothing was verified\n"
 ROWS = Rows("show", 2000)
 compare = ROWS.compare
@@ -171,6 +171,24 @@ def check_texts():
     found("no type", unsigned([1], typ=None), 0, "signed text without a type")
 
 
+REPLY = "resolve-response+jwt"
+
+
+def check_replies():
+    """Replies hold the texts of a chain and may be longer than any other text: here as if all were signed by the algorithm of long signatures."""
+    signed = [".".join([base64url(json.dumps({**HEADER, "alg": FAST}).encode()), base64url(json.dumps(OWN).encode()), "A" * 22784]) for _ in range(14)]
+    claims = {**OWN, "metadata": {}, "trust_chain": signed}
+    for row, typ, more in [("a reply of 14 texts", REPLY, {}), ("one with more of megabytes", REPLY, {"metadata": {"x": {"y": "a" * 2500000}}})]:
+        text = unsigned({**claims, **more}, typ=typ, alg=FAST)
+        compare(f"{row}: its length", 440000 < len(text) < 4194304, True)
+        found(row, text, 0, f'signed text of type "{REPLY}"')
+    long = {"x": "a" * 240000}
+    for row, text in [("a long statement", unsigned({**OWN, **long})), ("a long mark", unsigned({**MARK, **long}, typ="trust-mark+jwt")),
+                      ("a long text of another type", unsigned(long, typ="x")), ("one of no type", unsigned(long, typ=None)),
+                      ("a long reply of four parts", unsigned(long, typ=REPLY) + ".AA"), ("one with another algorithm", unsigned(long, typ=REPLY, alg="RS256"))]:
+        found(row, text, 1, "refused TooLong")
+
+
 def check_faults():
     without = lambda claims, its: {name: it for name, it in claims.items() if name != its}
     rows = [
@@ -293,6 +311,28 @@ def make(name, tree):
         it.write(tree if isinstance(tree, str) else json.dumps(tree))
 
 
+def check_versions():
+    """A ring file of version 1 is used as one of version 2, and stays as it is; a key of the second algorithm is told as that."""
+    key, words = made("new.ring", 21), "keygen --ring fast.ring --at 1 --exp 2000000000 --alg 128f"
+    fast = json.loads(run(words, seeds(21))[1])
+    with open("new.ring", encoding="utf-8") as it:
+        one = json.load(it)["keys"][0]
+    old = json.dumps({"keys": [{name: one[name] for name in one if name != "alg"}], "version": 1})
+    make("old.ring", old)
+    os.chmod("old.ring", 0o600)
+    for name in ("old", "new", "fast"):
+        make(f"{name}.json", {"entity_id": "https://ta.example", "ring": f"{name}.ring", "lifetime": 60})
+    for words in ("public --ring @.ring", f"public --ring @.ring --kid {key['kid']}", "check-config --config @.json",
+                  f"issue --ring @.ring --typ {STATEMENT}"):
+        compare(f"{words}, of either version", run(words.replace("@", "old"), json.dumps(OWN)), run(words.replace("@", "new"), json.dumps(OWN)))
+    with open("old.ring", encoding="utf-8") as it:
+        compare("a ring file of version 1 stays", it.read(), old)
+    told = run("check-config --config fast.json")[1].split("\n")
+    compare("a key of 128f", [line for line in told if line.startswith("key ")],
+            [f"key {fast['kid']} SLH-DSA-SHA2-128f live until {date(2000000000)}"])
+    compare("the seeds in both algorithms", (key["alg"], fast["alg"], key["kid"] == fast["kid"]), ("SLH-DSA-SHA2-128s", "SLH-DSA-SHA2-128f", False))
+
+
 def check_configs():
     key = made("node.ring", 8, AT + 2000000)
     node = {"entity_id": "https://ta.example", "ring": "node.ring", "lifetime": 86400}
@@ -327,7 +367,7 @@ def check_configs():
     good = '"https://tm.example/good" by https://tm.example'
     told("a node with all", whole, AT, "entity https://ta.example/x/\nlifetime 60\n" + own
          + f"mark {good} until {date(AT + 100)}\nmark {good} without an end\nsubordinate https://im.example\nsubordinate https://rp.example\n"
-         + 'anchor https://a.example\nroute "im.example" to 192.0.2.10:8301\n'
+         + 'anchor https://a.example depth 12 calls 160 paths 4096\nroute "im.example" to 192.0.2.10:8301\n'
          + served("https://ta.example/x", ["/fetch", "/list", "/resolve", *always]) + soon + f"ends soon: mark {good} {date(AT + 100)}\n")
     second = run(f"rotate --ring node.ring --act add --at 1 --exp {AT * 2}", seeds(9))[1].strip()
     third = run(f"rotate --ring node.ring --act add --at 1 --exp {AT}", seeds(10))[1].strip()
@@ -418,11 +458,13 @@ def main():
     with tempfile.TemporaryDirectory() as place:
         os.chdir(place)
         check_texts()
+        check_replies()
         check_faults()
         check_values()
         check_key_sets()
         check_chains()
         check_public()
+        check_versions()
         check_configs()
         check_outside()
         check_help()

@@ -125,7 +125,7 @@ def commands(texts):
     claims = b'{"exp":2,"iat":1,"iss":"https://a.example","jwks":{"keys":[]},"sub":"https://a.example"}\n'
     issue, rotate = ["issue", "--ring", "ring", "--typ", STATEMENT], ["rotate", "--ring", "ring", "--act"]
     kid = texts.keys["ta"]["kid"]
-    two = {"ring": b'{"keys":[%s,%s],"version":1}' % tuple(contents(f"{texts.place}/{name}")[9:-14] for name in ("im", "ta"))}
+    two = {"ring": b'{"keys":[%s,%s],"version":2}' % tuple(contents(f"{texts.place}/{name}")[9:-14] for name in ("im", "ta"))}
     return [
         Case("help", 0, ["--help"]), Case("words", 2, ["verify"]),
         Case("verify", 0, ["verify", key], text), Case("verify-refused", 1, ["verify", "A" * 43], text),

@@ -1,7 +1,9 @@
 #!/usr/bin/env python3
 """nginx with examples/nginx.conf in front of two processes of one node, on loopback, under a key made here: an answer that isn't kept yet and one
-that is, answers while one of the two is ended, and answers from what was kept while both are. Then each nginx file of examples/ as it stands,
-in a network and a view of the files of its own, which wants root and unshare. Where nginx or openssl is missing it says so and tries nothing. It prints what differs and fails where anything does."""
+that is, answers while one of the two is ended, and answers from what was kept while both are; then the same with connections that are kept to
+processes that stream, of which fewer are opened than are asked. Then each nginx file of examples/ as it stands, in a network and a view of the
+files of its own, which wants root and unshare. Where nginx or openssl is missing it says so and tries nothing. It prints what differs and fails
+where anything does."""
 
 import http.client
 import json
@@ -28,6 +30,11 @@ PATIENCE = 60
 ID = "https://ta.example"
 
 
+def lines_of(place, port):
+    with open(f"{place}/log-{port}", encoding="utf-8") as it:
+        return it.read().splitlines()
+
+
 def waited_for(port):
     end = time.monotonic() + PATIENCE
     while time.monotonic() < end:
@@ -49,11 +56,24 @@ def asked(port, path, method="GET", body=None):
     return answer.status, answer.getheader("X-Cache"), answer.read()
 
 
+# what examples/nginx.conf says in comments, for processes that stream
+KEPT = (("worker_processes auto", "worker_processes 1"), ("#keepalive 2", "keepalive 2"), ("#keepalive_timeout 500ms", "keepalive_timeout 500ms"),
+        ("proxy_set_header Connection close", 'proxy_set_header Connection ""'))
+
+
 def in_front():
+    in_place(False)
+
+
+def kept_in_front():
+    in_place(True)
+
+
+def in_place(stream):
     with tempfile.TemporaryDirectory() as place:
         started = []
         try:
-            tried_in(place, started)
+            tried_in(place, started, stream)
         finally:
             for it in started:
                 if it.poll() is None:
@@ -62,7 +82,7 @@ def in_front():
                 it.communicate(timeout=PATIENCE)
 
 
-def tried_in(place, started):
+def tried_in(place, started, stream):
     os.chmod(place, 0o755)
     done = subprocess.run([FED, "keygen", "--ring", "ring", "--at", "1", "--exp", "2"], input=b"%096d" % 1, cwd=place, capture_output=True)
     key = json.loads(done.stdout)
@@ -72,8 +92,9 @@ def tried_in(place, started):
                    "subordinates": [{"entity_id": "https://rp.example", "jwks": {"keys": [key]}}]}, it)
     ports = [free_port(), free_port()]
     for port in ports:
-        words = ["authority", "--config", "node.json", "--port", str(port), "--connections", "1000"]
-        started.append(subprocess.Popen([FED, *words], cwd=place, stdout=subprocess.DEVNULL, stderr=subprocess.DEVNULL))
+        words = ["authority", "--config", "node.json", "--port", str(port), "--connections", "1000", *["--stream", "yes"] * stream]
+        with open(f"{place}/log-{port}", "w", encoding="utf-8") as log:
+            started.append(subprocess.Popen([FED, *words], cwd=place, stdout=subprocess.DEVNULL, stderr=log))
     subprocess.run(["openssl", "req", "-x509", "-newkey", "rsa:2048", "-nodes", "-keyout", f"{place}/key", "-out", f"{place}/cert", "-days", "2",
                     "-subj", "/CN=ta.example"], check=True, capture_output=True)
     front = free_port()
@@ -81,7 +102,7 @@ def tried_in(place, started):
         config = it.read()
     for old, new in (("127.0.0.1:8300", f"127.0.0.1:{ports[0]}"), ("127.0.0.1:8301", f"127.0.0.1:{ports[1]}"), ("listen 443", f"listen 127.0.0.1:{front}"),
                      ("/etc/ssl/certs/ta.example.pem", f"{place}/cert"), ("/etc/ssl/private/ta.example.key", f"{place}/key"),
-                     ("/var/lib/nginx/fed", f"{place}/kept"), ("/var/log/nginx/fed.log", f"{place}/access")):
+                     ("/var/lib/nginx/fed", f"{place}/kept"), ("/var/log/nginx/fed.log", f"{place}/access"), *(KEPT if stream else ())):
         if old not in config:
             raise ValueError(f"examples/nginx.conf says nothing of {old}")
         config = config.replace(old, new)
@@ -103,6 +124,16 @@ def tried_in(place, started):
     status, kept, _ = asked(front, "/trust-mark-status", "POST", "trust_mark=a")
     tell(f"a status is never kept: {status} {kept}", (status, kept) == (200, None))
     tell("no other method comes through", asked(front, "/list", "DELETE")[0] == 403)
+
+    if stream:
+        # twenty that nothing keeps, one behind the other: their connections by the addresses in the logs of both
+        said = {port: len(lines_of(place, port)) for port in ports}
+        for number in range(20):
+            status, _, _ = asked(front, f"/fetch?sub=https%3A%2F%2Fno-{number}.example")
+            tell(f"no such entity, {number}: {status}", status == 404)
+        lines = [line.split(" ")[1] for port in ports for line in lines_of(place, port)[said[port]:]]
+        tell(f"a line for each answer: {len(lines)}", len(lines) == 20)
+        tell(f"connections that were kept: {len(set(lines))}", len(set(lines)) < 10)
 
     started[0].send_signal(signal.SIGTERM)
     started[0].wait(timeout=PATIENCE)
@@ -159,7 +190,7 @@ def main():
         print("nginx: not tried, since nginx or openssl is missing")
         return 0
     subprocess.run([FED, "--version"], check=True, stdout=subprocess.DEVNULL)
-    return tried("nginx", [in_front, as_it_stands])
+    return tried("nginx", [in_front, kept_in_front, as_it_stands])
 
 
 sys.exit(main())

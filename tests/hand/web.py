@@ -32,21 +32,25 @@ MOST = 60
 PROGRAM = r'''//! Serves callers over TCP, gets a page over TCP, or reads messages that are in memory. The line of the input is one of
 //!
 //! - `serve PORT CALLERS BYTES`: so many callers, each told its request, or so many bytes where it asks for `/page`
+//! - `stream PORT CALLERS BYTES`: the same, on connections that go on for up to 100 requests
 //! - `get PORT HOST URL`: the page of that URL, whose host that port of 127.0.0.1 serves
 //! - `request BYTES PIECE TIMES`: a request with a body of so many bytes, in pieces of so many, read so often
+//! - `asks COUNT PIECE TIMES`: a stream of so many requests, in pieces of so many bytes, served so often
 //! - `page BYTES CHUNK TIMES`: a page of so many bytes, in chunks of so many or, for 0, by its length, read so often
 #![tactic(auto)]
 
 ghost use Rattle.std.specs.Prelude.{◌≡◌, Some, [], drop, IfOk, is_some, true};
+ghost use Rattle.std.proofs.Common.{refl};
 ghost use Rattle.http_plain.specs.Responses.{HasReason};
 
 use fed_base::{Duplicate, Failed, Memory, Seq, Text};
 use fed_net::{MemoryNetwork, RealNetwork};
-use fed_ports::{Address, Link, LinkFault, Network, Page, Peer, Source};
+use fed_ports::{Address, Link, LinkFault, MemorySink, Network, Page, Peer, Sink, Source};
 use http_plain::{
     HttpLink, Incoming, Media, Method, ReadEnd, Request, Response, Route, read_request,
     write_response,
 };
+use http_stream::{Answerer, StreamFault, serve_stream};
 use std::alloc::Global;
 use std::{env, io};
 
@@ -111,13 +115,56 @@ fn serve<P: Peer>(alloc: Global, peer: &mut P, page: &[u8]) -> &'static str {
     }
 }
 
-fn serve_all<N: Network>(rt: &HostRuntime, net: &mut N, callers: u64, page: &[u8]) -> io::Result<()>
+// What answers on a connection that goes on.
+#[derive(Drop)]
+struct Answering<'a> {
+    page: &'a [u8],
+}
+
+impl<'a> Answerer for Answering<'a> {
+    ghost state = { Unit {0} };
+
+    ghost at = { λ _. tt };
+
+    ghost ready = { λ _. Unit {0} };
+
+    ghost step = { λ _ _ _ _. Unit {0} };
+
+    ghost gives_up = { λ _ _ _. Unit {0} };
+
+    fn answer(&mut self, alloc: Global, asked: &Incoming) -> Result<Response, Memory> {
+        response(alloc, asked, self.page)
+    }
+}
+
+// Answers a caller's requests, or says why one isn't answered.
+fn serve_each<P: Peer>(alloc: Global, peer: &mut P, page: &[u8]) -> &'static str {
+    match serve_stream(alloc, peer, &mut Answering { page }, 100) {
+        Ok(_) => "",
+        Err(StreamFault::ReadFault) => "read fault",
+        Err(StreamFault::WriteFault) => "write fault",
+        Err(StreamFault::Ended) => "ended",
+        Err(StreamFault::Memory) => "memory",
+    }
+}
+
+fn serve_all<N: Network>(
+    rt: &HostRuntime,
+    net: &mut N,
+    callers: u64,
+    page: &[u8],
+    streams: bool,
+) -> io::Result<()>
     requires { is_some (N.port net.old) ≡ true }
 {
     'callers: for _ in 0..callers {
         match net.accept() {
             Ok(mut peer) => {
-                let word = serve(rt.alloc(), &mut peer, page);
+                let word = if streams {
+                    serve_each(rt.alloc(), &mut peer, page)
+                } else {
+                    serve(rt.alloc(), &mut peer, page)
+                };
                 let _ = net.settle(rt.alloc(), peer);
                 if !word.is_empty() {
                     println!(rt; "{word}")?;
@@ -226,7 +273,7 @@ fn requests(alloc: Global, size: u64, piece: u64, times: u64) -> Result<u64, Mem
     let mut read = 0;
     for _ in 0..times {
         let mut source = Pieces {
-            bytes: text.copy(alloc)?.into_vec(),
+            bytes: text.copy(alloc)?.into_vec()?,
             taken: 0,
             most: piece as usize,
         };
@@ -237,6 +284,73 @@ fn requests(alloc: Global, size: u64, piece: u64, times: u64) -> Result<u64, Mem
         }
     }
     Ok(read)
+}
+
+// A caller whose bytes come so, and that keeps what it is given.
+#[derive(Drop)]
+struct Caller {
+    source: Pieces,
+    sink: MemorySink,
+}
+
+impl Source for Caller {
+    ghost use Rattle.std.specs.Prelude.{Some, drop};
+    ghost use Rattle.fed_ports.specs.MemoryStreams.{sink_faults, sink_held};
+
+    ghost left = { λ peer. Some (drop peer.source.taken peer.source.bytes.items) };
+
+    ghost source_side = { λ peer. (Some (sink_held peer.sink), sink_faults peer.sink) };
+
+    ghost read_faults = { λ _. 0 };
+
+    fn take(&mut self, into: &mut [u8]) -> Result<usize, Failed> {
+        self.source.take(into)
+    }
+}
+
+impl Sink for Caller {
+    ghost use Rattle.std.specs.Prelude.{Some, drop};
+    ghost use Rattle.fed_ports.specs.MemoryStreams.{sink_faults, sink_held};
+
+    ghost held = { λ peer. Some (sink_held peer.sink) };
+
+    ghost sink_side = { λ peer. (Some (drop peer.source.taken peer.source.bytes.items), 0) };
+
+    ghost write_faults = { λ peer. sink_faults peer.sink };
+
+    fn give(&mut self, piece: &[u8]) -> Result<usize, Failed> {
+        self.sink.give(piece)
+    }
+}
+
+impl Peer for Caller {
+    ghost source_side_is = { λ peer. refl };
+
+    ghost sink_side_is = { λ peer. refl };
+}
+
+// Serves a stream of so many requests, so often.
+fn asks(alloc: Global, count: u64, piece: u64, times: u64) -> Result<u64, Memory> {
+    let mut text = Text::new(alloc);
+    for _ in 0..count {
+        text.append(b"GET /page HTTP/1.1\r\nHost: a.example\r\n\r\n")?;
+    }
+    let mut served = 0;
+    for _ in 0..times {
+        let source = Pieces {
+            bytes: text.copy(alloc)?.into_vec()?,
+            taken: 0,
+            most: piece as usize,
+        };
+        let sink = MemorySink::new(alloc, 100_000, &[], 1000)?;
+        let mut caller = Caller { source, sink };
+        if let Ok(answered) = serve_stream(alloc, &mut caller, &mut Answering { page: b"x" }, 100) {
+            if answered == count {
+                served = u64::saturating_add(served, 1);
+            }
+        }
+    }
+    Ok(served)
 }
 
 // Adds a chunk of so many bytes.
@@ -316,7 +430,7 @@ fn row(rt: &HostRuntime, logs: bool, line: &str) -> io::Result<()> {
     let alloc = rt.alloc();
     let mut net = RealNetwork::new(rt, [127, 0, 0, 1], logs);
     match word {
-        "serve" => {
+        "serve" | "stream" => {
             let Ok(page) = filled(alloc, number(third)) else {
                 return println!(rt; "memory");
             };
@@ -324,8 +438,12 @@ fn row(rt: &HostRuntime, logs: bool, line: &str) -> io::Result<()> {
                 return println!(rt; "no port");
             }
             println!(rt; "listens")?;
-            serve_all(rt, &mut net, number(second), page.as_slice())
+            serve_all(rt, &mut net, number(second), page.as_slice(), word == "stream")
         }
+        "asks" => count(
+            rt,
+            asks(alloc, number(first), number(second), number(third)),
+        ),
         "get" => get(rt, net, port(first), second, third),
         "request" => count(
             rt,
@@ -609,7 +727,7 @@ def pages():
 building = sys.argv[1:2] == ["--build"]
 keeps = sys.argv[2 if building else 1 :]
 folder = keeps[0] if keeps else tempfile.mkdtemp()
-program = laid.built(folder, "web", PROGRAM, ["fed_base", "fed_ports", "fed_net", "chunked_body", "http_plain"], PROOFS)
+program = laid.built(folder, "web", PROGRAM, ["fed_base", "fed_ports", "fed_net", "chunked_body", "http_messages", "http_plain", "http_stream"], PROOFS)
 if building:
     sys.exit(0)
 rows = [pages]

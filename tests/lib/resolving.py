@@ -141,8 +141,17 @@ written("ta.keys", {"keys": [KEYS[TA]]})
 
 # ---- a resolver's file, and its replies
 
+# How far searches go in what the tests lay out.
+BOUNDS = {"depth": 8, "calls": 64}
+
+
+def anchor_of(entity, **bounds):
+    """An anchor of a configuration, by the entity's own key."""
+    return {"entity_id": entity, "jwks": {"keys": [KEYS[entity]]}, **bounds}
+
+
 def config_of(routes, **more):
-    resolver = {"anchors": [{"entity_id": TA, "jwks": {"keys": [KEYS[TA]]}}], "age": 3600, "workers": 1, "control": {"keys": [KEYS["other"]]},
+    resolver = {"anchors": [anchor_of(TA, **BOUNDS)], "age": 3600, "workers": 1, "control": {"keys": [KEYS["other"]]},
                 "routes": [{"host": host, "ip": "127.0.0.1", "port": port} for host, port in routes.items()], **more}
     return {"entity_id": RESOLVER, "ring": "resolver.ring", "lifetime": 3600, "resolver": resolver}
 

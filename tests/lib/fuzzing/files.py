@@ -131,9 +131,15 @@ def is_told(done, forms, tree):
 def rings(case):
     """A ring's file, which is seen to be taken by what it refuses then. It stays as it is."""
     rng, pool = case.rng, case.pool
-    good = {"version": 1, "keys": [json.loads(pool.rings[name])["keys"][0] for name in rng.sample(list(pool.rings), rng.choice([1, 1, 1, 2, 3]))]}
+    names = rng.sample(list(pool.rings), rng.choice([1, 1, 1, 2, 3]))
+    good = {"version": rng.choice([1, 2]), "keys": [json.loads(pool.rings[name])["keys"][0] for name in names]}
     for key in good["keys"][1:]:
         key["state"] = rng.choice(["live", "retired", {"reason": "compromised", "revoked_at": 5}])
+    for key in good["keys"]:
+        if good["version"] == 1:
+            del key["alg"]
+        else:
+            key["alg"] = rng.choice([rules.SMALL, rules.FAST])
     kind = rng.randrange(10)
     if kind < 6:
         data = written(changes.some_of_tree(rng, good), rng if rng.random() < .2 else None)

@@ -196,7 +196,7 @@ class Pool:
         """A node that only resolves, by these routes."""
         return {
             "entity_id": RESOLVER, "ring": "resolver.ring", "lifetime": 3600, "resolver": {
-                "anchors": [{"entity_id": TA, "jwks": {"keys": [self.keys["ta"].jwk]}}], "age": 3600, "workers": 1,
+                "anchors": [{"entity_id": TA, "jwks": {"keys": [self.keys["ta"].jwk]}, "depth": 8, "calls": 64}], "age": 3600, "workers": 1,
                 "control": {"keys": [self.keys["other"].jwk]},
                 "routes": [{"host": host, "ip": "127.0.0.1", "port": port} for host, port in routes.items()]}}
 

@@ -13,6 +13,7 @@ MOMENTS, TEXT_LIMIT, FILE_LIMIT, DEPTH, CHAIN = 1 << 62, 262144, 4194304, 127, 1
 ODD = type("Odd", (), {"__repr__": lambda self: "ODD"})()
 SURE = re.compile(r"https?://(?!xn--)(?:[a-z0-9][a-z0-9-]*\.(?!xn--))*[a-z][a-z0-9-]*(?::[0-9]{1,4})?(?:/[A-Za-z0-9._~/-]*)?")
 PLAIN = re.compile(r"[!-\[\]-~]{1,2048}")
+BOUNDS = {"depth": 12, "calls": 160, "paths": 4096}
 REASONS = {"unspecified", "compromised", "superseded"}
 
 
@@ -391,14 +392,15 @@ class Judge:
 # ---- files
 
 def is_ring(data):
-    """Whether the bytes are those of a ring's file. The names of the keys are the seeds'."""
+    """Whether the bytes are those of a ring's file. The names of the keys are the algorithms' and the seeds'."""
     try:
         tree = tree_of(data)
-        asks(is_object(tree) and set(tree) == {"keys", "version"} and is_number(tree["version"], 1, 1))
+        asks(is_object(tree) and set(tree) == {"keys", "version"} and is_number(tree["version"], 1, 2))
         keys = tree["keys"]
         asks(isinstance(keys, list) and 1 <= len(keys) <= 16)
         for key in keys:
-            asks(is_object(key) and set(key) == {"exp", "iat", "seeds", "state"} and isinstance(key["seeds"], str))
+            asks(is_object(key) and set(key) == {"exp", "iat", "seeds", "state", *(["alg"] if tree["version"] == 2 else [])})
+            asks(key.get("alg", SMALL) in (SMALL, FAST) and isinstance(key["seeds"], str))
             asks(all(is_number(key[name], 0, MOMENTS - 1) for name in ("iat", "exp")) and key["iat"] < key["exp"])
             asks(re.fullmatch("[0-9a-f]{96}", key["seeds"]))
             state = key["state"]
@@ -407,7 +409,7 @@ def is_ring(data):
                 asks(is_number(state["revoked_at"], 0, MOMENTS - 1))
             else:
                 asks(isinstance(state, str) and state in ("live", "retired"))
-        asks(any(key["state"] == "live" for key in keys) and len({key["seeds"] for key in keys}) == len(keys))
+        asks(any(key["state"] == "live" for key in keys) and len({(key.get("alg"), key["seeds"]) for key in keys}) == len(keys))
     except (Unreadable, Fault):
         return False
     return True
@@ -438,6 +440,7 @@ def resolver(tree, doubts):
         asks(is_object(held))
         doubts.identifier(held.get("entity_id"))
         key_set(held.get("jwks"))
+        asks(all(is_number(held.get(name, most), 1, most) for name, most in BOUNDS.items()))
     asks(len({held["entity_id"] for held in anchors}) == len(anchors))
     asks(is_number(tree.get("age"), 1, 86400) and is_number(tree.get("workers"), 1, 16))
     key_set(tree.get("control"))
