@@ -9,30 +9,32 @@ _fed() {
         1:*) offered='verify keygen issue rotate public check show check-config authority resolver resolve rehearse help --help --version' ;;
         2:help) offered='verify keygen issue rotate public check show check-config authority resolver resolve rehearse help' ;;
         *:--act) offered='add retire revoke' ;;
+        *:--alg) offered='128s 128f' ;;
         *:--reason) offered='unspecified compromised superseded' ;;
+        *:--stream) offered='yes' ;;
         *:--typ) offered='entity-statement+jwt trust-mark+jwt trust-mark-delegation+jwt' ;;
         *:--config | *:--keys | *:--ring | *:--files)
             compopt -o filenames 2>/dev/null
             mapfile -t COMPREPLY < <(compgen -f -- "$word")
             return
             ;;
-        *:--anchor | *:--at | *:--connections | *:--exp | *:--kid | *:--params | *:--port | *:--sub) return ;;
+        *:--anchor | *:--at | *:--connections | *:--exp | *:--kid | *:--params | *:--port | *:--sub | *:--workers) return ;;
         *)
             for ((at = 2; at < COMP_CWORD; at++)); do
                 [[ ${COMP_WORDS[at]} == --act ]] && act=${COMP_WORDS[at + 1]}
             done
             case ${COMP_WORDS[1]}:$act in
-                authority:) offered='--config --port --connections' ;;
+                authority:) offered='--config --port --connections --stream' ;;
                 check:) offered='--anchor --keys --at' ;;
                 check-config:) offered='--config --at' ;;
-                issue:) offered='--ring --typ' ;;
-                keygen:) offered='--ring --at --exp' ;;
+                issue:) offered='--ring --typ --workers' ;;
+                keygen:) offered='--ring --at --exp --alg' ;;
                 public:) offered='--ring --kid' ;;
                 rehearse:) offered='--params' ;;
                 resolve:) offered='--config --sub --anchor' ;;
                 resolver:) offered='--config --port --connections' ;;
-                rotate:) offered='--ring --act --at --exp --kid --reason' ;;
-                rotate:add) offered='--ring --act --at --exp' ;;
+                rotate:) offered='--ring --act --at --exp --alg --kid --reason' ;;
+                rotate:add) offered='--ring --act --at --exp --alg' ;;
                 rotate:retire) offered='--ring --act --kid' ;;
                 rotate:revoke) offered='--ring --act --kid --at --reason' ;;
             esac

@@ -13,13 +13,19 @@ function __fed_offered
         case '*:--act'
             printf '%s\n' add retire revoke
             return
+        case '*:--alg'
+            printf '%s\n' 128s 128f
+            return
         case '*:--reason'
             printf '%s\n' unspecified compromised superseded
+            return
+        case '*:--stream'
+            printf '%s\n' yes
             return
         case '*:--typ'
             printf '%s\n' entity-statement+jwt trust-mark+jwt trust-mark-delegation+jwt
             return
-        case '*:--config' '*:--keys' '*:--ring' '*:--anchor' '*:--at' '*:--connections' '*:--exp' '*:--kid' '*:--params' '*:--port' '*:--sub'
+        case '*:--config' '*:--keys' '*:--ring' '*:--anchor' '*:--at' '*:--connections' '*:--exp' '*:--kid' '*:--params' '*:--port' '*:--sub' '*:--workers'
             return
     end
     if set -l at (contains -i -- --act $words)
@@ -27,15 +33,15 @@ function __fed_offered
     end
     switch $words[2]:$act
         case authority:
-            set offered --config\t'the file of the node'\''s configuration' --port\t'the port that is listened on, 1 to 65535' --connections\t'how many connections are answered, 1 to 1000000'
+            set offered --config\t'the file of the node'\''s configuration' --port\t'the port that is listened on, 1 to 65535' --connections\t'how many connections are answered, 1 to 1000000' --stream\t'a connection may ask more than once'
         case check:
             set offered --anchor\t'the trust anchor'\''s identifier' --keys\t'the file of the trust anchor'\''s key set' --at\t'from when, or for which moment, in seconds since 1970'
         case check-config:
             set offered --config\t'the file of the node'\''s configuration' --at\t'from when, or for which moment, in seconds since 1970'
         case issue:
-            set offered --ring\t'the file of the key ring' --typ\t'which type of text is signed'
+            set offered --ring\t'the file of the key ring' --typ\t'which type of text is signed' --workers\t'by how many workers the text is signed, 1 to 16'
         case keygen:
-            set offered --ring\t'the file of the key ring' --at\t'from when, or for which moment, in seconds since 1970' --exp\t'until when, in seconds since 1970'
+            set offered --ring\t'the file of the key ring' --at\t'from when, or for which moment, in seconds since 1970' --exp\t'until when, in seconds since 1970' --alg\t'the algorithm of the new key'
         case public:
             set offered --ring\t'the file of the key ring' --kid\t'the name of a key of the ring'
         case rehearse:
@@ -45,9 +51,9 @@ function __fed_offered
         case resolver:
             set offered --config\t'the file of the node'\''s configuration' --port\t'the port that is listened on, 1 to 65535' --connections\t'how many connections are answered, 1 to 1000000'
         case rotate:
-            set offered --ring\t'the file of the key ring' --act\t'what is changed' --at\t'from when, or for which moment, in seconds since 1970' --exp\t'until when, in seconds since 1970' --kid\t'the name of a key of the ring' --reason\t'why the key is revoked'
+            set offered --ring\t'the file of the key ring' --act\t'what is changed' --at\t'from when, or for which moment, in seconds since 1970' --exp\t'until when, in seconds since 1970' --alg\t'the algorithm of the new key' --kid\t'the name of a key of the ring' --reason\t'why the key is revoked'
         case rotate:add
-            set offered --ring\t'the file of the key ring' --act\t'what is changed' --at\t'from when, or for which moment, in seconds since 1970' --exp\t'until when, in seconds since 1970'
+            set offered --ring\t'the file of the key ring' --act\t'what is changed' --at\t'from when, or for which moment, in seconds since 1970' --exp\t'until when, in seconds since 1970' --alg\t'the algorithm of the new key'
         case rotate:retire
             set offered --ring\t'the file of the key ring' --act\t'what is changed' --kid\t'the name of a key of the ring'
         case rotate:revoke

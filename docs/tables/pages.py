@@ -15,7 +15,7 @@ def text_of(top, name):
 
 
 def literals(top, name):
-    return [it.replace('\\"', '"').replace("\\\\", "\\") for it in re.findall(r'&\[u8\] = b"((?:[^"\\]|\\.)*)";', text_of(top, name), re.S)]
+    return [it.replace('\\"', '"').replace("\\\\", "\\") for it in re.findall(r'&\[u8\] =\s+b"((?:[^"\\]|\\.)*)";', text_of(top, name), re.S)]
 
 
 def overview(top):
