@@ -17,7 +17,7 @@ use Rattle.client_register.specs.declared.posted.Posted.{Posted}
 use Rattle.client_register.specs.declared.posted.Posted.TheVariants as posted
 use Rattle.client_register.specs.declared.registered.Registered.{Registered}
 use Rattle.client_register.specs.declared.registration.Registration.{Registration}
-use Rattle.client_register.specs.Answers.{Counts, IsRefused, Registers, registration_type}
+use Rattle.client_register.specs.Answers.{CanBeTold, Counts, IsRefused, Registers, registration_type}
 use Rattle.client_register.specs.Finders.{Asks}
 use Rattle.client_register.specs.Registrations.{IsChain, Request, Resolves, case_in, registration_claims}
 use Rattle.client_register.specs.Stages.{Decides, GivesChain, Takes, verdict_in}
@@ -128,6 +128,26 @@ module _ (q : Request) where
 
           parts : said resolved.leaf resolved.exp ≡ said (subject_at (statements_of chain) 0) (least_exp (statements_of chain))
           parts = λ i. said (verdict.1.leaf i) (verdict.1.exp i)
+
+-- ---- what is told of a chain
+
+pub chain-told : (q : Request) (fault : RegisterFault) → GivesChain q (Err fault) → CanBeTold fault
+chain-told q (Chain place reason) a = absurd a
+chain-told q Form a = tt
+chain-told q NoChain a = tt
+chain-told q Spent a = tt
+chain-told q Fault a = tt
+chain-told q Memory a = tt
+chain-told q NoType a = tt
+
+pub type-told : (chain : Texts) (resolved : Resolved) (lifetime t : ℕ) (fault : RegisterFault) → Takes chain resolved lifetime t (Err fault) → CanBeTold fault
+type-told chain resolved lifetime t (Chain place reason) a = absurd a
+type-told chain resolved lifetime t Form a = tt
+type-told chain resolved lifetime t NoChain a = tt
+type-told chain resolved lifetime t Spent a = tt
+type-told chain resolved lifetime t Fault a = tt
+type-told chain resolved lifetime t Memory a = tt
+type-told chain resolved lifetime t NoType a = tt
 
 -- ---- the finder
 

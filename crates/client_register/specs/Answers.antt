@@ -7,7 +7,7 @@ use Rattle.sealed.specs.Sealing.{IsSealedFor, sealed_text}
 use Rattle.entity_statement.specs.Claims.{Identifier}
 use Rattle.chain_check.specs.Chains.{Texts, statements_of}
 use Rattle.chain_check.specs.Counts.{CountsVerdict}
-use Rattle.chain_check.specs.Verdicts.{IsFirstFailure, least_exp}
+use Rattle.chain_check.specs.Verdicts.{HasUtf8Names, IsFirstFailure, least_exp}
 use Rattle.chain_check.specs.declared.verdict.Resolved.{Resolved}
 use Rattle.chain_check.specs.declared.verdict.Verdict.{Verdict}
 use Rattle.chain_check.specs.declared.verdict.Verdict.TheVariants.{Valid, Refused}
@@ -60,6 +60,11 @@ IsAnswer q (Err fault) = IsRefused q fault
 -- memory was wanting
 abbrev pub IsMemory : Result Registered RegisterFault → Type 0
 IsMemory result = result ≡ Err Memory
+
+-- the names that a refusal tells are UTF-8 (RFC 8259 section 8.1)
+abbrev pub CanBeTold : RegisterFault → Type 0
+CanBeTold (Chain place reason) = HasUtf8Names reason
+CanBeTold _ = Unit {0}
 
 -- a registration, or memory was wanting
 abbrev pub IsRegisteredUnlessMemory : Result Registered RegisterFault → Type 0

@@ -18,5 +18,6 @@ pub use fault::RegisterFault;
 pub use finder::Finder;
 pub use found::Found;
 pub use memory_finder::MemoryFinder;
+pub use posted::Posted;
 pub use registered::{REGISTRATION_TYPE, Registered};
 pub use registering::register;

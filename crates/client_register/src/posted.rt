@@ -12,7 +12,7 @@ use std::alloc::Global;
 
 /// What a relying party posted to register itself (OpenID Federation 1.0 section 12.2.1).
 #[derive(Drop)]
-pub(crate) enum Posted {
+pub enum Posted {
     /// The texts of a trust chain, as a JSON list.
     Chain(Seq<Text>),
     /// The configuration of this entity, as compact text.
@@ -21,17 +21,19 @@ pub(crate) enum Posted {
     Neither,
 }
 
-/// What the bytes are. Signatures aren't looked at.
-#[tactic(auto, unfolding(crate::specs::Requests::posted_in))]
-pub(crate) fn read_posted(alloc: Global, bytes: &[u8]) -> Result<Posted, Memory>
-    ensures { IfOk result (λ posted. posted ≡ posted_in bytes.now) }
-{
-    if let Some(texts) = read_chain(alloc, bytes)? {
-        return Ok(Posted::Chain(texts));
-    }
-    match read_entity(alloc, bytes)? {
-        Some(entity) => Ok(Posted::Configuration(entity)),
-        None => Ok(Posted::Neither),
+impl Posted {
+    /// What the bytes of a request are. Signatures aren't looked at.
+    #[tactic(auto, unfolding(crate::specs::Requests::posted_in))]
+    pub fn read(alloc: Global, bytes: &[u8]) -> Result<Posted, Memory>
+        ensures { IfOk result (λ posted. posted ≡ posted_in bytes.now) }
+    {
+        if let Some(texts) = read_chain(alloc, bytes)? {
+            return Ok(Posted::Chain(texts));
+        }
+        match read_entity(alloc, bytes)? {
+            Some(entity) => Ok(Posted::Configuration(entity)),
+            None => Ok(Posted::Neither),
+        }
     }
 }
 

@@ -1,12 +1,12 @@
 // Explicit registration of a relying party.
 
-ghost use Rattle.std.specs.Prelude.{◌≡◌, ◌∷◌, drop, IfOk, IsTrue};
+ghost use Rattle.std.specs.Prelude.{◌≡◌, ◌∷◌, drop, IfErr, IfOk, IsTrue};
 ghost use Rattle.std.specs.List.{list_all};
 ghost use Rattle.std.specs.Str.{is_utf8};
 ghost use Rattle.fed_json.specs.Forms.{IsWhole};
 ghost use Rattle.chain_check.specs.Counts.{CountsVerdict};
 ghost use Rattle.chain_check.specs.Validity.{case_of};
-ghost use Rattle.client_register.specs.Answers.{Counts, Registers};
+ghost use Rattle.client_register.specs.Answers.{CanBeTold, Counts, Registers};
 ghost use Rattle.client_register.specs.Finders.{Asks, HasAnswered};
 ghost use Rattle.client_register.specs.Registrations.{Registrar, registrar, request};
 ghost use Rattle.client_register.specs.Requests.{IsPosted, posted_in};
@@ -17,7 +17,7 @@ use crate::claims::{PARTY_TYPE, registration_claims};
 use crate::fault::RegisterFault;
 use crate::finder::Finder;
 use crate::found::Found;
-use crate::posted::{Posted, read_posted};
+use crate::posted::Posted;
 use crate::registered::{Registered, seal_registration};
 use crate::registration::Registration;
 use chain_check::{Resolved, Verdict, check_chain};
@@ -50,6 +50,8 @@ pub fn register<F: Finder, L: Ledger>(
     ensures posted { IsPosted posted.now (posted_in posted.now) }
     ensures asks { Asks (λ before after entity answer. HasAnswered (F.seen before) (F.seen after) answer × F.gave before after entity anchor.now answer)
         finder.old finder.new (posted_in posted.now) result }
+    // Why a chain isn't valid has a JSON text.
+    ensures told { IfErr result CanBeTold }
     ensures counted { Counts
         (request (registrar iss.now keys.now anchor.now anchor_keys.now.keys lifetime t) posted.now (F.seen finder.new).last) result
         (L.count steps.old.ledger) (L.count steps.new.ledger) }
@@ -72,7 +74,7 @@ fn chain_for<F: Finder>(
     ensures asks { Asks (λ before after entity answer. HasAnswered (F.seen before) (F.seen after) answer × F.gave before after entity anchor.now answer)
         finder.old finder.new (posted_in posted.now) result }
 {
-    match read_posted(alloc, posted)? {
+    match Posted::read(alloc, posted)? {
         Posted::Chain(texts) => Ok(texts),
         Posted::Configuration(entity) => found_chain(alloc, finder, &entity, anchor, posted),
         Posted::Neither => Err(RegisterFault::Form),
@@ -124,6 +126,7 @@ fn resolve<L: Ledger>(
     ensures verdict { Decides (case_of chain.now anchor.now keys.now.keys t) result }
     ensures whole { IfOk result (λ resolved. IsWhole resolved.metadata) }
     ensures utf8 { IfOk result (λ _. IsTrue (list_all is_utf8 chain.now)) }
+    ensures told { IfErr result CanBeTold }
     ensures counted { CountsVerdict (case_of chain.now anchor.now keys.now.keys t) (verdict_in result)
         (L.count steps.old.ledger) (L.count steps.new.ledger) }
 {

@@ -93,7 +93,7 @@ fn printed(bytes: &[u8]) -> &str {
 fn command_of(alloc: Global, words: &Seq<Text>) -> Result<Command, Memory> {
     match read_call(alloc, words.as_slice())? {
         Call::Command(command) => Ok(command),
-        Call::Inspection(_) | Call::Service(_) => Ok(Command::Faulty),
+        Call::Inspection(_) | Call::Service(_) | Call::Registration(_) => Ok(Command::Faulty),
     }
 }
 

@@ -1,5 +1,6 @@
 mod AuthorityLaws
 mod CommandLaws
+mod RegisterLaws
 mod RehearsalLaws
 mod ResolveLaws
 mod ResolverLaws

@@ -1,5 +1,5 @@
 -- What is told of a call, and the pass that is held then.
-use Rattle.std.proofs.Common.{◌≡◌, ◌≢◌, ◌≤◌, ◌<◌, ◌⊎◌, ℕ, List, [], Option, Some, None, Result, Ok, Err, IfSome, refl, subst, sym, inl, inr, arith, lit<}
+use Rattle.std.proofs.Common.{◌≡◌, ◌≢◌, ◌≤◌, ◌<◌, ◌⊎◌, ℕ, List, [], Bool, true, false, Option, Some, None, Result, Ok, Err, IfSome, refl, subst, sym, inl, inr, arith, lit<}
 use Rattle.authority_core.specs.Nodes.{Node}
 use Rattle.node_service.specs.Connections.{Connection}
 use Rattle.node_service.specs.Streams.{IsAnsweredBy}
@@ -18,6 +18,9 @@ use Rattle.resolve_reply.specs.declared.reply.Reply.{Reply}
 use Rattle.fed_resolver.specs.declared.outcome.Outcome.{Outcome}
 use Rattle.fed_resolver.specs.declared.outcome.Refusal.{Refusal}
 use Rattle.fed_resolver.specs.declared.outcome.Refusal.TheVariants.{NoAnchor, NotFound, PolicyOnly, NoChain, Unavailable, Budget, Worn, Memory}
+use Rattle.heeded_reply.specs.declared.reply.HeededReply.{HeededReply}
+use Rattle.heeded_reply.specs.declared.reply.Heard.{Heard}
+use Rattle.heeded_reply.specs.Calls.{outcome_of}
 use Rattle.resolver_service.specs.Calls.{HoldsWorn, Question, WornBy}
 use Rattle.resolver_service.specs.Batches.{ServiceViews}
 use Rattle.fed_words.specs.declared.service.Service.{Service}
@@ -27,8 +30,9 @@ use Rattle.rehearsal.specs.declared.fault.RehearsalFault.TheVariants as rehearsa
 use Rattle.fed.specs.Rehearsals.{RunsRehearsal}
 use Rattle.resolver_service.specs.declared.ending.ResolverEnd.TheVariants as ends
 use Rattle.fed.specs.Resolvers.{RunsResolver}
-use Rattle.fed.specs.Resolving.{HoldsBy, IsSilent, IsTold, IsToldBy, RunsResolve, Written}
-use Rattle.fed.specs.Services.{RunsService}
+use Rattle.fed.specs.Heeding.{AreLinesTold, IsHeard, IsHeardBy, RunsHeed}
+use Rattle.fed.specs.Resolving.{HoldsBy, IsSilent, IsTold, IsToldBy, RunsResolve, Written, seen_by_call}
+use Rattle.fed.specs.Services.{RunsResolving, RunsService}
 
 -- ---- statuses other than 8
 
@@ -82,6 +86,21 @@ module _ {S T : Type 0} (worn : Option (Group (PassSeat S Part ShelfCall ShelfRe
   holds-fault fault.Store before now status none told = holds-none status none (silent-other _ before now status told (lit< tt))
   holds-fault fault.Memory before now status none told = holds-none status none (silent-other _ before now status told (lit< tt))
 
+  -- the reply's marks were asked about
+  holds-lines : (heeded : Option HeededReply) (before now : Written) (status : ℕ) → worn ≡ None → AreLinesTold heeded before now status → HoldsBy worn status
+  holds-lines (Some heeded) before now status none (inl told) = holds-none status none (lines-other _ _ _ _ _ _ status told (lit< tt))
+  holds-lines (Some heeded) before now status none (inr told) = holds-none status none (silent-other _ before now status told (lit< tt))
+  holds-lines None before now status none told = holds-none status none (silent-other _ before now status told (lit< tt))
+
+  holds-result : (result : Result Reply Refusal) (heeded : Option HeededReply) (before now : Written) (status : ℕ) → HoldsWorn result worn → IsHeardBy result heeded before now status
+      → HoldsBy worn status
+  holds-result (Ok reply) heeded before now status none told = holds-lines heeded before now status none told
+  holds-result (Err refusal) heeded before now status held told = holds-told (Err refusal) before now status held told
+
+  pub holds-heard : (heard : Result Heard NodeFault) (before now : Written) (status : ℕ) → WornBy (outcome_of heard) worn → IsHeard heard before now status → HoldsBy worn status
+  holds-heard (Ok heard) before now status held told = holds-result heard.outcome.result heard.reply before now status held told
+  holds-heard (Err e) before now status none told = holds-fault e before now status none told
+
   -- or there may be none
   pub holds-called : (called : Result Outcome NodeFault) (before now : Written) (status : ℕ) → WornBy called worn → IsTold called before now status → HoldsBy worn status
   holds-called (Ok outcome) before now status held told = holds-told outcome.result before now status held told
@@ -90,12 +109,12 @@ module _ {S T : Type 0} (worn : Option (Group (PassSeat S Part ShelfCall ShelfRe
 -- ---- the service
 
 -- a service resolves as it is asked to, where that is what it does
-pub resolves_service : {P N C S T : Type 0} (views : ServiceViews P N C) (service : Service) (before now : Outside P) (joined : Option (Group (PassSeat S Part ShelfCall ShelfReply) (PassSeat T Book BookCall BookReply))) (status : ℕ) (config sub anchor : List ℕ) (types : List (List ℕ))
-    → service ≡ Resolve config sub anchor → types ≡ []
-    → RunsResolve (record { config = config; request = record { sub = sub; anchor = anchor; types = types } }) before now status → joined ≡ None → RunsService views service before now joined status
-resolves_service views service before now joined status config sub anchor types is none runs unjoined =
+pub resolves_service : {P N C S T : Type 0} (views : ServiceViews P N C) (service : Service) (before now : Outside P) (joined : Option (Group (PassSeat S Part ShelfCall ShelfReply) (PassSeat T Book BookCall BookReply))) (status : ℕ) (config sub anchor : List ℕ) (heed : Bool) (types : List (List ℕ))
+    → service ≡ Resolve config sub anchor heed → types ≡ []
+    → RunsResolving heed (record { config = config; request = record { sub = sub; anchor = anchor; types = types } }) before now status → joined ≡ None → RunsService views service before now joined status
+resolves_service views service before now joined status config sub anchor heed types is none runs unjoined =
     subst (λ s. RunsService views s before now joined status) (sym is)
-    (subst (λ ts. RunsResolve (record { config = config; request = record { sub = sub; anchor = anchor; types = ts } }) before now status) none runs, unjoined)
+    (subst (λ ts. RunsResolving heed (record { config = config; request = record { sub = sub; anchor = anchor; types = ts } }) before now status) none runs, unjoined)
 
 -- ---- memory was wanting for the words
 
@@ -124,6 +143,25 @@ unresolved question o = record {
   still = refl;
 }
 
+unheeded : {P : Type 0} (question : Question) (o : Outside P) → RunsHeed question o o 5
+unheeded question o = record {
+  result = Err fault.Memory;
+  heeds = record {
+    between = seen_by_call o;
+    resolves = record { calls = record { input = λ is. cc is; unasked = refl }; files = refl; store = refl };
+    hears = refl;
+    clock = refl;
+    files = refl;
+    store = refl;
+  };
+  told = (refl, refl);
+  still = refl;
+}
+
+unresolved_as : {P : Type 0} (heed : Bool) (question : Question) (o : Outside P) → RunsResolving heed question o o 5
+unresolved_as false question o = unresolved question o
+unresolved_as true question o = unheeded question o
+
 unrehearsed : {P : Type 0} (params : ℕ) (o : Outside P) → RunsRehearsal params o o 5
 unrehearsed params o = record {
   rehearsed = record { result = Err rehearsal_fault.Memory; rehearses = tt; told = (refl, refl) };
@@ -143,7 +181,7 @@ module _ {P N C S T : Type 0} (views : ServiceViews P N C) (joined : Option (Gro
   unrun : (service : Service) (o : Outside P) → RunsService views service o o joined 5
   unrun (Authority config port connections stream) o = (unserved (IsAnsweredBy stream views.peer) (record { config = config; post = record { port = port; connections = connections } }) o, none)
   unrun (Resolver config port connections) o = unserved_resolver (record { config = config; post = record { port = port; connections = connections } }) o
-  unrun (Resolve config sub anchor) o = (unresolved (record { config = config; request = record { sub = sub; anchor = anchor; types = [] } }) o, none)
+  unrun (Resolve config sub anchor heed) o = (unresolved_as heed (record { config = config; request = record { sub = sub; anchor = anchor; types = [] } }) o, none)
   unrun (Rehearse params) o = (unrehearsed params o, none)
 
   -- nothing was done, whatever was asked for

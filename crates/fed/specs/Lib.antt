@@ -1,7 +1,9 @@
 pub mod Authorities
 pub mod Commands
+pub mod Heeding
 pub mod Orders
 pub mod Ports
+pub mod Registering
 pub mod Rehearsals
 pub mod Resolvers
 pub mod Resolving

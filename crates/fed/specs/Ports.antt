@@ -8,6 +8,7 @@ use Rattle.fed_ports.specs.declared.source.Source.{Ghosts as SourceShows}
 use Rattle.fed_ports.specs.declared.store.Store.{Ghosts as StoreShows}
 use Rattle.fed_ports.specs.Times.{clock_at}
 use Rattle.fed.specs.Authorities.{Outside, outside}
+use Rattle.fed.specs.Registering.{WithInput}
 use Rattle.fed.specs.Resolving.{Written}
 use Rattle.fed.specs.declared.ports.Ports.{Ports}
 use Rattle.fed_serve.specs.Moments.{PeerAt, peer_at}
@@ -46,6 +47,10 @@ abbrev pub all_views : {P N C : Type 0} → SourceShows P → SinkShows P → Ne
 all_views source sink shown moments =
     service_views (peer_seen source sink) (λ clock. clock_at (moments.readings clock) (moments.last clock) (moments.told clock)) shown.exchanges shown.faults
     (λ net. listening (shown.port net) (shown.callers net) (shown.settled net))
+
+-- the outside with the input
+abbrev pub with_input : {S P : Type 0} → SourceShows S → S → Outside P → WithInput P
+with_input shows input outside = record { left = shows.left input; read_faults = shows.read_faults input; outside = outside }
 
 -- the output alone
 abbrev pub written_to : {K : Type 0} → SinkShows K → K → Written

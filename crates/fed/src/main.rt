@@ -1,8 +1,8 @@
 //! Layer 7, the program: `fed`, an authority and trust chain resolver of OpenID Federation 1.0.
 //!
-//! [`run`] does what the words ask for, over any source, sink, store, network and clock: a service answers others over the network, and any
-//! other command is done by `fed_commands`. It carries what is proved of the program. [`run_with_notes`] does the same, and hands what a
-//! person is to read of it to one more sink.
+//! [`run`] does what the words ask for, over any source, sink, store, network and clock: a service answers others over the network, a
+//! registration reads an input and asks others, and any other command is done by `fed_commands`. It carries what is proved of the program.
+//! [`run_with_notes`] does the same, and hands what a person is to read of it to one more sink.
 //!
 //! `main` makes the real outside, calls [`run_with_notes`], and ends with its status. What a person reads goes to standard error, unless
 //! the environment has `FED_QUIET=1`. A service listens on 127.0.0.1, or on the IPv4 address in `FED_LISTEN`, and each connection leaves a
@@ -12,9 +12,11 @@
 
 mod authority;
 mod build;
+mod heeding;
 mod named_file;
 mod performing;
 mod ports;
+mod registering;
 mod rehearsing;
 mod resolver;
 mod resolving;
@@ -87,7 +89,7 @@ fn serves(alloc: Global, words: &[Text]) -> bool {
     match read_call(alloc, words) {
         Ok(Call::Service(Service::Rehearse { params: _ })) => false,
         Ok(Call::Service(_)) => true,
-        Ok(Call::Command(_) | Call::Inspection(_)) | Err(_) => false,
+        Ok(Call::Command(_) | Call::Inspection(_) | Call::Registration(_)) | Err(_) => false,
     }
 }
 

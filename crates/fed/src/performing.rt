@@ -2,17 +2,21 @@
 
 ghost use Rattle.std.specs.Prelude.{◌≡◌, IfSome, None};
 ghost use Rattle.fed_commands.specs.Runs.{views};
-ghost use Rattle.fed_words.specs.Calls.{command_of, inspection_of, service_of};
+ghost use Rattle.fed_words.specs.Calls.{command_of, inspection_of, registration_of, service_of};
 ghost use Rattle.fed.specs.Commands.{DoesAs};
-ghost use Rattle.fed.specs.Ports.{all_views, node_views, ports_found, ports_left, world_found, world_left};
+ghost use Rattle.fed.specs.Orders.{wanted_of};
+ghost use Rattle.fed.specs.Ports.{all_views, node_views, ports_found, ports_left, with_input, world_found, world_left};
+ghost use Rattle.fed.specs.Registering.{RunsRegistration};
 ghost use Rattle.fed.specs.Resolving.{HoldsBy};
 ghost use Rattle.fed.specs.Services.{RunsService};
 
 use crate::authority::serve;
+use crate::heeding::resolve_as;
 use crate::ports::{Order, Passes, Ports};
+use crate::registering::register;
 use crate::rehearsing::rehearse;
 use crate::resolver::serve_as_resolver;
-use crate::resolving::{Question, resolve};
+use crate::resolving::Question;
 use fed_commands::perform_command;
 use fed_inspect::inspect;
 use fed_ports::{Clock, Network, Seq, Sink, Source, Store, Text};
@@ -44,13 +48,16 @@ where
     N::Peer: Drop,
     requires worn { passes.worn.now ≡ None }
     requires joined { passes.joined.now ≡ None }
-    ensures command { service_of words.now ≡ None → (ports.exit.1.1.1.0.now ≡ ports.entry.net.now) × (passes.exit.1.0.now ≡ None)
+    ensures command { service_of words.now ≡ None → registration_of words.now ≡ None → (ports.exit.1.1.1.0.now ≡ ports.entry.net.now) × (passes.exit.1.0.now ≡ None)
         × DoesAs (inspection_of words.now) (command_of words.now)
         (world_found (views S.Source K.Sink D.Store C.Clock) ports.entry) (world_left (views S.Source K.Sink D.Store C.Clock) ports.exit) result }
     ensures service { IfSome (service_of words.now) (λ service. (ports.exit.0.now ≡ ports.entry.input.now) × RunsService
         (all_views N.Peer.Source N.Peer.Sink N.Network C.Clock) service
         (ports_found (node_views K.Sink D.Store N.Network C.Clock) ports.entry) (ports_left (node_views K.Sink D.Store N.Network C.Clock) ports.exit)
         passes.exit.1.0.now result) }
+    ensures registration { IfSome (registration_of words.now) (λ registration. (passes.exit.1.0.now ≡ None) × RunsRegistration (wanted_of registration)
+        (with_input S.Source ports.entry.input.now (ports_found (node_views K.Sink D.Store N.Network C.Clock) ports.entry))
+        (with_input S.Source ports.exit.0.now (ports_left (node_views K.Sink D.Store N.Network C.Clock) ports.exit)) result) }
     ensures worn { HoldsBy passes.exit.0.now result }
 {
     match read_call(alloc, words.as_slice()) {
@@ -80,6 +87,12 @@ where
             status
         }
         Ok(Call::Service(service)) => serve_as(rt, alloc, service, ports, passes, notes),
+        Ok(Call::Registration(registration)) => {
+            let Passes { worn, joined: _ } = passes;
+            let status = register(rt, alloc, &registration, ports, worn, notes);
+            drop(registration);
+            status
+        }
         Err(_) => {
             explain_memory(alloc, notes);
             5
@@ -147,6 +160,7 @@ where
             config_file,
             sub,
             anchor,
+            heed,
         } => {
             let types = Seq::new(alloc);
             let request = ResolveRequest { sub, anchor, types };
@@ -155,7 +169,7 @@ where
                 request: &request,
             };
             let Passes { worn, joined: _ } = passes;
-            let status = resolve(rt, alloc, question, ports, worn, notes);
+            let status = resolve_as(rt, alloc, question, heed, ports, worn, notes);
             drop(request);
             drop(config_file);
             status

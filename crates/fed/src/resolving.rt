@@ -1,6 +1,6 @@
 // Resolving an entity: the line of the reply or of the refusal, and the status.
 
-ghost use Rattle.std.specs.Prelude.{◌≡◌, None};
+ghost use Rattle.std.specs.Prelude.{◌≡◌, None, Err};
 ghost use Rattle.fed.specs.Orders.{question_of};
 ghost use Rattle.fed.specs.Ports.{node_views, ports_found, ports_left, written_to};
 ghost use Rattle.fed.specs.Resolving.{HoldsBy, IsReplyTold, IsTold, IsToldBy, RunsResolve};
@@ -87,9 +87,23 @@ fn tell_call<K: Sink>(
             explain_outcome(alloc, request, &outcome, notes);
             tell(alloc, outcome, out, notes)
         }
-        Err(NodeFault::Input) => write_line(alloc, 2, b"input\n", out, notes),
-        Err(NodeFault::Store) => 6,
-        Err(NodeFault::Memory) => {
+        Err(fault) => tell_fault(alloc, fault, out, notes),
+    }
+}
+
+/// Writes that there is no such node, and gives the status.
+pub(crate) fn tell_fault<K: Sink>(
+    alloc: Global,
+    fault: NodeFault,
+    out: &mut K,
+    notes: &mut Notes,
+) -> u8
+    ensures { IsTold (Err fault) (written_to K.Sink out.old) (written_to K.Sink out.new) result }
+{
+    match fault {
+        NodeFault::Input => write_line(alloc, 2, b"input\n", out, notes),
+        NodeFault::Store => 6,
+        NodeFault::Memory => {
             explain_memory(alloc, notes);
             5
         }
@@ -104,14 +118,28 @@ fn tell<K: Sink>(alloc: Global, outcome: Outcome, out: &mut K, notes: &mut Notes
     drop(trace);
     match result {
         Ok(reply) => tell_reply(alloc, reply, out, notes),
-        Err(Refusal::NoAnchor) => write_line(alloc, 1, NO_ANCHOR, out, notes),
-        Err(Refusal::NotFound) => write_line(alloc, 1, NOT_FOUND, out, notes),
-        Err(Refusal::PolicyOnly) => write_line(alloc, 1, POLICY_ONLY, out, notes),
-        Err(Refusal::NoChain) => write_line(alloc, 1, NO_CHAIN, out, notes),
-        Err(Refusal::Unavailable) => 7,
-        Err(Refusal::Budget { calls: _, paths: _ }) => 9,
-        Err(Refusal::Worn(_)) => 8,
-        Err(Refusal::Memory) => 5,
+        Err(refusal) => tell_refusal(alloc, refusal, out, notes),
+    }
+}
+
+/// Writes why there is no reply, and gives the status.
+pub(crate) fn tell_refusal<K: Sink>(
+    alloc: Global,
+    refusal: Refusal,
+    out: &mut K,
+    notes: &mut Notes,
+) -> u8
+    ensures { IsToldBy (Err refusal) (written_to K.Sink out.old) (written_to K.Sink out.new) result }
+{
+    match refusal {
+        Refusal::NoAnchor => write_line(alloc, 1, NO_ANCHOR, out, notes),
+        Refusal::NotFound => write_line(alloc, 1, NOT_FOUND, out, notes),
+        Refusal::PolicyOnly => write_line(alloc, 1, POLICY_ONLY, out, notes),
+        Refusal::NoChain => write_line(alloc, 1, NO_CHAIN, out, notes),
+        Refusal::Unavailable => 7,
+        Refusal::Budget { calls: _, paths: _ } => 9,
+        Refusal::Worn(_) => 8,
+        Refusal::Memory => 5,
     }
 }
 

@@ -3,9 +3,11 @@
 ghost use Rattle.std.specs.Prelude.{◌≡◌, IfSome, None};
 ghost use Rattle.fed_commands.specs.Noted.{HandsNotes};
 ghost use Rattle.fed_commands.specs.Runs.{views, world};
-ghost use Rattle.fed_words.specs.Calls.{command_of, inspection_of, service_of};
+ghost use Rattle.fed_words.specs.Calls.{command_of, inspection_of, registration_of, service_of};
 ghost use Rattle.fed.specs.Commands.{DoesAs};
-ghost use Rattle.fed.specs.Ports.{all_views, node_seen, node_views};
+ghost use Rattle.fed.specs.Orders.{wanted_of};
+ghost use Rattle.fed.specs.Ports.{all_views, node_seen, node_views, with_input};
+ghost use Rattle.fed.specs.Registering.{RunsRegistration};
 ghost use Rattle.fed.specs.Resolving.{HoldsBy};
 ghost use Rattle.fed.specs.Services.{RunsService};
 
@@ -48,7 +50,20 @@ use std::thread::Threads;
 /// | 8 | a shared object has counted 2^62 calls, and `worn` has the pass that has seen them | nothing |
 /// | 9 | no valid chain was found before a bound of the search | nothing |
 ///
+/// With `--heed yes` the issuers of the reply's trust marks are asked about them over the same network, once the entity is resolved: behind
+/// the reply's text, which is sealed anew where a mark isn't kept, stands a line for each mark. What is asked changes no status but for 5.
+///
 /// `rehearse` ends with 0, and its summary is written, or with 4, 5 and 8 as `resolve` does.
+///
+/// `register` ends so, and with 2, 4, 5, 6, 8 and 9 as `resolve` does; it looks at the files, then at the input, and then at the anchor:
+///
+/// | Status | | Written |
+/// |---|---|---|
+/// | 0 | the relying party is registered | the registration's text |
+/// | 1 | the anchor isn't listed, what was posted is of neither form, there is no valid chain, or no relying party | `refused ..` |
+/// | 2 | beside what `resolve` says: the input is too long | `input` |
+/// | 3 | the source failed | nothing |
+/// | 7 | no chain was found, and a fetch failed | nothing |
 pub fn run<
     R: Threads + Wait + Sync,
     S: Source,
@@ -72,13 +87,16 @@ where
     N::Peer: Drop,
     requires worn { worn.old ≡ None }
     requires joined { joined.old ≡ None }
-    ensures command { service_of words.now ≡ None → (net.new ≡ net.old) × (joined.new ≡ None) × DoesAs (inspection_of words.now) (command_of words.now)
+    ensures command { service_of words.now ≡ None → registration_of words.now ≡ None → (net.new ≡ net.old) × (joined.new ≡ None) × DoesAs (inspection_of words.now) (command_of words.now)
         (world (views S.Source K.Sink D.Store C.Clock) input.old out.old store.old clock.old)
         (world (views S.Source K.Sink D.Store C.Clock) input.new out.new store.new clock.new) result }
     ensures service { IfSome (service_of words.now) (λ service. (input.new ≡ input.old) × RunsService
         (all_views N.Peer.Source N.Peer.Sink N.Network C.Clock) service
         (node_seen (node_views K.Sink D.Store N.Network C.Clock) out.old store.old net.old clock.old)
         (node_seen (node_views K.Sink D.Store N.Network C.Clock) out.new store.new net.new clock.new) joined.new result) }
+    ensures registration { IfSome (registration_of words.now) (λ registration. (joined.new ≡ None) × RunsRegistration (wanted_of registration)
+        (with_input S.Source input.old (node_seen (node_views K.Sink D.Store N.Network C.Clock) out.old store.old net.old clock.old))
+        (with_input S.Source input.new (node_seen (node_views K.Sink D.Store N.Network C.Clock) out.new store.new net.new clock.new)) result) }
     ensures worn { HoldsBy worn.new result }
 {
     let mut notes = Notes::new(alloc, None);
@@ -126,13 +144,16 @@ where
     N::Peer: Drop,
     requires worn { worn.old ≡ None }
     requires joined { joined.old ≡ None }
-    ensures command { service_of words.now ≡ None → (net.new ≡ net.old) × (joined.new ≡ None) × DoesAs (inspection_of words.now) (command_of words.now)
+    ensures command { service_of words.now ≡ None → registration_of words.now ≡ None → (net.new ≡ net.old) × (joined.new ≡ None) × DoesAs (inspection_of words.now) (command_of words.now)
         (world (views S.Source K.Sink D.Store C.Clock) input.old out.old store.old clock.old)
         (world (views S.Source K.Sink D.Store C.Clock) input.new out.new store.new clock.new) result }
     ensures service { IfSome (service_of words.now) (λ service. (input.new ≡ input.old) × RunsService
         (all_views N.Peer.Source N.Peer.Sink N.Network C.Clock) service
         (node_seen (node_views K.Sink D.Store N.Network C.Clock) out.old store.old net.old clock.old)
         (node_seen (node_views K.Sink D.Store N.Network C.Clock) out.new store.new net.new clock.new) joined.new result) }
+    ensures registration { IfSome (registration_of words.now) (λ registration. (joined.new ≡ None) × RunsRegistration (wanted_of registration)
+        (with_input S.Source input.old (node_seen (node_views K.Sink D.Store N.Network C.Clock) out.old store.old net.old clock.old))
+        (with_input S.Source input.new (node_seen (node_views K.Sink D.Store N.Network C.Clock) out.new store.new net.new clock.new)) result) }
     ensures worn { HoldsBy worn.new result }
     // What is handed to `said` are notes, or a beginning of them.
     ensures said { HandsNotes (W.held said.old) (W.held said.new) }

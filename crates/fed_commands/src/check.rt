@@ -3,7 +3,7 @@
 ghost use Rattle.std.specs.Prelude.{◌≡◌, None, Some, IfOk, option_map};
 ghost use Rattle.fed_commands.specs.Checks.{IsChecked, chain_in, keys_in};
 
-use crate::check_lines::{lines, status};
+use crate::check_lines::{status, verdict_lines};
 use chain_check::check_chain;
 use chain_notes::{Asked, explain_verdict};
 use entity_id::EntityId;
@@ -42,7 +42,7 @@ pub fn check(
     explain_verdict(alloc, &chain, &asked, &verdict, notes);
     drop(chain);
     let status = status(&verdict);
-    let text = lines(alloc, &verdict);
+    let text = verdict_lines(alloc, &verdict);
     drop(verdict);
     Ok(Reply {
         status,

@@ -23,7 +23,7 @@ pub fn status(verdict: &Verdict) -> u8
 }
 
 /// The lines, each with its line end.
-pub fn lines(alloc: Global, verdict: &Verdict) -> Result<Text, Memory>
+pub fn verdict_lines(alloc: Global, verdict: &Verdict) -> Result<Text, Memory>
     requires { CanBeWritten verdict.now }
     ensures { IfOk result (λ text. text ≡ lines_of verdict.now) }
 {

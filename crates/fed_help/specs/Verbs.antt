@@ -2,7 +2,7 @@
 use Rattle.std.specs.Prelude.{ℕ, List, codes, bytes_eq, find, Bool, Option}
 use Rattle.fed_help.specs.declared.answer_pages.TheConstants.{CHECK, HELP_PAGE, SHOW, VERIFY}
 use Rattle.fed_help.specs.declared.key_pages.TheConstants.{ISSUE, KEYGEN, PUBLIC, ROTATE}
-use Rattle.fed_help.specs.declared.node_pages.TheConstants.{AUTHORITY, CHECK_CONFIG, REHEARSE, RESOLVE, RESOLVER}
+use Rattle.fed_help.specs.declared.node_pages.TheConstants.{AUTHORITY, CHECK_CONFIG, REGISTER, REHEARSE, RESOLVE, RESOLVER}
 use Rattle.fed_help.specs.declared.verb.TheConstants.{VERBS}
 use Rattle.fed_help.specs.declared.verb.Verb.{Verb}
 use Rattle.fed_help.specs.declared.verb.Verb.TheVariants as verb
@@ -16,6 +16,7 @@ word_of verb.Help = codes "help"
 word_of verb.Issue = codes "issue"
 word_of verb.Keygen = codes "keygen"
 word_of verb.Public = codes "public"
+word_of verb.Register = codes "register"
 word_of verb.Rehearse = codes "rehearse"
 word_of verb.Resolve = codes "resolve"
 word_of verb.Resolver = codes "resolver"
@@ -40,6 +41,7 @@ page_of verb.Help = HELP_PAGE.now
 page_of verb.Issue = ISSUE.now
 page_of verb.Keygen = KEYGEN.now
 page_of verb.Public = PUBLIC.now
+page_of verb.Register = REGISTER.now
 page_of verb.Rehearse = REHEARSE.now
 page_of verb.Resolve = RESOLVE.now
 page_of verb.Resolver = RESOLVER.now

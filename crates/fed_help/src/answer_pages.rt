@@ -54,8 +54,8 @@ words    none
 input    a text in JWS compact serialization; a chain, a JSON list of such
          texts; or a JWK Set
 output   the parts, and then what they are: an entity's configuration, a
-         statement, a trust mark, a delegation, a status, a key set; or, by
-         name, the first reason why they aren't
+         statement, a trust mark, a delegation, a status, a registration, a
+         key set; or, by name, the first reason why they aren't
          refused R    the reason, as in docs/COMMANDS.md
          input        the input is JSON of another kind, or has more than
                       4,194,304 bytes; nothing else is written then
@@ -71,8 +71,8 @@ Shows how a command is called: its words, its input, what it writes, its
 statuses, and an example.
 
 words    COMMAND      verify, keygen, issue, rotate, public, check, show,
-                      check-config, authority, resolver, resolve, rehearse
-                      or help
+                      check-config, authority, resolver, resolve, register,
+                      rehearse or help
 input    none is read
 output   the page
 status   0 shown, 2 there is no such command, 4 the output can't be written, 5

@@ -75,7 +75,7 @@ example  fed resolver --config node.json --port 8301 --connections 1000000
 ";
 
 /// The page of `resolve`.
-pub(crate) const RESOLVE: &[u8] = b"fed resolve --config FILE --sub ID --anchor ID
+pub(crate) const RESOLVE: &[u8] = b"fed resolve --config FILE --sub ID --anchor ID [--heed yes]
 
 Resolves an entity up to a trust anchor, as the resolver of a configuration: it
 asks the authorities over HTTP, and writes a signed reply.
@@ -83,8 +83,15 @@ asks the authorities over HTTP, and writes a signed reply.
 words    --config FILE the configuration, with the member resolver
          --sub ID      the entity, a URL
          --anchor ID   one of the configuration's trust anchors
+         --heed yes    the issuers of the reply's trust marks are asked about
+                       them, and a mark that isn't active is left out
 input    none is read
 output   a line        the reply in JWS compact serialization
+         mark I WORD   with --heed yes, behind it for the mark at each place:
+                       active, or unasked where its issuer names no status
+                       endpoint; it is left out where its issuer says that it
+                       isn't active (refused), gives no answer on it (useless),
+                       or can't be asked (fault), and the status stays 0
          {\"error\":..}  why there is none: invalid_trust_anchor, not_found,
                        invalid_metadata or invalid_trust_chain
          input         the configuration or its ring isn't there or isn't of
@@ -95,6 +102,36 @@ status   0 resolved, 1 refused, 2 words or input, 4 the output can't be written,
          found before a bound of the search
 example  fed resolve --config node.json --sub https://rp.example \\
              --anchor https://ta.example
+";
+
+/// The page of `register`.
+pub(crate) const REGISTER: &[u8] = b"fed register --config FILE --anchor ID < POSTED
+
+Registers a relying party, as the node of a configuration: a posted chain is
+checked, the chain of a posted configuration is first looked for over HTTP, and
+a signed registration is written.
+
+words    --config FILE the configuration, with the member resolver
+         --anchor ID   one of the configuration's trust anchors
+input    what the relying party posts: its entity configuration, a text in JWS
+         compact serialization, or its chain, a JSON list of such texts as
+         check takes it
+output   a line             the registration in JWS compact serialization
+         refused R          why there is none: NoAnchor, the anchor isn't
+                            listed; Form, neither was posted; NoChain, none was
+                            found; NoType, the leaf's metadata has no
+                            openid_relying_party
+         refused <place> R  the first place of the chain that fails, and why, as
+                            check says it
+         input              the configuration or its ring isn't there or isn't
+                            of its form, it lacks the member resolver, or the
+                            input is too long
+status   0 registered, 1 refused, 2 words or input, 3 the input can't be read, 4
+         the output can't be written, 5 memory was wanting, 6 a file can't be
+         read, 7 no chain was found and a fetch failed, 8 a counter is worn, 9
+         no chain was found before a bound of the search
+example  fed register --config resolver.json --anchor https://ta.example \\
+             < rp.jwt
 ";
 
 /// The page of `rehearse`.

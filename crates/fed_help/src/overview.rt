@@ -15,7 +15,8 @@ usage: fed verify PUB < TEXT
        fed check-config --config FILE [--at T]
        fed authority --config FILE --port P --connections N [--stream yes]
        fed resolver --config FILE --port P --connections N
-       fed resolve --config FILE --sub ID --anchor ID
+       fed resolve --config FILE --sub ID --anchor ID [--heed yes]
+       fed register --config FILE --anchor ID < POSTED
        fed rehearse --params N
        fed help COMMAND
        fed --help | --version
@@ -32,6 +33,7 @@ check-config
 authority answers N connections over HTTP as the authority of a configuration
 resolver  answers N connections over HTTP as the resolver of a configuration
 resolve   resolves an entity up to a trust anchor, over HTTP
+register  registers a relying party that posts its configuration or its chain
 rehearse  resolves a leaf with N parameters in a federation in memory, twice
 help      shows a command's words, input, output, statuses, and an example
 

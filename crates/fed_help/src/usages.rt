@@ -27,8 +27,8 @@ pub enum Form {
     Alg,
     /// By how many workers a text is signed.
     Workers,
-    /// Whether a connection may ask more than once.
-    Stream,
+    /// `yes`.
+    Yes,
 }
 
 /// An option.
@@ -41,6 +41,7 @@ pub enum OptionName {
     Config,
     Connections,
     Exp,
+    Heed,
     Keys,
     Kid,
     Params,
@@ -64,6 +65,7 @@ impl OptionName {
             OptionName::Config => b"--config",
             OptionName::Connections => b"--connections",
             OptionName::Exp => b"--exp",
+            OptionName::Heed => b"--heed",
             OptionName::Keys => b"--keys",
             OptionName::Kid => b"--kid",
             OptionName::Params => b"--params",
@@ -89,7 +91,7 @@ impl OptionName {
             OptionName::Kid => b"KID",
             OptionName::Port => b"P",
             OptionName::Reason => b"R",
-            OptionName::Stream => b"yes",
+            OptionName::Heed | OptionName::Stream => b"yes",
             OptionName::Typ => b"TYP",
             OptionName::Workers => b"W",
         }
@@ -108,7 +110,7 @@ impl OptionName {
             OptionName::Params => Form::Params,
             OptionName::Port => Form::Port,
             OptionName::Reason => Form::Reason,
-            OptionName::Stream => Form::Stream,
+            OptionName::Heed | OptionName::Stream => Form::Yes,
             OptionName::Typ => Form::TextType,
             OptionName::Workers => Form::Workers,
         }
@@ -130,7 +132,7 @@ pub struct Usage {
 }
 
 /// All commands but `verify` and `help`, which take one word, and the flags, which stand alone.
-pub const USAGES: [Usage; 13] = [
+pub const USAGES: [Usage; 14] = [
     Usage {
         verb: Verb::Keygen,
         act: "",
@@ -231,8 +233,15 @@ pub const USAGES: [Usage; 13] = [
         verb: Verb::Resolve,
         act: "",
         needed: &[OptionName::Config, OptionName::Sub, OptionName::Anchor],
-        free: &[],
+        free: &[OptionName::Heed],
         input: "",
+    },
+    Usage {
+        verb: Verb::Register,
+        act: "",
+        needed: &[OptionName::Config, OptionName::Anchor],
+        free: &[],
+        input: "POSTED",
     },
     Usage {
         verb: Verb::Rehearse,

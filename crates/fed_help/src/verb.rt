@@ -6,7 +6,7 @@ ghost use Rattle.fed_help.specs.Verbs.{is_called, page_of, verb_of, word_of};
 
 use crate::answer_pages::{CHECK, HELP_PAGE, SHOW, VERIFY};
 use crate::key_pages::{ISSUE, KEYGEN, PUBLIC, ROTATE};
-use crate::node_pages::{AUTHORITY, CHECK_CONFIG, REHEARSE, RESOLVE, RESOLVER};
+use crate::node_pages::{AUTHORITY, CHECK_CONFIG, REGISTER, REHEARSE, RESOLVE, RESOLVER};
 
 /// The first word of a command line, which names a command.
 #[derive(Clone, Copy, PartialEq, Eq, Drop)]
@@ -18,6 +18,7 @@ pub enum Verb {
     Issue,
     Keygen,
     Public,
+    Register,
     Rehearse,
     Resolve,
     Resolver,
@@ -27,7 +28,7 @@ pub enum Verb {
 }
 
 /// All of them, in the order of `fed --help`.
-pub const VERBS: [Verb; 13] = [
+pub const VERBS: [Verb; 14] = [
     Verb::Verify,
     Verb::Keygen,
     Verb::Issue,
@@ -39,6 +40,7 @@ pub const VERBS: [Verb; 13] = [
     Verb::Authority,
     Verb::Resolver,
     Verb::Resolve,
+    Verb::Register,
     Verb::Rehearse,
     Verb::Help,
 ];
@@ -66,6 +68,7 @@ impl Verb {
             Verb::Issue => b"issue",
             Verb::Keygen => b"keygen",
             Verb::Public => b"public",
+            Verb::Register => b"register",
             Verb::Rehearse => b"rehearse",
             Verb::Resolve => b"resolve",
             Verb::Resolver => b"resolver",
@@ -88,6 +91,7 @@ impl Verb {
             Verb::Issue => ISSUE,
             Verb::Keygen => KEYGEN,
             Verb::Public => PUBLIC,
+            Verb::Register => REGISTER,
             Verb::Rehearse => REHEARSE,
             Verb::Resolve => RESOLVE,
             Verb::Resolver => RESOLVER,

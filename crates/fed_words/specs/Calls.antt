@@ -5,6 +5,7 @@ use Rattle.fed_help.specs.declared.verb.Verb.{Verb}
 use Rattle.fed_help.specs.declared.verb.Verb.TheVariants as verb
 use Rattle.fed_words.specs.Commands.{check_of, flag_of, issue_of, keygen_of, rotate_of, verify_of}
 use Rattle.fed_words.specs.Inspections.{config_of, help_of, public_of, show_of}
+use Rattle.fed_words.specs.Registrations.{registration_in}
 use Rattle.fed_words.specs.Rehearsals.{rehearsal_of}
 use Rattle.fed_words.specs.Services.{authority_of, resolve_of, resolver_of}
 use Rattle.fed_words.specs.declared.call.Call.{Call}
@@ -12,6 +13,7 @@ use Rattle.fed_words.specs.declared.call.Call.TheVariants as call
 use Rattle.fed_words.specs.declared.command.Command.{Command}
 use Rattle.fed_words.specs.declared.command.Command.TheVariants.{Faulty}
 use Rattle.fed_words.specs.declared.inspection.Inspection.{Inspection}
+use Rattle.fed_words.specs.declared.registration.Registration.{Registration}
 use Rattle.fed_words.specs.declared.service.Service.{Service}
 use Rattle.fed_words.specs.declared.service.Service.TheVariants.{Rehearse}
 
@@ -26,6 +28,11 @@ shown None = call.Command Faulty
 abbrev pub served : Option Service → Call
 served (Some service) = call.Service service
 served None = call.Command Faulty
+
+-- what is to be registered, or words that aren't of its form
+abbrev pub registered : Option Registration → Call
+registered (Some registration) = call.Registration registration
+registered None = call.Command Faulty
 
 -- the words behind a verb
 unfoldable pub call_by : Verb → List (List ℕ) → Call
@@ -42,6 +49,7 @@ call_by verb.Authority words = served (authority_of words)
 call_by verb.Resolver words = served (resolver_of words)
 call_by verb.Resolve words = served (resolve_of words)
 call_by verb.Rehearse words = served (option_map Rehearse (rehearsal_of words))
+call_by verb.Register words = registered (registration_in words)
 
 -- the words behind the first one, which is a verb, or else a flag
 abbrev pub call_at : Option Verb → List ℕ → List (List ℕ) → Call
@@ -53,7 +61,7 @@ unfoldable pub call_of : List (List ℕ) → Call
 call_of [] = call.Command Faulty
 call_of (word ∷ words) = call_at (verb_of word) word words
 
--- ---- the three kinds of it
+-- ---- the four kinds of it
 
 -- the command; where they ask for something else, that of no words
 abbrev pub command_in : Call → Command
@@ -78,3 +86,11 @@ service_in call = None
 
 abbrev pub service_of : List (List ℕ) → Option Service
 service_of words = service_in (call_of words)
+
+-- whom the input is to register, and up to which trust anchor
+abbrev pub registration_at : Call → Option Registration
+registration_at (call.Registration registration) = Some registration
+registration_at call = None
+
+abbrev pub registration_of : List (List ℕ) → Option Registration
+registration_of words = registration_at (call_of words)

@@ -4,6 +4,7 @@ pub mod Calls
 pub mod Commands
 pub mod Inspections
 pub mod Options
+pub mod Registrations
 pub mod Rehearsals
 pub mod Services
 pub mod TextTypes

@@ -13,9 +13,13 @@ authority_with (Some config) (Some port) None stream = None
 authority_with (Some config) None connections stream = None
 authority_with None port connections stream = None
 
--- a connection may ask more than once: the option's value is `yes`
+-- the option's value is `yes`
+abbrev pub says_yes : List ℕ → List (List ℕ) → Bool
+says_yes name words = option_map_or (λ word. bytes_eq word (codes "yes")) (option_in name words) false
+
+-- a connection may ask more than once
 abbrev pub streams : List (List ℕ) → Bool
-streams words = option_map_or (λ word. bytes_eq word (codes "yes")) (option_in (codes "--stream") words) false
+streams words = says_yes (codes "--stream") words
 
 -- three options with their values: a file, a port (RFC 9293 section 3.1), and how many connections are served; or these three and that a
 -- connection may ask more than once
@@ -43,15 +47,20 @@ abbrev pub identifier_in : List ℕ → List (List ℕ) → Option (List ℕ)
 identifier_in name words = option_and_then identifier_of (option_in name words)
 
 -- the call, where the file and both entities are there
-abbrev pub resolve_with : Option (List ℕ) → Option (List ℕ) → Option (List ℕ) → Option Service
-resolve_with (Some config) (Some sub) (Some anchor) = Some (Resolve config sub anchor)
-resolve_with (Some config) (Some sub) None = None
-resolve_with (Some config) None anchor = None
-resolve_with None sub anchor = None
+abbrev pub resolve_with : Option (List ℕ) → Option (List ℕ) → Option (List ℕ) → Bool → Option Service
+resolve_with (Some config) (Some sub) (Some anchor) heed = Some (Resolve config sub anchor heed)
+resolve_with (Some config) (Some sub) None heed = None
+resolve_with (Some config) None anchor heed = None
+resolve_with None sub anchor heed = None
 
--- three options with their values: a file, the entity that is asked for, and a trust anchor
+-- the issuers of the reply's marks are asked about them
+abbrev pub heeds : List (List ℕ) → Bool
+heeds words = says_yes (codes "--heed") words
+
+-- three options with their values: a file, the entity that is asked for, and a trust anchor; or these three and that the issuers of the
+-- reply's marks are asked about them (OpenID Federation 1.0 section 8.4)
 unfoldable pub resolve_of : List (List ℕ) → Option Service
 resolve_of words =
-    if length words == 6
-    then resolve_with (option_in (codes "--config") words) (identifier_in (codes "--sub") words) (identifier_in (codes "--anchor") words)
+    if length words == 6 || (length words == 8 && heeds words)
+    then resolve_with (option_in (codes "--config") words) (identifier_in (codes "--sub") words) (identifier_in (codes "--anchor") words) (heeds words)
     else None

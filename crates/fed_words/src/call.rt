@@ -1,12 +1,13 @@
 // What the words of a command line ask for.
 
 ghost use Rattle.std.specs.Prelude.{◌≡◌, IfOk};
-ghost use Rattle.fed_words.specs.Calls.{call_by, call_of, served, shown};
+ghost use Rattle.fed_words.specs.Calls.{call_by, call_of, registered, served, shown};
 
 use crate::command::{
     Command, read_check, read_flag, read_issue, read_keygen, read_rotate, read_verify,
 };
 use crate::inspection::{Inspection, read_config, read_help, read_public, read_show};
+use crate::registration::{Registration, read_registration};
 use crate::service::{Service, read_authority, read_rehearsal, read_resolve, read_resolver};
 use fed_base::{Memory, Text};
 use fed_help::Verb;
@@ -21,6 +22,8 @@ pub enum Call {
     Inspection(Inspection),
     /// Something over a network, or over one in memory.
     Service(Service),
+    /// To register what the input has, over a network where its chain is to be found.
+    Registration(Registration),
 }
 
 /// What the words after the program's name ask for.
@@ -56,6 +59,7 @@ fn read_behind(alloc: Global, verb: Verb, rest: &[Text]) -> Result<Call, Memory>
         Verb::Resolver => Ok(served(read_resolver(alloc, rest)?)),
         Verb::Resolve => Ok(served(read_resolve(alloc, rest)?)),
         Verb::Rehearse => Ok(served(read_rehearsal(rest))),
+        Verb::Register => Ok(registered(read_registration(alloc, rest)?)),
     }
 }
 
@@ -73,6 +77,15 @@ fn served(service: Option<Service>) -> Call
 {
     match service {
         Some(service) => Call::Service(service),
+        None => Call::Command(Command::Faulty),
+    }
+}
+
+fn registered(registration: Option<Registration>) -> Call
+    ensures { result ≡ registered registration }
+{
+    match registration {
+        Some(registration) => Call::Registration(registration),
         None => Call::Command(Command::Faulty),
     }
 }

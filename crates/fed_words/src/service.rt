@@ -2,7 +2,7 @@
 
 ghost use Rattle.std.specs.Prelude.{◌≡◌, IfOk, Some, codes, option_map};
 ghost use Rattle.fed_words.specs.Rehearsals.{rehearsal_of};
-ghost use Rattle.fed_words.specs.Services.{authority_of, identifier_in, resolve_of, resolve_with, resolver_of, streams};
+ghost use Rattle.fed_words.specs.Services.{authority_of, identifier_in, resolve_of, resolve_with, resolver_of, says_yes};
 ghost use Rattle.fed_words.specs.declared.service.Service.TheVariants.{Rehearse, Resolve};
 
 use crate::options::{count_in, option_in};
@@ -40,11 +40,14 @@ pub enum Service {
         /// 1 to 1,000,000.
         connections: u64,
     },
-    /// `resolve --config FILE --sub ID --anchor ID`: resolve an entity up to a trust anchor, as the resolver of a configuration file.
+    /// `resolve --config FILE --sub ID --anchor ID [--heed yes]`: resolve an entity up to a trust anchor, as the resolver of a
+    /// configuration file.
     Resolve {
         config_file: Text,
         sub: EntityId,
         anchor: EntityId,
+        /// The issuers of the reply's trust marks are asked about them (OpenID Federation 1.0 section 8.4).
+        heed: bool,
     },
     /// `rehearse --params N`: resolve the leaf of a federation in memory, whose metadata has so many parameters.
     Rehearse {
@@ -66,7 +69,7 @@ pub(crate) fn read_rehearsal(rest: &[Text]) -> Option<Service>
 pub(crate) fn read_authority(alloc: Global, rest: &[Text]) -> Result<Option<Service>, Memory>
     ensures service { IfOk result (λ service. service ≡ authority_of rest.now) }
 {
-    let stream = streams(rest);
+    let stream = says_yes(rest, b"--stream");
     if rest.len() != 6 && (rest.len() != 8 || !stream) {
         return Ok(None);
     }
@@ -85,11 +88,11 @@ pub(crate) fn read_authority(alloc: Global, rest: &[Text]) -> Result<Option<Serv
     }
 }
 
-// Whether a connection may ask more than once: the value of `--stream` is `yes`.
-fn streams(rest: &[Text]) -> bool
-    ensures { result ≡ streams rest.now }
+// Whether the value of an option is `yes`.
+fn says_yes(rest: &[Text], name: &[u8]) -> bool
+    ensures { result ≡ says_yes name.now rest.now }
 {
-    match option_in(rest, b"--stream") {
+    match option_in(rest, name) {
         Some(word) => word.as_slice() == b"yes".as_slice(),
         None => false,
     }
@@ -120,9 +123,13 @@ pub(crate) fn read_resolver(alloc: Global, rest: &[Text]) -> Result<Option<Servi
 pub(crate) fn read_resolve(alloc: Global, rest: &[Text]) -> Result<Option<Service>, Memory>
     ensures { IfOk result (λ service. service ≡ resolve_of rest.now) }
 {
+    let heed = says_yes(rest, b"--heed");
+    if rest.len() != 6 && (rest.len() != 8 || !heed) {
+        return Ok(None);
+    }
     match option_in(rest, b"--config") {
-        Some(config_file) if rest.len() == 6 => read_entities(alloc, config_file, rest),
-        _ => Ok(None),
+        Some(config_file) => read_entities(alloc, config_file, rest, heed),
+        None => Ok(None),
     }
 }
 
@@ -131,11 +138,12 @@ fn read_entities(
     alloc: Global,
     config_file: &Text,
     rest: &[Text],
+    heed: bool,
 ) -> Result<Option<Service>, Memory>
-    ensures { IfOk result (λ service. service ≡ resolve_with (Some config_file.now) (identifier_in (codes "--sub") rest.now) (identifier_in (codes "--anchor") rest.now)) }
+    ensures { IfOk result (λ service. service ≡ resolve_with (Some config_file.now) (identifier_in (codes "--sub") rest.now) (identifier_in (codes "--anchor") rest.now) heed) }
 {
     match identifier_in(alloc, rest, b"--sub")? {
-        Some(sub) => read_anchor(alloc, config_file, sub, rest),
+        Some(sub) => read_anchor(alloc, config_file, sub, rest, heed),
         None => Ok(None),
     }
 }
@@ -146,11 +154,12 @@ fn read_anchor(
     config_file: &Text,
     sub: EntityId,
     rest: &[Text],
+    heed: bool,
 ) -> Result<Option<Service>, Memory>
-    ensures { IfOk result (λ service. service ≡ resolve_with (Some config_file.now) (Some sub) (identifier_in (codes "--anchor") rest.now)) }
+    ensures { IfOk result (λ service. service ≡ resolve_with (Some config_file.now) (Some sub) (identifier_in (codes "--anchor") rest.now) heed) }
 {
     match identifier_in(alloc, rest, b"--anchor") {
-        Ok(Some(anchor)) => resolve_call(alloc, config_file, sub, anchor),
+        Ok(Some(anchor)) => resolve_call(alloc, config_file, sub, anchor, heed),
         Ok(None) => {
             drop(sub);
             Ok(None)
@@ -167,14 +176,16 @@ fn resolve_call(
     config_file: &Text,
     sub: EntityId,
     anchor: EntityId,
+    heed: bool,
 ) -> Result<Option<Service>, Memory>
-    ensures { IfOk result (λ service. service ≡ Some (Resolve config_file.now sub anchor)) }
+    ensures { IfOk result (λ service. service ≡ Some (Resolve config_file.now sub anchor heed)) }
 {
     match config_file.copy(alloc) {
         Ok(config_file) => Ok(Some(Service::Resolve {
             config_file,
             sub,
             anchor,
+            heed,
         })),
         Err(memory) => {
             drop(sub);

@@ -4,6 +4,7 @@ use Rattle.std.proofs.Math.Seq.{take-add}
 use Rattle.fed_ports.specs.Exchanges.{Exchange, Changed, change_last, fresh, with_failure, with_sent, with_received}
 use Rattle.fed_ports.specs.Lists.{Added}
 use Rattle.fed_ports.specs.declared.address.Address.{Address}
+use Rattle.fed_ports.specs.declared.link.LinkFault.{LinkFault}
 use Rattle.fed_ports.specs.declared.page.Page.{Page}
 use Rattle.url.specs.Parts.{Parts}
 use Rattle.http_messages.specs.declared.inflow.Break.{Break}
@@ -11,7 +12,7 @@ use Rattle.http_plain.specs.declared.route.Route.{Route}
 use Rattle.http_messages.specs.Asked.{AsksPart, SentPart, asked_of, asking}
 use Rattle.http_plain.specs.ExchangeLaws.{changed_same, changed_on}
 use Rattle.http_messages.specs.Flows.{BreakCause}
-use Rattle.http_plain.specs.Links.{AddsExchange, Answers, GetsBy, LeavesBy}
+use Rattle.http_plain.specs.Links.{AddsExchange, Answers, AnswersBy, GetsBy, LeavesBy}
 use Rattle.http_plain.specs.Plans.{SaysTarget}
 use Rattle.http_plain.specs.Shown.{Shows}
 
@@ -156,3 +157,9 @@ pub leaves : (message_for : Parts → List ℕ) (routes given : List Route) (tex
 leaves message_for routes given text words old new url to message all same said is h =
     let says = subst (λ r. SaysTarget r text url to) all (subst (λ t. SaysTarget given t url to) same said) in
     inr (record { url = url; to = to; reads = says.reads; address = says.address; asks = subst (AsksPart old new to) is h })
+
+-- what a call answered, page or fault
+pub answers_by : (message_for : Parts → List ℕ) (routes : List Route) (text : List ℕ) (old new : Option (List Exchange)) (result : Result Page LinkFault)
+    → IfOk result (GetsBy message_for routes text old new) → OnErr result (LeavesBy message_for routes text old new) → AnswersBy message_for routes text old new result
+answers_by message_for routes text old new (Ok p) got left = got
+answers_by message_for routes text old new (Err fault) got left = left

@@ -10,6 +10,8 @@ mod laws;
 mod link;
 mod networks;
 mod page;
+mod poster;
+mod posting;
 mod route;
 mod target;
 
@@ -19,4 +21,5 @@ pub use http_messages::{
 };
 pub use laws::{one_client_page, one_page};
 pub use link::HttpLink;
+pub use poster::Poster;
 pub use route::Route;

@@ -3,12 +3,15 @@
 ghost use Rattle.std.specs.Prelude.{◌≡◌, ◌⊎◌, None, IfOk, OnErr};
 ghost use Rattle.fed_base.specs.Counts.{next_count};
 ghost use Rattle.fed_ports.specs.Webs.{HasLinkCause, Serves};
-ghost use Rattle.http_plain.specs.Links.{GotOrLeft, Gets, Leaves, LeavesPost, Posts, link_calls, link_network, link_routes, listening};
+ghost use Rattle.http_plain.specs.Clients.{post_of};
+ghost use Rattle.http_plain.specs.Links.{AnswersBy, GotOrLeft, Gets, Leaves, LeavesPost, Posts, link_calls, link_network, link_routes, listening};
 
 use crate::exchange::exchange;
 use crate::networks::Connection;
+use crate::poster::Poster;
+use crate::posting::post_form;
 use crate::route::Route;
-use crate::target::{get_message, post_message, target_of};
+use crate::target::{get_message, target_of};
 use fed_ports::{Link, LinkFault, Network, Page, Seq, Text};
 use http_messages::Break;
 use std::alloc::Global;
@@ -53,16 +56,7 @@ impl<N: Network> HttpLink<N> {
         // No connection is open afterwards, or the network is as it was.
         ensures shut { (N.is_open (link_network self.new) → ⊥) ⊎ (link_network self.new ≡ link_network self.old) }
     {
-        let target = target_of(alloc, self.routes.as_slice(), url.as_slice())?;
-        let Some(target) = target else {
-            return Ok(Page::NoRoute);
-        };
-        let message = post_message(alloc, &target.url, body.as_slice())?;
-        match exchange::<N, Connection>(alloc, &mut self.net, &target.to, &message) {
-            Ok(page) => Ok(page),
-            Err(Break::Failed) => Err(LinkFault::Failed),
-            Err(Break::Memory) => Err(LinkFault::Memory),
-        }
+        post_form::<N, Connection>(alloc, &mut self.net, &self.routes, url, body)
     }
 
     /// The network that the link holds.
@@ -112,5 +106,19 @@ impl<N: Network> Link for HttpLink<N> {
             Err(Break::Failed) => Err(LinkFault::Failed),
             Err(Break::Memory) => Err(LinkFault::Memory),
         }
+    }
+}
+
+impl<N: Network> Poster for HttpLink<N> {
+    ghost post_faults = { λ link. N.faults link.net };
+
+    // The routes stay, what was answered is by the one exchange of the call, at most, and the network listens as before.
+    ghost posted = { λ old new url form result. (link_routes new ≡ link_routes old)
+        × AnswersBy (post_of form) (link_routes old) url (N.exchanges (link_network old)) (N.exchanges (link_network new)) result
+        × (listening (N.port (link_network new)) (N.callers (link_network new)) (N.settled (link_network new))
+        ≡ listening (N.port (link_network old)) (N.callers (link_network old)) (N.settled (link_network old))) };
+
+    fn post(&mut self, alloc: Global, url: &Text, form: &Text) -> Result<Page, LinkFault> {
+        post_form::<N, Connection>(alloc, &mut self.net, &self.routes, url, form)
     }
 }

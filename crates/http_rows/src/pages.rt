@@ -4,7 +4,7 @@ use crate::words::{add_number, bytes, counted, cut, number, show};
 use fed_base::{Memory, Seq, Text};
 use fed_net::MemoryNetwork;
 use fed_ports::{Address, Link, LinkFault, Page};
-use http_plain::{HttpLink, Route};
+use http_plain::{HttpLink, Poster, Route};
 use std::alloc::Global;
 
 fn route_to(alloc: Global, host: &str) -> Result<Seq<Route>, Memory> {

@@ -1,5 +1,4 @@
 mod BatchLaws
-mod CallLaws
 mod ConfigLaws
 mod DeskLaws
 mod EndLaws
@@ -15,3 +14,4 @@ mod PlaceLaws
 mod RoundLaws
 mod StopLaws
 mod WebLaws
+pub mod CallLaws

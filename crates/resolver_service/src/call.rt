@@ -3,8 +3,11 @@
 ghost use Rattle.std.specs.Prelude.{◌≡◌, IfOk, List, None};
 ghost use Rattle.turn_log.specs.Groups.{known};
 ghost use Rattle.statement_shelf.specs.declared.calls.AnchorKeys.{AnchorKeys};
+ghost use Rattle.resolve_reply.specs.Replies.{SaysReply};
 ghost use Rattle.resolve_round.specs.Traces.{asks_in};
 ghost use Rattle.fed_resolver.specs.Calls.{GaveAll, WornOnly};
+ghost use Rattle.fed_resolver.specs.Outcomes.{HasChainEnd, HasConfigs};
+ghost use Rattle.fed_resolver.specs.Told.{situation_of};
 ghost use Rattle.node_files.specs.Moments.{node_seen};
 ghost use Rattle.node_files.specs.declared.parts.Parts.{Parts};
 ghost use Rattle.resolver_service.specs.Calls.{HoldsWorn, ResolvesOnce, WornBy, is_worn};
@@ -124,6 +127,11 @@ pub fn resolve_at<R: Wait + Threads + Sync, N: Network + Drop>(
     ensures worn { HoldsWorn result.result worn.new }
     // The network listens as before, and nobody was accepted or settled.
     ensures still { listening_seen N.Network net.new ≡ listening_seen N.Network net.old }
+    // The claims of a reply can be sealed anew, with another end and other marks. Beside it stand the end of its chain, and for each of its
+    // marks the configuration that the mark was judged by.
+    ensures says { IfOk result.result (λ reply. SaysReply reply.claims) }
+    ensures chain_exp { IfOk result.result (HasChainEnd (situation_of request.now call.signer moment) call.signer result.trace) }
+    ensures configs { IfOk result.result (HasConfigs (situation_of request.now call.signer moment) call.signer result.trace) }
 {
     let OpenCall {
         commons,
@@ -177,6 +185,9 @@ fn call_over<R: Wait + Threads + Sync, N: Network + Drop>(
     ensures exchanges { ExchangedBy routes (asks_in result.trace.searches) (N.exchanges net.old) (N.exchanges net.new) result.result }
     ensures fails { FailsBy result (N.faults net.old) (N.faults net.new) }
     ensures still { listening_seen N.Network net.new ≡ listening_seen N.Network net.old }
+    ensures says { IfOk result.result (λ reply. SaysReply reply.claims) }
+    ensures chain_exp { IfOk result.result (HasChainEnd (situation_of asked.now.request.now asked.now.signer.now asked.now.moment) asked.now.signer.now result.trace) }
+    ensures configs { IfOk result.result (HasConfigs (situation_of asked.now.request.now asked.now.signer.now asked.now.moment) asked.now.signer.now result.trace) }
 {
     let network = replace(net, another);
     let mut link = HttpLink::new(network, routes);
@@ -197,6 +208,9 @@ fn call_alone<R: Wait + Threads + Sync, L: Link>(
     ensures worn { WornOnly (known pass.new) result.result }
     ensures walked { GaveAll L.gave link.old link.new result.trace result.result }
     ensures fails { FailsBy result (L.link_faults link.old) (L.link_faults link.new) }
+    ensures says { IfOk result.result (λ reply. SaysReply reply.claims) }
+    ensures chain_exp { IfOk result.result (HasChainEnd (situation_of asked.now.request.now asked.now.signer.now asked.now.moment) asked.now.signer.now result.trace) }
+    ensures configs { IfOk result.result (HasConfigs (situation_of asked.now.request.now asked.now.signer.now asked.now.moment) asked.now.signer.now result.trace) }
 {
     let mut steps = Steps {
         ledger: Plain::new(),

@@ -1,10 +1,15 @@
 -- What a signed text is, by its form, its type and its claims, or the first reason why it isn't. No signature is looked at.
 use Rattle.std.specs.Prelude.{ℕ, List, [], ◌∷◌, ◌++◌, length, codes, bytes_eq, nat_lt, true, false, Option, Some, None, Result, Ok, Err, if◌then◌else◌}
+use Rattle.std.specs.Option.{option_and_then}
 use Rattle.jws_form.specs.declared.compact.Compact.{Compact}
 use Rattle.jws_form.specs.declared.fault.FormFault.{FormFault}
 use Rattle.jws_form.specs.declared.fault.FormFault.TheVariants.{TooLong}
 use Rattle.jws_form.specs.Compact.{max_bytes}
 use Rattle.jws_form.specs.Splitting.{long_splitting, splitting}
+use Rattle.entity_id.specs.Identifiers.{identifier_of}
+use Rattle.fed_json.specs.declared.tree.Json.{Json}
+use Rattle.fed_json.specs.Reading.{tree_in}
+use Rattle.fed_json.specs.Trees.{object_members, text_at}
 use Rattle.entity_statement.specs.Claims.{Claims, Identifier}
 use Rattle.entity_statement.specs.Table.{claims_of, statement_type}
 use Rattle.entity_statement.specs.declared.fault.StatementFault.{StatementFault}
@@ -62,9 +67,30 @@ abbrev pub other_found : Option (List ℕ) → View
 other_found (Some typ) = good (codes "signed text of type " ++ string typ)
 other_found None = good (codes "signed text without a type")
 
--- the type of a resolver's reply (section 8.3.2)
+-- a registration of a relying party: whom it registers, and who does (section 12.2.3)
+abbrev pub registration_words : Identifier → Identifier → List ℕ
+registration_words sub iss = codes "registration of " ++ (sub ++ (codes " by " ++ iss))
+
+-- the entity identifier that a claim is (section 1.2)
+abbrev pub identifier_at : List ℕ → Json → Option Identifier
+identifier_at name tree = option_and_then identifier_of (text_at name (object_members tree))
+
+-- one that doesn't name both is a text of its type, and no more is known of it
+abbrev pub registration_by : Option (List ℕ) → Option Identifier → Option Identifier → View
+registration_by typ (Some sub) (Some iss) = good (registration_words sub iss)
+registration_by typ (Some sub) None = other_found typ
+registration_by typ None iss = other_found typ
+
+abbrev pub registration_found : Option (List ℕ) → Option Json → View
+registration_found typ (Some tree) = registration_by typ (identifier_at (codes "sub") tree) (identifier_at (codes "iss") tree)
+registration_found typ None = other_found typ
+
+-- the type of a resolver's reply (section 8.3.2), and that of a registration (section 12.2.3)
 abbrev pub reply_type_name : List ℕ
 reply_type_name = codes "resolve-response+jwt"
+
+abbrev pub registration_type_name : List ℕ
+registration_type_name = codes "explicit-registration-response+jwt"
 
 -- a text that is none of these has too many bytes
 abbrev pub too_long : View
@@ -77,15 +103,19 @@ compact_found c =
     else (if has_type mark_type_name c.typ then mark_found (mark_claims c)
     else (if has_type delegation_type_name c.typ then delegation_found (delegation_claims c)
     else (if has_type status_type_name c.typ then status_found (status_claims c)
-    else other_found c.typ)))
+    else (if has_type registration_type_name c.typ then registration_found c.typ (tree_in c.payload)
+    else other_found c.typ))))
 
 abbrev pub split_found : Result Compact FormFault → View
 split_found (Ok c) = compact_found c
 split_found (Err fault) = refused (form_reason fault)
 
--- a text that is longer than statements and marks may be is shown as a resolver's reply, which holds the texts of a chain (section 8.3.2)
+-- a text that is longer than statements and marks may be is shown as a resolver's reply or a registration, which hold the texts of a chain
+-- (sections 8.3.2 and 12.2.3)
 abbrev pub long_found : Result Compact FormFault → View
-long_found (Ok c) = if has_type reply_type_name c.typ then other_found c.typ else too_long
+long_found (Ok c) =
+    if has_type reply_type_name c.typ then other_found c.typ
+    else (if has_type registration_type_name c.typ then registration_found c.typ (tree_in c.payload) else too_long)
 long_found (Err fault) = too_long
 
 -- any text

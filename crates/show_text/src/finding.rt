@@ -1,18 +1,21 @@
 // What a signed text is.
 
-ghost use Rattle.std.specs.Prelude.{◌≡◌, ◌≢◌, IfOk, Ok};
+ghost use Rattle.std.specs.Prelude.{◌≡◌, ◌≢◌, IfOk, Ok, Some};
+ghost use Rattle.fed_json.specs.Reading.{tree_in};
 ghost use Rattle.jws_form.specs.Splitting.{long_splitting};
 ghost use Rattle.entity_statement.specs.Table.{claims_of};
 ghost use Rattle.trust_mark.specs.Claims.{delegation_claims, has_type, mark_claims, status_claims};
 ghost use Rattle.trust_mark.specs.declared.fault.MarkFault.TheVariants.{Memory as WantOfMemory};
 ghost use Rattle.show_text.specs.Faults.{mark_reason};
-ghost use Rattle.show_text.specs.Findings.{about, compact_found, delegation_found, delegation_words, long_found, mark_found, mark_words, other_found, refused, statement_found, status_found, status_words, text_found, too_long};
+ghost use Rattle.show_text.specs.Findings.{about, compact_found, delegation_found, delegation_words, identifier_at, long_found, mark_found, mark_words, other_found, refused, registration_found, registration_words, statement_found, status_found, status_words, text_found, too_long};
 
 use crate::faults::{form_reason, mark_reason, statement_reason};
 use crate::lines::{append_plain, append_quoted, good, refused};
 use crate::view::View;
+use entity_id::EntityId;
 use entity_statement::{STATEMENT_TYPE, Statement, StatementFault};
 use fed_base::{Memory, Text};
+use fed_json::{Json, TreeFault, object_members, read_tree, text_at};
 use jws_form::{Compact, FormFault, split, split_long};
 use std::alloc::Global;
 use trust_mark::{
@@ -24,6 +27,9 @@ const MAX_BYTES: usize = 262_144;
 
 // The type of a resolver's reply (OpenID Federation 1.0 section 8.3.2).
 const REPLY_TYPE: &[u8] = b"resolve-response+jwt";
+
+// The type of a registration (OpenID Federation 1.0 section 12.2.3).
+const REGISTRATION_TYPE: &[u8] = b"explicit-registration-response+jwt";
 
 /// What the text is, or the first reason why it isn't.
 #[tactic(auto, unfolding(crate::specs::Findings::text_found))]
@@ -68,6 +74,8 @@ fn reply_found(alloc: Global, compact: &Compact) -> Result<View, Memory>
 {
     if has_type(compact, REPLY_TYPE) {
         other_found(alloc, compact)
+    } else if has_type(compact, REGISTRATION_TYPE) {
+        registration_found(alloc, compact)
     } else {
         too_long(alloc)
     }
@@ -93,6 +101,8 @@ fn compact_found(alloc: Global, compact: &Compact) -> Result<View, Memory>
         delegation_found(alloc, compact)
     } else if has_type(compact, STATUS_TYPE) {
         status_found(alloc, compact)
+    } else if has_type(compact, REGISTRATION_TYPE) {
+        registration_found(alloc, compact)
     } else {
         other_found(alloc, compact)
     }
@@ -209,6 +219,50 @@ fn status_words(alloc: Global, answer: &StatusAnswer) -> Result<Text, Memory>
     let mut words = Text::new(alloc);
     append_plain(&mut words, b"trust mark ", answer.status.word())?;
     append_plain(&mut words, b" by ", answer.iss.text())?;
+    Ok(words)
+}
+
+fn registration_found(alloc: Global, compact: &Compact) -> Result<View, Memory>
+    ensures { IfOk result (λ view. view ≡ registration_found compact.now.typ (tree_in compact.now.payload)) }
+{
+    match read_tree(alloc, compact.payload.as_slice()) {
+        Ok(tree) => {
+            let found = registration_in(alloc, compact, &tree);
+            drop(tree);
+            found
+        }
+        Err(TreeFault::Syntax) => other_found(alloc, compact),
+        Err(TreeFault::Memory) => Err(Memory),
+    }
+}
+
+// Whom the claims register, and who does.
+fn registration_in(alloc: Global, compact: &Compact, claims: &Json) -> Result<View, Memory>
+    ensures { IfOk result (λ view. view ≡ registration_found compact.now.typ (Some claims.now)) }
+{
+    let sub = identifier_at(alloc, claims, b"sub")?;
+    let iss = identifier_at(alloc, claims, b"iss")?;
+    match (sub, iss) {
+        (Some(sub), Some(iss)) => good(registration_words(alloc, &sub, &iss)?),
+        _ => other_found(alloc, compact),
+    }
+}
+
+fn identifier_at(alloc: Global, claims: &Json, name: &[u8]) -> Result<Option<EntityId>, Memory>
+    ensures { IfOk result (λ id. id ≡ identifier_at name.now claims.now) }
+{
+    match text_at(object_members(claims), name) {
+        Some(text) => EntityId::of(alloc, text.as_slice()),
+        None => Ok(None),
+    }
+}
+
+fn registration_words(alloc: Global, sub: &EntityId, iss: &EntityId) -> Result<Text, Memory>
+    ensures { IfOk result (λ words. words ≡ registration_words sub.now iss.now) }
+{
+    let mut words = Text::new(alloc);
+    append_plain(&mut words, b"registration of ", sub.text())?;
+    append_plain(&mut words, b" by ", iss.text())?;
     Ok(words)
 }
 

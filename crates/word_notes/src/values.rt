@@ -60,7 +60,7 @@ fn taken_in_place_of(alloc: Global, name: OptionName, value: &[u8]) -> &'static 
             RevokeReason::of_word(value).is_some(),
             b"unspecified, compromised or superseded",
         ),
-        Form::Stream => unless(value == b"yes".as_slice(), b"yes"),
+        Form::Yes => unless(value == b"yes".as_slice(), b"yes"),
     }
 }
 

@@ -22,6 +22,7 @@ fn wanted_after(alloc: Global, words: &[Text]) -> &'static [u8] {
     match read_call(alloc, words) {
         Ok(Call::Command(command)) => wanted_by(&command),
         Ok(Call::Inspection(Inspection::Show)) => b"a signed text, a chain or a key set",
+        Ok(Call::Registration(_)) => b"an entity configuration or a chain",
         Ok(Call::Inspection(_) | Call::Service(_)) | Err(_) => b"",
     }
 }

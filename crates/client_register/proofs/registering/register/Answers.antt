@@ -8,7 +8,7 @@ use Rattle.client_register.specs.Registrations.{registrar, request}
 use Rattle.client_register.specs.Requests.{posted_in}
 use Rattle.client_register.specs.declared.registration.Registration.{Registration}
 use Rattle.client_register.proofs.RequestLaws.{posted-is}
-use Rattle.client_register.proofs.StageLaws.{asks-any, asks-same, chain-counts, chain-refused, failure-counts, failure-refused, memory-counts, memory-refused, registered-counts, registered-told, type-counts, type-refused}
+use Rattle.client_register.proofs.StageLaws.{asks-any, asks-same, chain-counts, chain-refused, chain-told, failure-counts, failure-refused, memory-counts, memory-refused, registered-counts, registered-told, type-counts, type-refused, type-told}
 use Rattle.client_register.proofs.registering.register.Goals as goal
 
 pub returns-in_err-chain-clause-posted : goal.returns-in_err-chain-clause-posted
@@ -49,6 +49,31 @@ pub returns-in_err-chain-clause-counted : goal.returns-in_err-chain-clause-count
 returns-in_err-chain-clause-counted g c =
     let p = err_from_is_err_and c.from_residual.result c.from_residual.ensures.1 in
     rw (p.1, p.2) (chain-counts (request (registrar c.args.iss.now c.args.keys.now c.args.anchor.now c.args.anchor_keys.now.keys c.args.lifetime c.args.t) c.args.posted.now (g.F.Finder.seen c.chain_for.new.finder).last) c.in_err-chain.field-0.0 _ _ (c.in_err-chain.ensures.chain (registrar c.args.iss.now c.args.keys.now c.args.anchor.now c.args.anchor_keys.now.keys c.args.lifetime c.args.t)) refl)
+
+pub returns-in_err-chain-clause-told : goal.returns-in_err-chain-clause-told
+returns-in_err-chain-clause-told g c =
+    let p = err_from_is_err_and c.from_residual.result c.from_residual.ensures.1 in
+    rw (p.1, p.2) (chain-told (request (registrar c.args.iss.now c.args.keys.now c.args.anchor.now c.args.anchor_keys.now.keys c.args.lifetime c.args.t) c.args.posted.now (g.F.Finder.seen c.chain_for.new.finder).last) c.in_err-chain.field-0.0 (c.in_err-chain.ensures.chain (registrar c.args.iss.now c.args.keys.now c.args.anchor.now c.args.anchor_keys.now.keys c.args.lifetime c.args.t)))
+
+pub returns-in_err-resolved-clause-told : goal.returns-in_err-resolved-clause-told
+returns-in_err-resolved-clause-told g c =
+    let p = err_from_is_err_and c.from_residual-in_err-resolved.result c.from_residual-in_err-resolved.ensures.1 in
+    rw (p.1, p.2) c.in_err-resolved.ensures.told
+
+pub returns-in_err-registration-clause-told : goal.returns-in_err-registration-clause-told
+returns-in_err-registration-clause-told g c =
+    let p = err_from_is_err_and c.from_residual-in_err-registration.result c.from_residual-in_err-registration.ensures.1 in
+    rw (p.1, p.2) (type-told c.in_ok-chain.chain c.in_ok-resolved.resolved c.args.lifetime c.args.t c.in_err-registration.field-0.0 c.in_err-registration.ensures.takes)
+
+pub returns-in_err-claims-clause-told : goal.returns-in_err-claims-clause-told
+returns-in_err-claims-clause-told g c =
+    let p = err_from_is_err_and c.from_residual-in_err-claims.result c.from_residual-in_err-claims.ensures.1 in
+    rw (p.1, p.2) tt
+
+pub returns-in_err-seal_registration-clause-told : goal.returns-in_err-seal_registration-clause-told
+returns-in_err-seal_registration-clause-told g c =
+    let p = err_from_is_err_and c.from_residual-in_err-seal_registration.result c.from_residual-in_err-seal_registration.ensures.1 in
+    rw (p.1, p.2) tt
 
 pub returns-in_err-resolved-clause-registers : goal.returns-in_err-resolved-clause-registers
 returns-in_err-resolved-clause-registers g c =

@@ -14,7 +14,7 @@ returns-in-Authority-clause-worn g c = holds-none _ _ c.requires.worn (authority
 
 pub returns-in-Resolve-clause-runs : goal.returns-in-Resolve-clause-runs
 returns-in-Resolve-clause-runs g c =
-    resolves_service _ c.args.service _ _ _ _ c.in-Resolve.config_file c.in-Resolve.sub c.in-Resolve.anchor _ (search rules) c.new-types.ensures c.resolve-status.ensures.runs c.requires.joined
+    resolves_service _ c.args.service _ _ _ _ c.in-Resolve.config_file c.in-Resolve.sub c.in-Resolve.anchor c.in-Resolve.heed _ (search rules) c.new-types.ensures c.resolve_as-status.ensures.runs c.requires.joined
 
 pub returns-in-Resolver-clause-runs : goal.returns-in-Resolver-clause-runs
 returns-in-Resolver-clause-runs g c = runs_resolver _ c.args.service _ _ _ _ _ _ _ (search rules) c.serve_as_resolver-status.ensures.runs

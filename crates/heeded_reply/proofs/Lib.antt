@@ -1,0 +1,5 @@
+mod CallLaws
+mod ClaimLaws
+mod HeedLaws
+mod LineLaws
+mod PostLaws

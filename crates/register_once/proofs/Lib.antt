@@ -1,0 +1,4 @@
+mod AnchorKeyLaws
+mod FinderLaws
+mod OutcomeLaws
+mod StopLaws

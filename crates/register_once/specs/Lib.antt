@@ -1,0 +1,4 @@
+pub mod Finding
+pub mod Opened
+pub mod Registering
+pub mod Stops
