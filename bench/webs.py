@@ -4,9 +4,11 @@ import http.server
 import json
 import os
 import re
+import resource
 import subprocess
 import threading
 import time
+import typing
 
 TOP = os.path.dirname(os.path.dirname(os.path.abspath(__file__)))
 LEAF, ANCHOR = "https://rp.example", "https://ta.example"
@@ -28,17 +30,26 @@ class Texts:
         os.chmod(f"{place}/ring", 0o600)
         self.key = json.loads(done.stdout)
 
-    def of(self, issuer, subject, hints=()):
-        claims = {"iss": issuer, "sub": subject, "iat": self.now - 10, "exp": self.now + 86400, "jwks": {"keys": [self.key]}}
+    def of(self, issuer, subject, hints=(), **more):
+        """A statement, with claims that stand beside the others or in their place."""
+        claims = {"jwks": {"keys": [self.key]}}
         if issuer == subject:
             claims["metadata"] = {"federation_entity": {"federation_fetch_endpoint": f"{issuer}/fetch"}}
             if hints:
                 claims["authority_hints"] = list(hints)
-        given = json.dumps(claims)
-        if given not in self.made:
-            words = [self.fed, "issue", "--ring", f"{self.place}/ring", "--typ", "entity-statement+jwt"]
-            self.made[given] = subprocess.run(words, input=given.encode(), capture_output=True, check=True).stdout.strip()
-        return self.made[given]
+        return self.sealed("entity-statement+jwt", issuer, subject, **{**claims, **more})
+
+    def sealed(self, typ, issuer, subject, **more):
+        claims = {"iss": issuer, "sub": subject, "iat": self.now - 10, "exp": self.now + 86400, **more}
+        given = json.dumps(claims).encode()
+        if (typ, given) not in self.made:
+            done = subprocess.run(self.issuing(typ), input=given, capture_output=True, check=True)
+            self.made[typ, given] = done.stdout.strip()
+        return self.made[typ, given]
+
+    def issuing(self, typ):
+        """The command that seals what is given to it as a text of this type."""
+        return [self.fed, "issue", "--ring", f"{self.place}/ring", "--typ", typ]
 
 
 def page_of(entity):
@@ -49,11 +60,11 @@ def fetch_of(superior, subject):
     return f"{superior.removeprefix('https://')}/fetch?sub={subject.replace(':', '%3A').replace('/', '%2F')}"
 
 
-def web_of(texts, hints):
-    """The pages of a web: each entity with those that it hints."""
+def web_of(texts, hints, more=None):
+    """The pages of a web: each entity with those that it hints, and more claims of some."""
     pages = {}
     for entity, above in hints.items():
-        pages[page_of(entity)] = texts.of(entity, entity, above)
+        pages[page_of(entity)] = texts.of(entity, entity, above, **(more or {}).get(entity, {}))
         for superior in above:
             pages[fetch_of(superior, entity)] = texts.of(superior, entity)
     return pages
@@ -66,8 +77,8 @@ def deep(size):
 
 
 def wide(size):
-    """A leaf with so many superiors, of whom one hints the anchor: at most 32 are hinted by the leaf, which can't hint more, and the others by
-    these, from the last of them on. The search asks for two pages of each, and for three more."""
+    """A leaf with so many superiors, of whom one hints the anchor: at most 32 are hinted by the leaf, which can't hint more, and the others
+    by these, from the last of them on. The search asks for two pages of each, and for three more."""
     names = [f"https://im-{number}.example" for number in range(size)]
     hinted, others = names[:32], names[32:]
     above = {name: others[31 * at : 31 * at + 31] for at, name in enumerate(reversed(hinted))}
@@ -75,11 +86,24 @@ def wide(size):
     return {LEAF: hinted, **{name: above.get(name, []) for name in names}, ANCHOR: []}
 
 
+def post_of(endpoint, mark):
+    """The call that posts a mark's text, in which a form leaves each character as it is."""
+    return f"POST {endpoint.removeprefix('https://')} trust_mark={mark.decode()}"
+
+
 def served(pages):
+    """A web of these pages, by the calls that ask for them: of a host and a path, or of a post."""
     class Handler(http.server.BaseHTTPRequestHandler):
         def do_GET(self):
-            text = pages[self.headers["Host"] + self.path]
-            self.send_response(200)
+            self.answer(self.headers["Host"] + self.path)
+
+        def do_POST(self):
+            body = self.rfile.read(int(self.headers["Content-Length"])).decode()
+            self.answer(f"POST {self.headers['Host']}{self.path} {body}")
+
+        def answer(self, call):
+            text = pages.get(call, b"")
+            self.send_response(200 if call in pages else 404)
             self.send_header("Content-Length", str(len(text)))
             self.end_headers()
             self.wfile.write(text)
@@ -103,11 +127,46 @@ def configured(place, texts, pages, port, workers=1):
     return name
 
 
+def ran(command, given=b""):
+    return subprocess.run(command, input=given, capture_output=True)
+
+
+def seconds(command, count, status=0, given=b""):
+    """User and system time of a run, by so many."""
+    before = spent()
+    for _ in range(count):
+        ended(ran(command, given), status)
+    return (spent() - before) / count
+
+
+def spent():
+    """User and system time of all runs that have ended."""
+    so_far = resource.getrusage(resource.RUSAGE_CHILDREN)
+    return so_far.ru_utime + so_far.ru_stime
+
+
+def ended(done, status):
+    """What a run wrote that ended so."""
+    if done.returncode != status:
+        raise SystemExit(f"{str(done)[:3000]}, and not {status}")
+    return done.stdout
+
+
+def profiled(place, command, status=0, given=b""):
+    """The name of the file in which callgrind tells of a run, and what the run wrote."""
+    kept = f"{place}/callgrind"
+    words = ["valgrind", "--tool=callgrind", f"--callgrind-out-file={kept}", *command]
+    return kept, ended(ran(words, given), status)
+
+
 def counted(place, command):
     """The instructions of a run by function, each with what it calls."""
-    kept = f"{place}/callgrind"
-    subprocess.run(["valgrind", "--tool=callgrind", f"--callgrind-out-file={kept}", *command], capture_output=True, check=True)
-    text = subprocess.run(["callgrind_annotate", "--inclusive=yes", "--threshold=100", kept], capture_output=True, check=True).stdout.decode()
+    return by_function(profiled(place, command)[0])
+
+
+def by_function(kept):
+    words = ["callgrind_annotate", "--inclusive=yes", "--threshold=100", kept]
+    text = subprocess.run(words, capture_output=True, check=True).stdout.decode()
     by_name = {}
     for line in text.split("\n"):
         found = re.match(r"\s*([\d,]+) \(\s*[\d.]+%\)\s+(.*)", line)
@@ -121,3 +180,36 @@ def inclusive(by_name, pattern):
     if not found:
         raise SystemExit(f"no function {pattern} was counted")
     return max(found)
+
+
+# Of the program: what is called once for each signature that is tested and for each that is made, and by whom where one is tested. Which of
+# these calls it depends on what the compiler puts in place of a call
+DIGEST = "slh_dsa::digest::write_digest"
+TESTING = r"(?:slh_dsa::verifying|sealed::testing)::"
+
+
+class Work(typing.NamedTuple):
+    """What a run did: its instructions, how many signatures it tested, and how many it made."""
+    instructions: int
+    tested: int
+    made: int
+
+
+def work_in(kept):
+    """What the run did of which callgrind tells in that file: a name stands there with its number once, and then the number alone."""
+    names, calls, caller, callee, instructions = {}, {}, None, None, 0
+    with open(kept, encoding="utf-8") as it:
+        for line in it:
+            word, _, said = line.rstrip("\n").partition("=")
+            number, _, name = said.partition(" ")
+            if word == "fn":
+                caller = names.setdefault(number, name)
+            elif word == "cfn":
+                callee = names.setdefault(number, name)
+            elif word == "calls":
+                calls[caller, callee] = calls.get((caller, callee), 0) + int(number)
+            elif line.startswith("totals: "):
+                instructions = int(line.split()[1])
+    digests = {caller: count for (caller, callee), count in calls.items() if callee == DIGEST}
+    tested = sum(count for caller, count in digests.items() if re.match(TESTING, caller))
+    return Work(instructions, tested, sum(digests.values()) - tested)

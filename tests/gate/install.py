@@ -27,9 +27,10 @@ FILES = {
     "share/bash-completion/completions/fed": "completions/fed.bash",
     "share/zsh/site-functions/_fed": "completions/_fed",
     "share/fish/vendor_completions.d/fed.fish": "completions/fed.fish",
+    **{f"share/doc/fed/{name}": f"docs/{name}" for name in ("COMMANDS.md", "POLICY.md", "STATEMENTS.md")},
     **{f"share/doc/fed/{name}": f"examples/{name}" for name in (
         "node.json", "resolver.json", "fed-authority@.service", "fed-resolver@.service", "fed-renew.service", "fed-renew.timer", "nginx.conf",
-        "nginx-resolver.conf", "nginx-outward.conf", "newkey.sh", "probe.sh", "renew.sh", "client.py", "asking.py")},
+        "nginx-resolver.conf", "nginx-outward.conf", "newkey.sh", "probe.sh", "renew.sh", "client.py", "asking.py", "endpoint.py")},
 }
 PROGRAMS = {"bin/fed", *(name for name in FILES if name.startswith("share/doc/fed/") and name.endswith((".sh", ".py")))}
 PAGES = ["man/fed.1", "man/fed-config.5", "man/fed-ring.5"]
@@ -110,6 +111,17 @@ def taken_away():
     same("uninstall: files", found(root), ["share/man/man1/another.1"])
     tell("uninstall: its own folder stays", not os.path.exists(f"{root}/share/doc/fed"))
     same("uninstall of nothing: status", install("--uninstall", folder_of("empty"))[0], 0)
+
+
+def pages_named_are_installed():
+    """Every page of docs/ that a sentence of the program names is installed."""
+    named = set()
+    for crate in os.listdir(f"{TOP}/crates"):
+        for source in found(f"{TOP}/crates/{crate}/src"):
+            lines = text_of(f"crates/{crate}/src/{source}").split("\n")
+            named.update(page for line in lines if not line.lstrip().startswith("//") for page in re.findall(r"docs/[\w/]+\.md", line))
+    tell("the program names no page", "docs/COMMANDS.md" in named)
+    same("pages that are named and not installed", sorted(named - set(FILES.values())), [])
 
 
 def examples_are_sound():
@@ -386,6 +398,7 @@ def table_has_the_words():
         "--alg": told_values("keygen", "--ring", "r", "--at", "1", "--exp", "2", "--alg", "x"),
         "--typ": told_values("issue", "--ring", "r", "--typ", "x"),
         "--reason": told_values("rotate", "--ring", "r", "--act", "revoke", "--kid", "k", "--at", "1", "--reason", "x"),
+        "--heed": told_values("resolve", "--config", "c", "--heed", "x"),
         "--stream": told_values("authority", "--config", "c", "--stream", "x"),
     }
     same("values", {it: words for it, words in values.items() if words != ["file"]}, wanted)
@@ -470,9 +483,9 @@ def others_complete():
 os.umask(0o022)
 fed("--version")
 ROWS = [
-    below_a_prefix, below_a_staging_folder, taken_away, examples_are_sound, over_an_older_one, nothing_half_done, stopped_half_way, without_a_program,
-    words, pages_are_sound, pages_say_what_is, examples_run, configuration_is_served, table_has_the_words, files_are_made,
-    bash_completes, others_complete,
+    below_a_prefix, below_a_staging_folder, taken_away, pages_named_are_installed, examples_are_sound, over_an_older_one, nothing_half_done,
+    stopped_half_way, without_a_program, words, pages_are_sound, pages_say_what_is, examples_run, configuration_is_served, table_has_the_words,
+    files_are_made, bash_completes, others_complete,
 ]
 try:
     status = tried("install", ROWS)

@@ -101,7 +101,8 @@ USAGE = [
     "usage: fed check-config --config FILE [--at T]",
     "usage: fed authority --config FILE --port P --connections N [--stream yes]",
     "usage: fed resolver --config FILE --port P --connections N",
-    "usage: fed resolve --config FILE --sub ID --anchor ID",
+    "usage: fed resolve --config FILE --sub ID --anchor ID [--heed yes]",
+    "usage: fed register --config FILE --anchor ID < POSTED",
     "usage: fed rehearse --params N",
     "usage: fed help COMMAND",
     "usage: fed --help | --version",
@@ -136,6 +137,14 @@ def check_free_words():
     faulty(f"resolver {served} --stream yes",
            "resolver has no --stream: it answers a connection once; authority may keep connections")
     row("authority --config none.json --stream yes --port 1 --connections 1", "", 2, "input\n", "none.json isn't there")
+    resolves = "--config none.json --sub https://rp.example --anchor https://ta.example"
+    for value in "no", "Yes", "1":
+        faulty(f"resolve {resolves} --heed {value}", f"--heed takes yes, and not {value}")
+    faulty(f"resolve --heed yes {resolves} --heed yes", "the option --heed stands twice")
+    faulty("resolve --heed yes --config c --sub https://rp.example", "the option --anchor ID is missing")
+    faulty(f"resolve {resolves} --heed", "the option --heed has no value; it takes yes")
+    faulty(f"resolver {served} --heed yes", "the option --heed isn't known to resolver; see fed --help")
+    row(f"resolve {resolves} --heed yes", "", 2, "input\n", "none.json isn't there")
 
 
 def check_words():
@@ -196,6 +205,9 @@ def check_words():
     faulty("resolve --config c --sub https://rp.example", "the option --anchor ID is missing")
     faulty("resolve --config c --sub rp --anchor https://ta.example", "--sub takes a URL that begins with https:// or http://, and not rp")
     row("resolve --config none.json --sub https://rp.example --anchor https://ta.example", "", 2, "input\n", "none.json isn't there")
+    faulty("register --config c", "the option --anchor ID is missing")
+    faulty("register --config c --anchor https://ta.example --sub https://rp.example", "the option --sub isn't known to register; see fed --help")
+    row("register --config none.json --anchor https://ta.example", "x", 2, "input\n", "none.json isn't there")
 
 
 # ---- files

@@ -3,20 +3,21 @@
 Each reply is compared byte for byte but for its signature, which another implementation checks; of each refusal the status, what is written, the
 pages that were asked for and the sentences on standard error. It prints what differs and fails where anything does."""
 
+import http.client
 import json
 import os
 import shutil
-import socket
 import subprocess
 import sys
 import time
 
 sys.dont_write_bytecode = True
 sys.path.insert(0, f"{os.path.dirname(os.path.dirname(os.path.abspath(__file__)))}/lib")
-from laid import free_port, started, tell, tried  # noqa: E402
+from laid import free_port, tell, tried  # noqa: E402
 from resolving import (  # noqa: E402
-    CALLS, CHAIN, END, ENVIRONMENT, FED, IM, IM_OWN, IM_RP, ISSUERS, JM, KEYS, MARK, METADATA, NOW, PATIENCE, POLICY, RESOLVED, RP, RP_OWN, TA, TA_OWN,
-    USUAL, Web, about, anchor_of, claims_of, config_of, differs_in, endpoint, fed, fetch_of, hosts_in, own, page_of, place, sealed, unsealed, written)
+    CALLS, CHAIN, END, ENVIRONMENT, FED, IM, IM_OWN, IM_RP, ISSUERS, JM, KEYS, MARK, METADATA, NOW, PATIENCE, RESOLVED, RP, RP_OWN, TA, TA_OWN, USUAL,
+    Authority, Web, about, anchor_of, authorities, claims_of, config_of, differs_in, endpoint, fed, fetch_of, hosts_in, marks_of, own, page_of, place,
+    post_of, sealed, unsealed, written)
 
 ERRORS = {
     "anchor": '{"error":"invalid_trust_anchor","error_description":"no such trust anchor"}\n',
@@ -38,11 +39,11 @@ SAID = {
 numbers = iter(range(1000000))
 
 
-def call(routes, sub=RP, anchor=TA, anchors=None, **more):
+def call(routes, sub=RP, anchor=TA, anchors=None, heed=False, **more):
     """Calls the resolver, and gives its status, what it wrote, its sentences, and the moments around the call."""
     name = written(f"resolver-{next(numbers)}.json", config_of(routes, **({"anchors": anchors} if anchors else {})))
     begin = int(time.time())
-    done = fed("resolve", "--config", name, "--sub", sub, "--anchor", anchor, **more)
+    done = fed("resolve", "--config", name, "--sub", sub, "--anchor", anchor, *["--heed", "yes"] * heed, **more)
     return done.returncode, done.stdout.decode(), done.stderr.decode(), (begin, int(time.time()))
 
 
@@ -99,6 +100,81 @@ def marked():
         returned = [("own", good)] if junk == 15 else []
         resolved(f"a good mark behind {junk} others", {**USUAL, page_of(RP): rp}, CALLS, [rp, *CHAIN[1:]], RESOLVED,
                  exp=NOW + (600 if returned else 7200), marks=returned)
+
+
+STATUS = f"{TA}/trust-mark-status"
+
+
+def asked_for(ta, marks):
+    """The usual web with this configuration of the trust anchor and these marks of the entity, and its chain."""
+    entries = [{"trust_mark_type": typ, "trust_mark": text} for typ, text in marks]
+    rp = sealed(own(RP, authority_hints=[IM], metadata=METADATA, **({"trust_marks": entries} if entries else {})), RP)
+    return {**USUAL, page_of(RP): rp, page_of(TA): ta}, [rp, *CHAIN[1:3], ta]
+
+
+def heeded(row, ta, marks, posts, words, kept, exp, *sentences):
+    """A call whose reply's marks are asked about: these posts stand behind the fetches, and these words behind the reply, which has these of the
+    marks and this end."""
+    pages, chain = asked_for(ta, marks)
+    with Web({**pages, **posts}) as web:
+        status, out, told, moments = call(hosts_in(pages, web), heed=True)
+    text, _, lines = out.partition("\n")
+    wanted = 0, "".join(f"mark {at} {word}\n" for at, word in enumerate(words)), said(sentences)
+    tell(f"{row}: {(status, lines, told)}, not {wanted}"[:2000], (status, lines, told) == wanted)
+    tell(f"{row}: asked for {web.calls}"[:2000], web.calls == [*CALLS, *posts])
+    differs = status or differs_in(f"{text}\n", moments, RP, chain, exp, RESOLVED, [marks[at] for at in kept])
+    tell(f"{row}: differs in {differs}"[:2000], not differs)
+
+
+def answers_of(marks, revoked=()):
+    """What the trust anchor answers, as an authority that took back some of its marks, where these are asked about."""
+    node = Authority(f"status-{next(numbers)}", {"entity_id": TA, "ring": "ta.ring", "lifetime": 3600, "revoked_marks": list(revoked)}, len(marks))
+    node.wait()
+    found = []
+    for mark in marks:
+        asking = http.client.HTTPConnection("127.0.0.1", node.port, timeout=PATIENCE)
+        asking.request("POST", "/trust-mark-status", f"trust_mark={mark}", {"Content-Type": "application/x-www-form-urlencoded"})
+        found.append(asking.getresponse().read().decode())
+        asking.close()
+    node.ended()
+    return found
+
+
+def asked():
+    """The issuers of a reply's marks are asked about them: one that names a status endpoint, of two marks, and one that names none."""
+    def mark(typ, by, **more):
+        return typ, sealed({"iss": by, "sub": RP, "trust_mark_type": typ, "iat": NOW - 100, **more}, by, MARK)
+
+    def ta(at):
+        entity = {**endpoint(TA)["federation_entity"], "federation_trust_mark_status_endpoint": at}
+        return sealed(own(TA, metadata={"federation_entity": entity}, trust_mark_issuers=ISSUERS), TA)
+
+    marks = [mark("open", TA, exp=NOW + 300), mark("own", TA), mark("open", IM, exp=NOW + 600)]
+    one, two = (post_of(STATUS, text) for _, text in marks[:2])
+    active = answers_of([text for _, text in marks[:2]])
+    revoked, = answers_of([marks[0][1]], revoked=[marks[0][1]])
+    out = f"mark 0 (open by {TA}) is left out: "
+    taken_back, useless, failed_at = f"{out}its issuer says that it is revoked", f"{out}{STATUS} ", f"mark 1 (own by {TA}) is left out: {STATUS} "
+    own_ta = ta(STATUS)
+    heeded("both are active", own_ta, marks, {one: active[0], two: active[1]}, ["active", "active", "unasked"], [0, 1, 2], NOW + 300)
+    heeded("one was taken back", own_ta, marks, {one: revoked, two: active[1]}, ["refused", "active", "unasked"], [1, 2], NOW + 600, taken_back)
+    heeded("the second post fails", own_ta, marks, {one: active[0], two: "reset"}, ["active", "fault", "unasked"], [0, 2], NOW + 300,
+           f"{failed_at}couldn't be asked")
+    heeded("a status of HTTP", own_ta, marks, {one: 403, two: active[1]}, ["useless", "active", "unasked"], [1, 2], NOW + 600,
+           f"{useless}is answered with status 403")
+    heeded("not HTTP", own_ta, marks, {one: b"?", two: active[1]}, ["useless", "active", "unasked"], [1, 2], NOW + 600,
+           f"{useless}isn't answered as HTTP is")
+    heeded("another mark's answer", own_ta, marks, {one: active[1], two: active[1]}, ["useless", "active", "unasked"], [1, 2], NOW + 600,
+           f"{useless}has no answer by {TA} on this mark")
+    heeded("no mark is left", own_ta, marks[:1], {one: 404}, ["useless"], [], NOW + 7200, f"{useless}is answered with status 404")
+    heeded("no endpoint", TA_OWN, marks, {}, ["unasked"] * 3, [0, 1, 2], NOW + 300)
+    heeded("no marks", own_ta, [], {}, [], [], NOW + 7200)
+    elsewhere = "https://status.example/trust-mark-status"
+    heeded("no route to the endpoint", ta(elsewhere), marks[:1], {}, ["useless"], [], NOW + 7200,
+           f"{out}{elsewhere} has a host to which the configuration has no route")
+    with Web({}) as web:
+        got = call(hosts_in(USUAL, web), anchor=JM, heed=True)
+    tell(f"no reply, and nothing is asked about: {got[:3]}", (got[:3], web.calls) == ((1, ERRORS["anchor"], said([SAID["anchor"]])), []))
 
 
 def listed():
@@ -325,50 +401,12 @@ def not_a_node(row, config, sentence, between=": "):
 
 # ---- real authorities
 
-class Authority:
-    """An authority on a port of its own for so many connections, and one that only waits until it listens."""
-
-    def __init__(self, name, config, connections):
-        self.name, self.port = name, free_port()
-        words = ["authority", "--config", written(f"{name}.json", config), "--port", str(self.port), "--connections", str(connections + 1)]
-        self.running = subprocess.Popen([FED, *words], cwd=place, stdout=subprocess.PIPE, stderr=subprocess.DEVNULL)
-        started.append(self.running)
-        self.served = f"served {connections + 1}\n"
-
-    def wait(self):
-        end = time.monotonic() + PATIENCE
-        while True:
-            try:
-                return socket.create_connection(("127.0.0.1", self.port), timeout=PATIENCE).close()
-            except ConnectionRefusedError:
-                if time.monotonic() > end or self.running.poll() is not None:
-                    raise
-                time.sleep(0.02)
-
-    def ended(self):
-        """Whether it has answered each of its connections and ended by itself."""
-        try:
-            out = self.running.communicate(timeout=PATIENCE)[0].decode()
-        finally:
-            self.running.kill()
-        tell(f"the end of {self.name}: {self.running.returncode} {out}", (self.running.returncode, out) == (0, self.served))
-
-
 def federation():
     """An entity below an intermediate, each answering for itself by `fed authority`, with marks of which two are good."""
-    mark = {"iss": TA, "sub": RP, "iat": NOW - 100}
-    given = [("open", {"exp": NOW + 600}, TA), ("unlisted", {}, TA), ("strange", {}, TA), ("open", {"sub": JM}, TA), ("open", {"exp": NOW - 5}, TA),
-             ("open", {"iat": NOW - 99}, "other"), ("own", {}, TA), ("own", {"iss": IM}, IM), ("open", {"iss": IM}, IM)]
-    marks = [(typ, sealed({**mark, "trust_mark_type": typ, **more}, by, MARK)) for typ, more, by in given]
-    entries = [{"trust_mark_type": typ, "trust_mark": text} for typ, text in marks]
-    rp = {"entity_id": RP, "ring": "rp.ring", "lifetime": 3600, "authority_hints": [IM], "metadata": METADATA, "trust_marks": entries}
-    im = {"entity_id": IM, "ring": "im.ring", "lifetime": 3600, "authority_hints": [TA],
-          "subordinates": [{"entity_id": RP, "jwks": {"keys": [KEYS[RP]]}, "metadata_policy": POLICY}]}
-    ta = {"entity_id": TA, "ring": "ta.ring", "lifetime": 3600, "trust_mark_issuers": ISSUERS,
-          "subordinates": [{"entity_id": IM, "jwks": {"keys": [KEYS[IM]]}, "intermediate": True}]}
-    nodes = {"rp.example": Authority("rp", rp, 1), "im.example": Authority("im", im, 2), "ta.example": Authority("ta", ta, 2)}
-    for node in nodes.values():
-        node.wait()
+    marks, member = marks_of([
+        ("open", {"exp": NOW + 600}, TA), ("unlisted", {}, TA), ("strange", {}, TA), ("open", {"sub": JM}, TA), ("open", {"exp": NOW - 5}, TA),
+        ("open", {"iat": NOW - 99}, "other"), ("own", {}, TA), ("own", {"iss": IM}, IM), ("open", {"iss": IM}, IM)])
+    nodes = authorities("found", (1, 2, 2), rp=member, ta={"trust_mark_issuers": ISSUERS})
     status, text, sentences, moments = call({host: node.port for host, node in nodes.items()})
     tell(f"the federation: {status} {text[:200]} {sentences}", (status, sentences) == (0, ""))
     for node in nodes.values():
@@ -381,6 +419,22 @@ def federation():
     tell(f"the federation: differs in {differs}"[:2000], not differs)
 
 
+def heeded_federation():
+    """The same with marks that are asked about, at the authorities that issued them: one of them took a mark back, and its authority ends before it
+    is asked about the last one."""
+    marks, member = marks_of([("open", {"exp": NOW + 300}, TA), ("own", {"exp": NOW + 600}, TA), ("open", {"iss": IM}, IM), ("own", {}, TA)])
+    nodes = authorities("asked", (1, 3, 4), rp=member, ta={"trust_mark_issuers": ISSUERS, "revoked_marks": [marks[0][1]]})
+    status, out, sentences, moments = call({host: node.port for host, node in nodes.items()}, heed=True)
+    for node in nodes.values():
+        node.ended()
+    text, _, lines = out.partition("\n")
+    left = [f"mark 0 (open by {TA}) is left out: its issuer says that it is revoked", f"mark 3 (own by {TA}) is left out: {STATUS} couldn't be asked"]
+    wanted = 0, "mark 0 refused\nmark 1 active\nmark 2 active\nmark 3 fault\n", said(left)
+    tell(f"the asked federation: {(status, lines, sentences)}, not {wanted}"[:2000], (status, lines, sentences) == wanted)
+    differs = status or differs_in(f"{text}\n", moments, RP, claims_of(text)["trust_chain"], NOW + 600, {**endpoints(RP), **RESOLVED}, marks[1:3])
+    tell(f"the asked federation: differs in {differs}"[:2000], not differs)
+
+
 def endpoints(entity):
     """What an authority without subordinates adds to its metadata."""
     return {"federation_entity": {"federation_historical_keys_endpoint": f"{entity}/historical-keys",
@@ -389,7 +443,8 @@ def endpoints(entity):
 
 def main():
     try:
-        return tried("resolve", [found, marked, listed, entity_pages, superior_pages, chains, bounds, searches, faults, faulty, federation])
+        rows = [found, marked, asked, listed, entity_pages, superior_pages, chains, bounds, searches, faults, faulty, federation, heeded_federation]
+        return tried("resolve", rows)
     finally:
         shutil.rmtree(place)
 

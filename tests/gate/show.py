@@ -167,11 +167,17 @@ def check_texts():
           'delegation of "https://tm.example/good" to https://rp.example by https://tm.example')
     told = {"iss": "https://tm.example", "iat": AT, "trust_mark": "a.b.c", "status": "revoked"}
     found("a status", unsigned(told, typ="trust-mark-status-response+jwt"), 0, "trust mark revoked by https://tm.example")
+    party = {"iss": "https://op.example", "sub": "https://rp.example"}
+    found("a registration", unsigned(party, typ=REGISTRATION), 0, "registration of https://rp.example by https://op.example")
+    for row, claims in [("without a sub", {"iss": "https://op.example"}), ("without an iss", {"sub": "https://rp.example"}), ("that is a list", [party]),
+                        ("by no identifier", {**party, "iss": "op"}), ("of no identifier", {**party, "sub": "https://rp.example?x"}), ("that isn't JSON", b"{")]:
+        found(f"a registration {row}", unsigned(claims, typ=REGISTRATION), 0, f'signed text of type "{REGISTRATION}"')
     found("another type", unsigned({"x": 1}, typ='a"b'), 0, 'signed text of type "a\\"b"')
     found("no type", unsigned([1], typ=None), 0, "signed text without a type")
 
 
 REPLY = "resolve-response+jwt"
+REGISTRATION = "explicit-registration-response+jwt"
 
 
 def check_replies():
@@ -182,10 +188,13 @@ def check_replies():
         text = unsigned({**claims, **more}, typ=typ, alg=FAST)
         compare(f"{row}: its length", 440000 < len(text) < 4194304, True)
         found(row, text, 0, f'signed text of type "{REPLY}"')
+    found("a registration of 14 texts", unsigned(claims, typ=REGISTRATION, alg=FAST), 0, "registration of https://rp.example by https://rp.example")
     long = {"x": "a" * 240000}
     for row, text in [("a long statement", unsigned({**OWN, **long})), ("a long mark", unsigned({**MARK, **long}, typ="trust-mark+jwt")),
                       ("a long text of another type", unsigned(long, typ="x")), ("one of no type", unsigned(long, typ=None)),
-                      ("a long reply of four parts", unsigned(long, typ=REPLY) + ".AA"), ("one with another algorithm", unsigned(long, typ=REPLY, alg="RS256"))]:
+                      ("a long reply of four parts", unsigned(long, typ=REPLY) + ".AA"),
+                      ("a long registration of four", "e30." + unsigned(long, typ=REGISTRATION)),
+                      ("one with another algorithm", unsigned(long, typ=REPLY, alg="RS256"))]:
         found(row, text, 1, "refused TooLong")
 
 

@@ -216,9 +216,22 @@ def resolves(texts):
     return [
         Case("resolve", 0, [*words, TA], b"", files, pages), Case("resolve-chain", 1, [*words, TA], b"", files, cut),
         Case("resolve-anchor", 1, [*words, IM], b"", files, pages),
+        *registers(texts, files, pages, gone),
         *(Case(name, 0, [*serve, "1"], b"", files, found, [asked]) for name, (found, asked) in rows.items()),
         Case("resolver-again", 0, [*serve, "3"], b"", files, pages, [usual] * 3),
         Case("resolver-workers", 0, [*serve, "2"], b"", node_files(texts, 2), pages, [usual] * 2, True),
+    ]
+
+
+def registers(texts, files, pages, gone):
+    """A relying party that is registered: by its chain and by its configuration, and what is refused."""
+    body = {call: page.split(b"\r\n\r\n")[1].decode() for call, page in pages.items()}
+    chain = json.dumps([body[page_of(RP)], body[fetch_of(IM, RP)], body[fetch_of(TA, IM)], body[page_of(TA)]]).encode()
+    words, posted = ["register", "--config", "config", "--anchor"], body[page_of(RP)].encode()
+    return [
+        Case("register", 0, [*words, TA], posted, files, pages), Case("register-chain", 0, [*words, TA], chain, files, pages),
+        Case("register-none", 1, [*words, TA], posted, files, gone), Case("register-form", 1, [*words, TA], b"x", files, pages),
+        Case("register-anchor", 1, [*words, IM], posted, files, pages), Case("register-type", 1, [*words, TA], b"[\"%s\"]" % body[page_of(TA)].encode(), files, pages),
     ]
 
 

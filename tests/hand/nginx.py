@@ -1,9 +1,9 @@
 #!/usr/bin/env python3
 """nginx with examples/nginx.conf in front of two processes of one node, on loopback, under a key made here: an answer that isn't kept yet and one
-that is, answers while one of the two is ended, and answers from what was kept while both are; then the same with connections that are kept to
-processes that stream, of which fewer are opened than are asked. Then each nginx file of examples/ as it stands, in a network and a view of the
-files of its own, which wants root and unshare. Where nginx or openssl is missing it says so and tries nothing. It prints what differs and fails
-where anything does."""
+that is, what a resolver gets and posts through examples/nginx-outward.conf, answers while one of the two is ended, and answers from what was kept
+while both are; then the same in front with connections that are kept to processes that stream, of which fewer are opened than are asked. Then each
+nginx file of examples/ as it stands, in a network and a view of the files of its own, which wants root and unshare. Where nginx or openssl is
+missing it says so and tries nothing. It prints what differs and fails where anything does."""
 
 import http.client
 import json
@@ -125,7 +125,9 @@ def tried_in(place, started, stream):
     tell(f"a status is never kept: {status} {kept}", (status, kept) == (200, None))
     tell("no other method comes through", asked(front, "/list", "DELETE")[0] == 403)
 
-    if stream:
+    if not stream:
+        outward(place, started, front, text)
+    else:
         # twenty that nothing keeps, one behind the other: their connections by the addresses in the logs of both
         said = {port: len(lines_of(place, port)) for port in ports}
         for number in range(20):
@@ -145,6 +147,37 @@ def tried_in(place, started, stream):
     status, kept, again = asked(front, "/.well-known/openid-federation")
     tell(f"while nobody answers: {status} {kept}", (status, kept, again) == (200, "HIT", text))
     tell("what wasn't kept isn't there", asked(front, "/list?intermediate=true")[0] == 502)
+
+
+def outward(place, started, front, text):
+    """examples/nginx-outward.conf on the way to that nginx: what a resolver gets and posts goes through, and nothing else."""
+    port = free_port()
+    with open(f"{TOP}/examples/nginx-outward.conf", encoding="utf-8") as it:
+        config = it.read()
+    for old, new in (("127.0.0.1:8400", f"127.0.0.1:{port}"), ("https://$http_host$request_uri", f"https://127.0.0.1:{front}$request_uri"),
+                     ("/etc/ssl/certs/ca-certificates.crt", f"{place}/cert")):
+        if old not in config:
+            raise ValueError(f"examples/nginx-outward.conf says nothing of {old}")
+        config = config.replace(old, new)
+    with open(f"{place}/outward.conf", "w", encoding="utf-8") as it:
+        it.write(config)
+    own = f"daemon off; pid {place}/outward-pid; error_log {place}/outward-errors;" + (" user root;" if os.geteuid() == 0 else "")
+    words = ["-p", place, "-e", f"{place}/outward-errors", "-c", f"{place}/outward.conf", "-g", own]
+    started.append(subprocess.Popen([NGINX, *words], stderr=subprocess.DEVNULL))
+    waited_for(port)
+
+    def through(method, path, body=None, host="ta.example"):
+        it = http.client.HTTPConnection("127.0.0.1", port, timeout=PATIENCE)
+        it.request(method, path, body, {"Host": host})
+        answer = it.getresponse()
+        return answer.status, answer.read()
+
+    got = through("GET", "/.well-known/openid-federation")
+    tell(f"on the way out: {got[0]}", got == (200, text))
+    status, _ = through("POST", "/trust-mark-status", "trust_mark=a")
+    tell(f"on the way out, a post: {status}", status == asked(front, "/trust-mark-status", "POST", "trust_mark=a")[0] == 200)
+    tell("on the way out, no other method comes through", through("DELETE", "/list")[0] == 403)
+    tell("on the way out, nobody else is asked", through("POST", "/trust-mark-status", "trust_mark=a", "rp.no.example")[0] == 404)
 
 
 # what the files name is laid over the view of the files, and nginx listens where nobody else does: on the ports that they say

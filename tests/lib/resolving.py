@@ -1,4 +1,4 @@
-"""What a resolver is tried with: keys, texts, a web of fixed texts on loopback, and what a reply has to be."""
+"""What a resolver is tried with: keys, texts, a web of fixed texts on loopback, authorities, and what a reply has to be."""
 
 import base64
 import json
@@ -12,13 +12,15 @@ import tempfile
 import time
 
 sys.dont_write_bytecode = True
-from laid import TOP, Host  # noqa: E402
+from laid import TOP, Host, free_port, started, tell  # noqa: E402
 
 FED = f"{TOP}/fed"
 PATIENCE = 100
 TA, IM, RP, JM, RESOLVER = "https://ta.example", "https://im.example/fed", "https://rp.example", "https://jm.example", "https://resolver.example"
 STATEMENT, MARK = "entity-statement+jwt", "trust-mark+jwt"
 GET = re.compile(rb"GET (/\S*) HTTP/1\.1\r\nHost: (\S+)\r\nAccept: \*/\*\r\nConnection: close\r\n\r\n")
+POST = re.compile(rb"POST (/\S*) HTTP/1\.1\r\nHost: (\S+)\r\nAccept: \*/\*\r\nContent-Type: application/x-www-form-urlencoded\r\n"
+                  rb"Content-Length: (\d+)\r\nConnection: close\r\n\r\n(.*)", re.DOTALL)
 NOW = int(time.time())
 END = NOW + 86400
 ENVIRONMENT = {name: value for name, value in os.environ.items() if name != "FED_QUIET"}
@@ -80,6 +82,11 @@ def fetch_of(superior, subject):
     return f"{superior.removeprefix('https://')}/fetch?sub={subject.replace(':', '%3A').replace('/', '%2F')}"
 
 
+def post_of(endpoint, mark):
+    """The call that posts a mark's text, in which a form leaves each character as it is."""
+    return f"POST {endpoint.removeprefix('https://')} trust_mark={mark}"
+
+
 def own(entity, key=None, **more):
     """The claims of an entity's configuration."""
     return {"iss": entity, "sub": entity, "iat": NOW - 100, "exp": END, "jwks": {"keys": [key or KEYS[entity]]}, **more}
@@ -104,8 +111,16 @@ class Web(Host):
         super().__init__(Web.called, PATIENCE)
 
     def called(self, peer, asked):
-        form = GET.fullmatch(asked)
-        call = (form[2] + form[1]).decode("latin-1") if form else f"not a request of the client's form: {asked[:200]}"
+        form, posted = GET.fullmatch(asked), POST.fullmatch(asked)
+        while posted and len(posted[4]) < int(posted[3]) and (more := peer.recv(65536)):
+            asked += more
+            posted = POST.fullmatch(asked)
+        if form:
+            call = (form[2] + form[1]).decode("latin-1")
+        elif posted and len(posted[4]) == int(posted[3]):
+            call = (b"POST " + posted[2] + posted[1] + b" " + posted[4]).decode("latin-1")
+        else:
+            call = f"not a request of the client's form: {asked[:200]}"
         self.calls.append(call)
         self.answer(peer, self.pages.get(call, 404))
 
@@ -120,6 +135,37 @@ class Web(Host):
             peer.sendall(f"HTTP/1.1 {page} Other\r\nContent-Length: 0\r\nConnection: close\r\n\r\n".encode())
         else:
             peer.sendall(f"HTTP/1.1 200 OK\r\nContent-Length: {len(page)}\r\nConnection: close\r\n\r\n{page}".encode())
+
+
+# ---- real authorities
+
+class Authority:
+    """An authority on a port of its own for so many connections, and one that only waits until it listens."""
+
+    def __init__(self, name, config, connections):
+        self.name, self.port = name, free_port()
+        words = ["authority", "--config", written(f"{name}.json", config), "--port", str(self.port), "--connections", str(connections + 1)]
+        self.running = subprocess.Popen([FED, *words], cwd=place, stdout=subprocess.PIPE, stderr=subprocess.DEVNULL)
+        started.append(self.running)
+        self.served = f"served {connections + 1}\n"
+
+    def wait(self):
+        end = time.monotonic() + PATIENCE
+        while True:
+            try:
+                return socket.create_connection(("127.0.0.1", self.port), timeout=PATIENCE).close()
+            except ConnectionRefusedError:
+                if time.monotonic() > end or self.running.poll() is not None:
+                    raise
+                time.sleep(0.02)
+
+    def ended(self):
+        """Whether it has answered each of its connections and ended by itself."""
+        try:
+            out = self.running.communicate(timeout=PATIENCE)[0].decode()
+        finally:
+            self.running.kill()
+        tell(f"the end of {self.name}: {self.running.returncode} {out}", (self.running.returncode, out) == (0, self.served))
 
 
 # ---- the texts of the usual web: an entity, an intermediate, another one, and the trust anchor
@@ -137,6 +183,27 @@ CHAIN = [RP_OWN, IM_RP, TA_IM, TA_OWN]
 USUAL = {page_of(RP): RP_OWN, page_of(IM): IM_OWN, fetch_of(IM, RP): IM_RP, page_of(TA): TA_OWN, fetch_of(TA, IM): TA_IM}
 CALLS = list(USUAL)
 written("ta.keys", {"keys": [KEYS[TA]]})
+
+
+def marks_of(given):
+    """Trust marks of the entity, each of a type, with claims of its own and sealed by a key: the marks, and the member that has them."""
+    claims = {"iss": TA, "sub": RP, "iat": NOW - 100}
+    marks = [(typ, sealed({**claims, "trust_mark_type": typ, **more}, by, MARK)) for typ, more, by in given]
+    return marks, {"trust_marks": [{"trust_mark_type": typ, "trust_mark": text} for typ, text in marks]}
+
+
+def authorities(name, connections, rp=None, ta=None):
+    """An entity below an intermediate below the trust anchor, each answering so many connections by `fed authority`; two with more members."""
+    rp = {"entity_id": RP, "ring": "rp.ring", "lifetime": 3600, "authority_hints": [IM], "metadata": METADATA, **(rp or {})}
+    im = {"entity_id": IM, "ring": "im.ring", "lifetime": 3600, "authority_hints": [TA],
+          "subordinates": [{"entity_id": RP, "jwks": {"keys": [KEYS[RP]]}, "metadata_policy": POLICY}]}
+    ta = {"entity_id": TA, "ring": "ta.ring", "lifetime": 3600,
+          "subordinates": [{"entity_id": IM, "jwks": {"keys": [KEYS[IM]]}, "intermediate": True}], **(ta or {})}
+    hosts = "rp.example", "im.example", "ta.example"
+    nodes = {host: Authority(f"{name}-{host}", config, count) for host, config, count in zip(hosts, (rp, im, ta), connections)}
+    for node in nodes.values():
+        node.wait()
+    return nodes
 
 
 # ---- a resolver's file, and its replies
@@ -161,8 +228,9 @@ def hosts_in(pages, web):
     return {call.split("/")[0]: web.port for call in [*pages, *map(page_of, (TA, IM, RP, JM))]}
 
 
-def differs_in(text, moments, sub, chain, exp, metadata, marks, cut=None):
-    """What of the reply isn't as it must be, or nothing. The chain resolves to the metadata, of which the reply tells `cut` where that is given."""
+def signed_differs(text, moments, typ, claims_at):
+    """What isn't as it must be of a line that the resolver signed as a text of this type, or nothing: its claims are those that are said of the moment
+    of its `iat`, which lies between these two."""
     parts = text.encode().removesuffix(b"\n").split(b".")
     if len(parts) != 3 or not text.endswith("\n"):
         return "its form"
@@ -170,16 +238,22 @@ def differs_in(text, moments, sub, chain, exp, metadata, marks, cut=None):
     iat = json.loads(claims)["iat"]
     if not moments[0] <= iat <= moments[1]:
         return f"iat, {iat}"
-    if header != compact({"alg": "SLH-DSA-SHA2-128s", "kid": KEYS[RESOLVER]["kid"], "typ": "resolve-response+jwt"}):
+    if header != compact({"alg": "SLH-DSA-SHA2-128s", "kid": KEYS[RESOLVER]["kid"], "typ": typ}):
         return f"the header, {header}"
-    wanted = {"exp": exp, "iat": iat, "iss": RESOLVER, "metadata": metadata if cut is None else cut, "sub": sub, "trust_chain": chain}
+    wanted = compact(claims_at(iat))
+    if claims != wanted:
+        return f"the claims, {claims[:300]}, not {wanted[:300]}"
+    done = subprocess.run([f"{TOP}/bench/compressions", KEYS[RESOLVER]["pub"]], input=text.encode(), capture_output=True)
+    return "the signature" if done.returncode else ""
+
+
+def differs_in(text, moments, sub, chain, exp, metadata, marks, cut=None):
+    """What of the reply isn't as it must be, or nothing. The chain resolves to the metadata, of which the reply tells `cut` where that is given."""
+    wanted = {"exp": exp, "iss": RESOLVER, "metadata": metadata if cut is None else cut, "sub": sub, "trust_chain": chain}
     if marks:
         wanted["trust_marks"] = [{"trust_mark": mark, "trust_mark_type": typ} for typ, mark in marks]
-    if claims != compact(wanted):
-        return f"the claims, {claims[:300]}, not {compact(wanted)[:300]}"
-    if subprocess.run([f"{TOP}/bench/compressions", KEYS[RESOLVER]["pub"]], input=text.encode(), capture_output=True).returncode:
-        return "the signature"
-    return chain_differs(chain, iat, sub, metadata)
+    return signed_differs(text, moments, "resolve-response+jwt", lambda iat: dict(sorted({**wanted, "iat": iat}.items()))) or \
+        chain_differs(chain, claims_of(text)["iat"], sub, metadata)
 
 
 def chain_differs(chain, moment, sub, metadata):

@@ -14,7 +14,7 @@ GOOD = [
     ["rotate", "--ring", "never.ring", "--act", "revoke", "--kid", "none", "--at", "1", "--reason", "superseded"],
     ["rotate", "--ring", "never.ring", "--act", "add", "--at", "1", "--exp", "2"], ["resolve", "--config", "never.json", "--sub", IM, "--anchor", TA],
     ["authority", "--config", "never.json", "--port", "1", "--connections", "1"], ["resolver", "--config", "never.json", "--port", "1", "--connections", "1"],
-    ["rehearse", "--params", "201"], ["public", "--ring", "rp.ring", "--kid", "none"], ["public", "--ring", "rp.ring"],
+    ["register", "--config", "never.json", "--anchor", TA], ["rehearse", "--params", "201"], ["public", "--ring", "rp.ring", "--kid", "none"], ["public", "--ring", "rp.ring"],
     ["check-config", "--config", "never.json", "--at", "1"], ["show"], ["help", "check"], ["help", "rehearse"], ["--help"], ["--version"], []]
 COMMANDS = {"verify", "help", *(line[0] for line in GOOD if line and line[0][0] != "-")}
 
@@ -43,6 +43,7 @@ OPTIONS = {
                {**RING, "--act": one_of("revoke"), "--kid": word, "--at": MOMENT, "--reason": one_of(*rules.REASONS)}],
     "check": [{"--anchor": rules.identifier, "--keys": word}, {"--anchor": rules.identifier, "--keys": word, "--at": MOMENT}],
     "resolve": [{**CONFIG, "--sub": rules.identifier, "--anchor": rules.identifier}], "authority": [{**CONFIG, **ADDRESS}], "resolver": [{**CONFIG, **ADDRESS}],
+    "register": [{**CONFIG, "--anchor": rules.identifier}],
     "public": [RING, {**RING, "--kid": word}], "check-config": [CONFIG, {**CONFIG, "--at": MOMENT}], "rehearse": [{"--params": number(0, 200)}], "show": [{}],
 }
 
