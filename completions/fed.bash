@@ -6,10 +6,11 @@ _fed() {
         *[\<\>]*) before=--files ;;
     esac
     case $COMP_CWORD:$before in
-        1:*) offered='verify keygen issue rotate public check show check-config authority resolver resolve rehearse help --help --version' ;;
-        2:help) offered='verify keygen issue rotate public check show check-config authority resolver resolve rehearse help' ;;
+        1:*) offered='verify keygen issue rotate public check show check-config authority resolver resolve register rehearse help --help --version' ;;
+        2:help) offered='verify keygen issue rotate public check show check-config authority resolver resolve register rehearse help' ;;
         *:--act) offered='add retire revoke' ;;
         *:--alg) offered='128s 128f' ;;
+        *:--heed) offered='yes' ;;
         *:--reason) offered='unspecified compromised superseded' ;;
         *:--stream) offered='yes' ;;
         *:--typ) offered='entity-statement+jwt trust-mark+jwt trust-mark-delegation+jwt' ;;
@@ -30,8 +31,9 @@ _fed() {
                 issue:) offered='--ring --typ --workers' ;;
                 keygen:) offered='--ring --at --exp --alg' ;;
                 public:) offered='--ring --kid' ;;
+                register:) offered='--config --anchor' ;;
                 rehearse:) offered='--params' ;;
-                resolve:) offered='--config --sub --anchor' ;;
+                resolve:) offered='--config --sub --anchor --heed' ;;
                 resolver:) offered='--config --port --connections' ;;
                 rotate:) offered='--ring --act --at --exp --alg --kid --reason' ;;
                 rotate:add) offered='--ring --act --at --exp --alg' ;;

@@ -5,16 +5,19 @@ function __fed_offered
     set -l offered
     switch (count $words):$words[-1]
         case '1:*'
-            printf '%s\n' verify\t'checks an entity configuration under a public key' keygen\t'makes a key and the file of its ring' issue\t'signs claims by a ring'\''s newest live key' rotate\t'changes a key ring' public\t'shows the public keys of a ring' check\t'checks a trust chain for its trust anchor' show\t'shows what a text, a chain or a key set says, unverified' check-config\t'says what is wrong with a node'\''s configuration, or what the node is' authority\t'answers connections as an authority' resolver\t'answers connections as a resolver' resolve\t'resolves an entity up to a trust anchor' rehearse\t'resolves the leaf of a federation in memory twice' help\t'shows how a command is called' --help\t'shows every command' --version\t'shows the version'
+            printf '%s\n' verify\t'checks an entity configuration under a public key' keygen\t'makes a key and the file of its ring' issue\t'signs claims by a ring'\''s newest live key' rotate\t'changes a key ring' public\t'shows the public keys of a ring' check\t'checks a trust chain for its trust anchor' show\t'shows what a text, a chain or a key set says, unverified' check-config\t'says what is wrong with a node'\''s configuration, or what the node is' authority\t'answers connections as an authority' resolver\t'answers connections as a resolver' resolve\t'resolves an entity up to a trust anchor' register\t'registers a relying party that posts its configuration or its chain' rehearse\t'resolves the leaf of a federation in memory twice' help\t'shows how a command is called' --help\t'shows every command' --version\t'shows the version'
             return
         case '2:help'
-            printf '%s\n' verify keygen issue rotate public check show check-config authority resolver resolve rehearse help
+            printf '%s\n' verify keygen issue rotate public check show check-config authority resolver resolve register rehearse help
             return
         case '*:--act'
             printf '%s\n' add retire revoke
             return
         case '*:--alg'
             printf '%s\n' 128s 128f
+            return
+        case '*:--heed'
+            printf '%s\n' yes
             return
         case '*:--reason'
             printf '%s\n' unspecified compromised superseded
@@ -44,10 +47,12 @@ function __fed_offered
             set offered --ring\t'the file of the key ring' --at\t'from when, or for which moment, in seconds since 1970' --exp\t'until when, in seconds since 1970' --alg\t'the algorithm of the new key'
         case public:
             set offered --ring\t'the file of the key ring' --kid\t'the name of a key of the ring'
+        case register:
+            set offered --config\t'the file of the node'\''s configuration' --anchor\t'the trust anchor'\''s identifier'
         case rehearse:
             set offered --params\t'how many parameters the leaf'\''s metadata has, 0 to 200'
         case resolve:
-            set offered --config\t'the file of the node'\''s configuration' --sub\t'the entity that is resolved' --anchor\t'the trust anchor'\''s identifier'
+            set offered --config\t'the file of the node'\''s configuration' --sub\t'the entity that is resolved' --anchor\t'the trust anchor'\''s identifier' --heed\t'the issuers of the marks are asked about them'
         case resolver:
             set offered --config\t'the file of the node'\''s configuration' --port\t'the port that is listened on, 1 to 65535' --connections\t'how many connections are answered, 1 to 1000000'
         case rotate:

@@ -92,6 +92,11 @@ END
 echo "the leaf as the resolver found it, $(wc -c <reply.jwt) bytes that are signed:"
 told reply.jwt
 
+# a provider registers a leaf that posts its configuration: here the resolver's node
+"$here/fed" register --config resolver.json --anchor "$anchor" <leaf.jwt >registration.jwt
+echo "the leaf's explicit registration, as a provider makes it:"
+told registration.jwt
+
 # the same for those who ask over HTTP: the first has to wait for the pages, the others find them in the cache
 start resolver resolver 127.0.0.4 "$resolver_port"
 resolver=http://127.0.0.4:$resolver_port
