@@ -12,13 +12,13 @@ import sys
 TOP = os.path.dirname(os.path.dirname(os.path.dirname(os.path.abspath(__file__))))
 KIT = set("sha2 base64 serde_json url form_urlencoded hex httparse lru atomic_table thiserror".split())
 # the parts of a crate's page, in their order
-MOST_CHAIN, MOST_PATHS, MOST_LINES = 13, 250_000, 1420
+MOST_CHAIN, MOST_PATHS, MOST_LINES = 12, 250_000, 1420
 PARTS = ["One call", "Definitions", "What is proved", "What is tested"]
 # the crates that may make a ledger of their own: what they count of it is theirs to say
-LEDGERS = {"fed_base", "fed_commands", "heeded_reply", "node_service", "register_once", "rehearsal", "resolve_notes", "resolver_service"}
+LEDGERS = {"fed_base", "fed_commands", "heeded_reply", "node_service", "register_once", "rehearsal", "resolve_call", "resolve_notes", "resolver_service"}
 # how often a crate may make another network or clock: what is done over it no clause sees. In the last two one stands in the place of the
 # network while a link has that, and nothing is done over it
-OTHERS = {"fed": 1, "heeded_reply": 1, "resolver_service": 3}
+OTHERS = {"fed": 1, "heeded_reply": 1, "resolve_call": 1, "resolver_service": 2}
 faults = []
 
 

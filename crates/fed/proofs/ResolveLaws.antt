@@ -21,7 +21,7 @@ use Rattle.fed_resolver.specs.declared.outcome.Refusal.TheVariants.{NoAnchor, No
 use Rattle.heeded_reply.specs.declared.reply.HeededReply.{HeededReply}
 use Rattle.heeded_reply.specs.declared.reply.Heard.{Heard}
 use Rattle.heeded_reply.specs.Calls.{outcome_of}
-use Rattle.resolver_service.specs.Calls.{HoldsWorn, Question, WornBy}
+use Rattle.resolve_call.specs.Calls.{HoldsWorn, Question, WornBy}
 use Rattle.resolver_service.specs.Batches.{ServiceViews}
 use Rattle.fed_words.specs.declared.service.Service.{Service}
 use Rattle.fed_words.specs.declared.service.Service.TheVariants.{Authority, Rehearse, Resolve, Resolver}

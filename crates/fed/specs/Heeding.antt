@@ -3,7 +3,7 @@ use Rattle.std.specs.Prelude.{◌≡◌, ◌⊎◌, ℕ, Option, Some, None, Res
 use Rattle.resolve_reply.specs.declared.reply.Reply.{Reply}
 use Rattle.fed_resolver.specs.declared.outcome.Refusal.{Refusal}
 use Rattle.node_files.specs.declared.fault.NodeFault.{NodeFault}
-use Rattle.resolver_service.specs.Calls.{Question}
+use Rattle.resolve_call.specs.Calls.{Question}
 use Rattle.heeded_reply.specs.declared.reply.HeededReply.{HeededReply}
 use Rattle.heeded_reply.specs.declared.reply.Heard.{Heard}
 use Rattle.heeded_reply.specs.Calls.{HeedsOnce}

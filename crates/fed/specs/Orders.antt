@@ -4,7 +4,7 @@ use Rattle.fed.specs.declared.resolving.Question.{Question}
 use Rattle.fed_words.specs.declared.registration.Registration.{Registration}
 use Rattle.node_files.specs.Orders.{Order as Served}
 use Rattle.register_once.specs.Registering.{Wanted}
-use Rattle.resolver_service.specs.Calls.{Question as Asked}
+use Rattle.resolve_call.specs.Calls.{Question as Asked}
 
 -- a service: its file, its port and how many are served
 abbrev pub order_of : Order → Served

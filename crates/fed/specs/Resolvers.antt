@@ -12,7 +12,7 @@ use Rattle.statement_shelf.specs.declared.calls.BookCall.{BookCall}
 use Rattle.statement_shelf.specs.declared.calls.BookReply.{BookReply}
 use Rattle.statement_shelf.specs.Passes.{CommonsKnown}
 use Rattle.resolve_round.specs.Acts.{HasCounted}
-use Rattle.fed_serve.specs.Desks.{network_at}
+use Rattle.http_plain.specs.Networks.{network_at}
 use Rattle.node_files.specs.Orders.{Order}
 use Rattle.resolver_service.specs.declared.ending.ResolverEnd.{ResolverEnd}
 use Rattle.resolver_service.specs.declared.ending.ResolverEnd.TheVariants as ends

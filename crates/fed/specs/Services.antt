@@ -10,7 +10,7 @@ use Rattle.statement_shelf.specs.declared.calls.BookCall.{BookCall}
 use Rattle.statement_shelf.specs.declared.calls.BookReply.{BookReply}
 use Rattle.node_service.specs.Streams.{IsAnsweredBy}
 use Rattle.resolver_service.specs.Batches.{ServiceViews}
-use Rattle.resolver_service.specs.Calls.{Question}
+use Rattle.resolve_call.specs.Calls.{Question}
 use Rattle.fed_words.specs.declared.service.Service.{Service}
 use Rattle.fed_words.specs.declared.service.Service.TheVariants.{Authority, Rehearse, Resolve, Resolver}
 use Rattle.fed.specs.Authorities.{Outside, RunsAuthority}

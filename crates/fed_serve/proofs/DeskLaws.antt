@@ -7,7 +7,8 @@ use Rattle.fed_ports.specs.Causes.{HasCause}
 use Rattle.fed_ports.specs.Lists.{Gave}
 use Rattle.fed_serve.specs.declared.desk.Desk.{Desk}
 use Rattle.fed_serve.specs.declared.node.Node.{Node}
-use Rattle.fed_serve.specs.Desks.{IsServedAt, IsTaken, NetworkAt, ServesMany, Views, desks_at}
+use Rattle.fed_serve.specs.Desks.{IsServedAt, IsTaken, ServesMany, Views, desks_at}
+use Rattle.http_plain.specs.Networks.{NetworkAt}
 
 -- ---- lists and answers
 

@@ -1,10 +1,10 @@
 -- Desks: what each serves its peer with, and what serving at many of them at once does.
-use Rattle.std.specs.Prelude.{◌≡◌, ◌<◌, ℕ, List, [], ◌∷◌, length, Option, Some, None, IfSome, Result, OnOk, OnErr}
+use Rattle.std.specs.Prelude.{◌≡◌, ◌<◌, List, [], ◌∷◌, length, Option, Some, None, IfSome, Result, OnOk, OnErr}
 use Rattle.fed_base.specs.declared.faults.Failed.{Failed}
 use Rattle.fed_ports.specs.Causes.{HasCause}
-use Rattle.fed_ports.specs.Exchanges.{Exchange}
 use Rattle.fed_ports.specs.Lists.{Gave}
 use Rattle.fed_ports.specs.Times.{ClockAt}
+use Rattle.http_plain.specs.Networks.{NetworkAt}
 use Rattle.turn_log.specs.Groups.{known}
 use Rattle.statement_shelf.specs.Passes.{CommonsKnown, IsPassOfAll}
 use Rattle.resolve_round.specs.Acts.{IsKept}
@@ -25,22 +25,10 @@ pub record Views (P L C G : Type 0) : Type 1 where
   pub call : CommonsKnown → L → G → CallAt
   pub gave : Giving L
 
--- a network at one moment: the port that it listens on; its exchanges, the callers to come and those that were settled, where it tells
--- them; and how often a call has failed
-pub record NetworkAt (P : Type 0) : Type 0 where
-  pub port : Option ℕ
-  pub exchanges : Option (List Exchange)
-  pub callers : Option (List P)
-  pub settled : Option (List P)
-  pub faults : ℕ
-
 -- the desks and their network at one moment
 pub record DesksAt (P D : Type 0) : Type 0 where
   pub net : NetworkAt P
   pub desks : List D
-
-abbrev pub network_at : {P : Type 0} → Option ℕ → Option (List Exchange) → Option (List P) → Option (List P) → ℕ → NetworkAt P
-network_at port exchanges callers settled faults = record { port = port; exchanges = exchanges; callers = callers; settled = settled; faults = faults }
 
 abbrev pub desks_at : {P D : Type 0} → NetworkAt P → List D → DesksAt P D
 desks_at net desks = record { net = net; desks = desks }

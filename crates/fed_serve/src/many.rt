@@ -4,7 +4,8 @@ ghost use Rattle.std.specs.Prelude.{◌≡◌, All, is_some, true};
 ghost use Rattle.std.specs.Thread.{IsSend, IsSync};
 ghost use Rattle.fed_serve.specs.Resolutions.{call_at};
 ghost use Rattle.fed_serve.specs.Moments.{peer_at};
-ghost use Rattle.fed_serve.specs.Desks.{IsFree, IsServedAt, ServesMany, desks_at, network_at, views_of};
+ghost use Rattle.fed_serve.specs.Desks.{IsFree, IsServedAt, ServesMany, desks_at, views_of};
+ghost use Rattle.http_plain.specs.Networks.{network_at};
 ghost use Rattle.fed_ports.specs.Times.{clock_at};
 
 use crate::desk::{Desk, Place};

@@ -11,7 +11,7 @@ use Rattle.key_ring.specs.Rings.{Ring}
 use Rattle.key_ring.specs.Sets.{live_set, signer_keys}
 use Rattle.key_ring.proofs.SetLaws.{signer_named}
 use Rattle.authority_core.specs.Nodes.{Node}
-use Rattle.fed_serve.specs.Desks.{NetworkAt}
+use Rattle.http_plain.specs.Networks.{NetworkAt}
 use Rattle.node_files.specs.Moments.{at_moment}
 use Rattle.node_files.specs.NodeFiles.{IsNodeOf}
 use Rattle.node_files.specs.ResolvingParts.{ArePartsOf, signer_of}
@@ -22,8 +22,8 @@ use Rattle.resolve_reply.specs.declared.signer.Signer.{Signer}
 use Rattle.resolve_round.specs.declared.trace.Trace.{Trace}
 use Rattle.fed_resolver.specs.declared.outcome.Refusal.{Refusal}
 use Rattle.fed_resolver.specs.Outcomes.{HasChainEnd, HasConfigs}
-use Rattle.resolver_service.specs.Calls.{At, IsCallBy, IsCallOf, Question, ResolvesOnce, around}
-use Rattle.resolver_service.proofs.CallLaws.{call-by}
+use Rattle.resolve_call.specs.Calls.{At, IsCallBy, IsCallOf, Question, ResolvesOnce, around}
+use Rattle.resolve_call.proofs.CallLaws.{call-by}
 use Rattle.heeded_reply.specs.declared.reply.HeededReply.{HeededReply}
 use Rattle.heeded_reply.specs.declared.reply.Heard.{Heard}
 use Rattle.heeded_reply.specs.Calls.{HearsBy, HeedsOnce, IsHeardAt, wire_at}

@@ -3,7 +3,7 @@ use Rattle.std.specs.Prelude.{◌≡◌, ◌≤◌, ℕ, length, Option, Some, N
 use Rattle.jws_form.specs.Compact.{max_bytes}
 use Rattle.sealed.specs.Seals.{IsSealedBy}
 use Rattle.key_ring.specs.Sets.{live_set}
-use Rattle.fed_serve.specs.Desks.{NetworkAt}
+use Rattle.http_plain.specs.Networks.{NetworkAt}
 use Rattle.node_files.specs.declared.fault.NodeFault.{NodeFault}
 use Rattle.node_files.specs.declared.parts.Parts.{Parts}
 use Rattle.node_files.specs.ResolvingParts.{signer_of}
@@ -12,8 +12,8 @@ use Rattle.resolve_round.specs.declared.request.ResolveRequest.{ResolveRequest}
 use Rattle.resolve_round.specs.declared.trace.Trace.{Trace}
 use Rattle.fed_resolver.specs.declared.outcome.Outcome.{Outcome}
 use Rattle.fed_resolver.specs.declared.outcome.Refusal.{Refusal}
-use Rattle.resolver_service.specs.Calls.{Around, At, IsCallOf, Question, ResolvesOnce}
-use Rattle.resolver_service.specs.CallSteps.{IsCallAt}
+use Rattle.resolve_call.specs.Calls.{Around, At, IsCallOf, Question, ResolvesOnce}
+use Rattle.resolve_call.specs.CallSteps.{IsCallAt}
 use Rattle.heeded_reply.specs.declared.reply.HeededReply.{HeededReply}
 use Rattle.heeded_reply.specs.declared.reply.Heard.{Heard}
 use Rattle.heeded_reply.specs.Heeding.{Caller, HeedsReply, caller_of}

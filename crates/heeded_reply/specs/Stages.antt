@@ -14,7 +14,7 @@ use Rattle.mark_status.specs.Posts.{Answering, Asked, asked_of}
 use Rattle.node_files.specs.declared.parts.Parts.{Parts}
 use Rattle.resolve_reply.specs.declared.reply.Reply.{Reply}
 use Rattle.resolve_reply.specs.Replies.{SaysReply}
-use Rattle.resolver_service.specs.CallSteps.{IsOpenCall}
+use Rattle.resolve_call.specs.CallSteps.{IsOpenCall}
 use Rattle.heeded_reply.specs.declared.asker.LinkAsker.{LinkAsker}
 use Rattle.heeded_reply.specs.declared.call.OpenHeeding.{OpenHeeding}
 use Rattle.heeded_reply.specs.Claims.{claimed_marks}

@@ -7,8 +7,9 @@ ghost use Rattle.node_files.specs.declared.parts.Parts.{Parts};
 ghost use Rattle.fed_resolver.specs.Outcomes.{HasChainEnd, HasConfigs};
 ghost use Rattle.fed_resolver.specs.Told.{situation_of};
 ghost use Rattle.resolve_reply.specs.Replies.{SaysReply};
-ghost use Rattle.resolver_service.specs.Calls.{HoldsWorn, WornBy};
-ghost use Rattle.resolver_service.specs.Ports.{call_seen, listening_seen, network_seen};
+ghost use Rattle.resolve_call.specs.Calls.{HoldsWorn, WornBy};
+ghost use Rattle.resolve_call.specs.Ports.{call_seen};
+ghost use Rattle.http_plain.specs.Networks.{listening_seen, network_seen};
 ghost use Rattle.heeded_reply.specs.Calls.{HearsBy, HeedsOnce, IsHeardAt, outcome_of};
 ghost use Rattle.heeded_reply.specs.Heeding.{caller_of};
 ghost use Rattle.heeded_reply.specs.Stages.{IsOpenHeeding, wire_seen};
@@ -21,7 +22,7 @@ use fed_resolver::{Outcome, ResolveRequest, Signer};
 use http_plain::Route;
 use node_files::{NodeFault, Parts, open_resolver, parts_of};
 use plain_notes::Notes;
-use resolver_service::{OpenCall, open_call, resolve_at};
+use resolve_call::{OpenCall, open_call, resolve_at};
 use statement_shelf::FedPass;
 use std::alloc::Global;
 use std::sync::Wait;
@@ -40,7 +41,7 @@ pub(crate) struct OpenHeeding<N> {
 }
 
 /// What the node of a configuration file answers to a request for an entity's resolved metadata (OpenID Federation 1.0 section 8.3), as
-/// [`resolver_service::resolve_once`], and what becomes of its reply once each issuer of a mark that names a status endpoint was asked
+/// [`resolve_call::resolve_once`], and what becomes of its reply once each issuer of a mark that names a status endpoint was asked
 /// about it (section 8.4), over the same network: a mark is left out where it isn't active. A post that fails doesn't fail the call.
 pub fn heed_once<R: Wait + Threads + Sync, D: Store, N: Network + Drop, C: Clock>(
     rt: &R,

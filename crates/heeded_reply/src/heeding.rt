@@ -9,7 +9,7 @@ ghost use Rattle.sealed.specs.Sealing.{IsSealedFor};
 ghost use Rattle.mark_status.specs.Heeding.{IsKeptOrTold, heeding_of};
 ghost use Rattle.mark_status.specs.Tells.{keeps};
 ghost use Rattle.resolve_reply.specs.Replies.{SaysReply, least_end};
-ghost use Rattle.resolver_service.specs.Ports.{listening_seen};
+ghost use Rattle.http_plain.specs.Networks.{listening_seen};
 ghost use Rattle.heeded_reply.specs.Claims.{heeded_text};
 ghost use Rattle.heeded_reply.specs.Heeding.{HeedsMarks, HeedsOver};
 ghost use Rattle.heeded_reply.specs.Posted.{PostedSome};

@@ -1,6 +1,7 @@
 pub mod Clients
 pub mod ExchangeLaws
 pub mod Links
+pub mod Networks
 pub mod Pages
 pub mod Plans
 pub mod Shown

@@ -15,7 +15,7 @@ use Rattle.fed_resolver.specs.declared.outcome.Refusal.{Refusal}
 use Rattle.fed_resolver.specs.declared.outcome.Refusal.TheVariants.{NoAnchor, NotFound, PolicyOnly, NoChain, Unavailable, Budget, Worn, Memory}
 use Rattle.fed_resolver.specs.Outcomes.{IsResult, Tells}
 use Rattle.fed_resolver.specs.Told.{Situation, ToldWhole}
-use Rattle.fed_serve.specs.Desks.{NetworkAt}
+use Rattle.http_plain.specs.Networks.{NetworkAt}
 use Rattle.client_register.specs.declared.fault.RegisterFault.{RegisterFault}
 use Rattle.client_register.specs.declared.fault.RegisterFault.TheVariants as fault
 use Rattle.client_register.specs.declared.found.Found.{Found}
@@ -23,8 +23,8 @@ use Rattle.client_register.specs.declared.posted.Posted.{Posted}
 use Rattle.client_register.specs.declared.posted.Posted.TheVariants as posted
 use Rattle.client_register.specs.declared.registered.Registered.{Registered}
 use Rattle.client_register.specs.Finders.{Asks}
-use Rattle.resolver_service.specs.Calls.{HoldsWorn}
-use Rattle.resolver_service.specs.CallSteps.{IsCallAt}
+use Rattle.resolve_call.specs.Calls.{HoldsWorn}
+use Rattle.resolve_call.specs.CallSteps.{IsCallAt}
 use Rattle.register_once.specs.declared.held_finder.HeldFinder.{HeldFinder}
 use Rattle.register_once.specs.Finding.{HasGiven, IsFoundIn, request_for}
 use Rattle.register_once.specs.Opened.{Aimed, IsUnaskedAt, LooksFor, LooksUp, SeeksAt}

@@ -3,7 +3,7 @@ use Rattle.std.proofs.Common.{◌≡◌, ◌⊎◌, ℕ, List, Option, Some, Non
 use Rattle.fed_ports.specs.Stores.{Files}
 use Rattle.fed_ports.specs.Times.{ClockAt, IsOneReading}
 use Rattle.entity_statement.specs.Claims.{Identifier}
-use Rattle.fed_serve.specs.Desks.{NetworkAt}
+use Rattle.http_plain.specs.Networks.{NetworkAt}
 use Rattle.client_register.specs.declared.fault.RegisterFault.{RegisterFault}
 use Rattle.client_register.specs.declared.fault.RegisterFault.TheVariants as fault
 use Rattle.client_register.specs.declared.posted.Posted.{Posted}
@@ -13,8 +13,8 @@ use Rattle.client_register.specs.Answers.{Registers}
 use Rattle.client_register.specs.Requests.{posted_in}
 use Rattle.client_register.specs.Registrations.{Registrar, registrar, request}
 use Rattle.node_files.specs.Moments.{at_moment}
-use Rattle.resolver_service.specs.Calls.{Around as CallAround, around as around_call}
-use Rattle.resolver_service.proofs.CallLaws.{call-by}
+use Rattle.resolve_call.specs.Calls.{Around as CallAround, around as around_call}
+use Rattle.resolve_call.proofs.CallLaws.{call-by}
 use Rattle.register_once.specs.declared.opening.Opened.{Opened}
 use Rattle.register_once.specs.declared.registering.RegisterOutcome.{RegisterOutcome}
 use Rattle.register_once.specs.Finding.{request_for}

@@ -6,7 +6,7 @@ use Rattle.entity_statement.specs.Claims.{Identifier}
 use Rattle.statement_shelf.specs.Passes.{CommonsPass}
 use Rattle.statement_shelf.specs.declared.calls.AnchorKeys.{AnchorKeys}
 use Rattle.fed_resolver.specs.declared.outcome.Outcome.{Outcome}
-use Rattle.fed_serve.specs.Desks.{NetworkAt}
+use Rattle.http_plain.specs.Networks.{NetworkAt}
 use Rattle.client_register.specs.declared.found.Found.{Found}
 use Rattle.client_register.specs.declared.posted.Posted.{Posted}
 use Rattle.client_register.specs.declared.posted.Posted.TheVariants.{Configuration}
@@ -19,8 +19,8 @@ use Rattle.node_files.specs.ResolvingParts.{ArePartsOf, booked_keys}
 use Rattle.node_files.specs.declared.fault.NodeFault.{NodeFault}
 use Rattle.node_files.specs.declared.fault.NodeFault.TheVariants as fault
 use Rattle.node_files.specs.declared.parts.Parts.{Parts}
-use Rattle.resolver_service.specs.Calls.{HoldsWorn}
-use Rattle.resolver_service.specs.CallSteps.{IsCallAt}
+use Rattle.resolve_call.specs.Calls.{HoldsWorn}
+use Rattle.resolve_call.specs.CallSteps.{IsCallAt}
 use Rattle.register_once.specs.declared.looking.Aim.{Aim}
 use Rattle.register_once.specs.declared.opening.NodeParts.{NodeParts}
 use Rattle.register_once.specs.declared.opening.Opened.{Opened}

@@ -30,7 +30,7 @@ use Rattle.fed_commands.specs.Answers.{IsTextRead}
 use Rattle.node_files.specs.Moments.{NodeAt}
 use Rattle.node_files.specs.NodeFiles.{IsNodeOf, IsResolver}
 use Rattle.node_files.specs.ResolvingParts.{configured_keys}
-use Rattle.resolver_service.specs.Calls.{Around as CallAround, HoldsWorn, IsCallBy}
+use Rattle.resolve_call.specs.Calls.{Around as CallAround, HoldsWorn, IsCallBy}
 use Rattle.register_once.specs.declared.registering.RegisterOutcome.{RegisterOutcome}
 use Rattle.register_once.specs.declared.stop.RegisterStop.{RegisterStop}
 use Rattle.register_once.specs.declared.stop.RegisterStop.TheVariants.{Input, NoAnchor, Source, Store, Memory}

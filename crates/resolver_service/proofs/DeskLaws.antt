@@ -25,7 +25,8 @@ use Rattle.fed_serve.specs.declared.node.Node.{Node}
 use Rattle.fed_serve.specs.declared.served.Served.{Served}
 use Rattle.fed_serve.specs.declared.serving.ServeFault.{ServeFault}
 use Rattle.fed_serve.specs.declared.serving.ServeFault.TheVariants.{ReadFault, WriteFault, Ended, Worn}
-use Rattle.fed_serve.specs.Desks.{AreServedAt, IsFree, IsServedAt, NetworkAt, ServesMany, Views, desks_at}
+use Rattle.fed_serve.specs.Desks.{AreServedAt, IsFree, IsServedAt, ServesMany, Views, desks_at}
+use Rattle.http_plain.specs.Networks.{NetworkAt}
 use Rattle.fed_serve.specs.Handlings.{Handling, dealt, issued, not_asked, resolved, unread}
 use Rattle.fed_serve.specs.Uses.{IsWornBy, Uses}
 use Rattle.resolver_service.specs.declared.stop.Stop.{Stop}

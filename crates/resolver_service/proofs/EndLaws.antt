@@ -12,10 +12,10 @@ use Rattle.statement_shelf.specs.Passes.{CommonsKnown, opened_book}
 use Rattle.statement_shelf.specs.Shelf.{ShelfStep}
 use Rattle.resolve_round.specs.Acts.{HasCounted}
 use Rattle.fed_serve.specs.declared.part.ResolverPart.{ResolverPart}
-use Rattle.fed_serve.specs.Desks.{network_at}
+use Rattle.http_plain.specs.Networks.{network_at}
 use Rattle.fed_serve.specs.declared.node.Node.{Node}
 use Rattle.jwk_set.specs.declared.set.JwkSet.{JwkSet}
-use Rattle.resolver_service.specs.Alone.{HasSeenNothing}
+use Rattle.resolve_call.specs.Alone.{HasSeenNothing}
 use Rattle.node_files.specs.ResolvingParts.{ArePartsOf}
 use Rattle.node_files.specs.declared.parts.Parts.{Parts}
 use Rattle.node_files.specs.declared.fault.NodeFault.{NodeFault}

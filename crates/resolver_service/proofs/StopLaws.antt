@@ -20,7 +20,8 @@ use Rattle.resolve_round.specs.Acts.{HasCounted}
 use Rattle.fed_serve.specs.declared.part.ResolverPart.{ResolverPart}
 use Rattle.fed_serve.specs.declared.desk.Desk.{Desk}
 use Rattle.fed_serve.specs.declared.node.Node.{Node}
-use Rattle.fed_serve.specs.Desks.{IsServedAt, NetworkAt, ServesMany, Views, desks_at}
+use Rattle.fed_serve.specs.Desks.{IsServedAt, ServesMany, Views, desks_at}
+use Rattle.http_plain.specs.Networks.{NetworkAt}
 use Rattle.resolver_service.specs.declared.stop.Stop.{Stop}
 use Rattle.resolver_service.specs.declared.stop.Stop.TheVariants as stop
 use Rattle.resolver_service.specs.Batches.{AreEnded, IsNewDesk, Progress, ServesDesks, ServiceViews, Setup, Standing, at_desks, is_worn, peers_at, peers_of, progress, setup, standing}

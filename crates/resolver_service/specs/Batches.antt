@@ -18,9 +18,10 @@ use Rattle.fed_serve.specs.declared.node.Node.{Node}
 use Rattle.fed_serve.specs.declared.served.Served.{Served}
 use Rattle.fed_serve.specs.declared.serving.ServeFault.{ServeFault}
 use Rattle.fed_serve.specs.declared.serving.ServeFault.TheVariants.{Worn}
-use Rattle.fed_serve.specs.Desks.{AreServedAt, IsServedAt, NetworkAt, Views, views_of}
+use Rattle.fed_serve.specs.Desks.{AreServedAt, IsServedAt, Views, views_of}
+use Rattle.http_plain.specs.Networks.{NetworkAt}
 use Rattle.fed_serve.specs.Moments.{PeerAt}
-use Rattle.resolver_service.specs.Exchanged.{link_gave}
+use Rattle.resolve_call.specs.Exchanged.{link_gave}
 
 -- ---- one moment
 

@@ -12,11 +12,11 @@ use Rattle.statement_shelf.specs.Passes.{CommonsKnown}
 use Rattle.statement_shelf.specs.Shelf.{ShelfStep}
 use Rattle.resolve_round.specs.Acts.{HasCounted}
 use Rattle.fed_serve.specs.declared.node.Node.{Node}
-use Rattle.fed_serve.specs.Desks.{NetworkAt}
+use Rattle.http_plain.specs.Networks.{NetworkAt}
 use Rattle.node_files.specs.Moments.{NodeAt}
 use Rattle.node_files.specs.Orders.{Order}
 use Rattle.node_files.specs.NodeFiles.{IsNodeOf, IsResolver}
-use Rattle.resolver_service.specs.Alone.{HasSeenNothing}
+use Rattle.resolve_call.specs.Alone.{HasSeenNothing}
 use Rattle.resolver_service.specs.declared.ending.ResolverEnd.{ResolverEnd}
 use Rattle.resolver_service.specs.declared.ending.ResolverEnd.TheVariants as ends
 use Rattle.resolver_service.specs.Batches.{ServesAll, ServiceViews, Setup, Standing, setup, standing}

@@ -1,13 +1,8 @@
-pub mod Alone
 pub mod Batches
-pub mod CallSteps
-pub mod Calls
 pub mod Ends
-pub mod Exchanged
 pub mod Faults
 pub mod Nodes
 pub mod Ports
 pub mod Precedence
 pub mod Steps
 pub mod Stopped
-pub mod Webs

@@ -5,14 +5,13 @@ use Rattle.fed_ports.specs.declared.link.Link.{Ghosts as LinkGhosts}
 use Rattle.fed_ports.specs.declared.network.Network.{Ghosts as NetworkGhosts}
 use Rattle.fed_ports.specs.declared.sink.Sink.{Ghosts as SinkGhosts}
 use Rattle.fed_ports.specs.declared.source.Source.{Ghosts as SourceGhosts}
-use Rattle.fed_ports.specs.Times.{ClockAt, clock_at}
-use Rattle.http_plain.specs.Links.{Listening, listening}
+use Rattle.http_plain.specs.Networks.{listening_seen, network_seen}
 use Rattle.statement_shelf.specs.Passes.{CommonsKnown}
 use Rattle.fed_serve.specs.Resolutions.{call_at}
-use Rattle.fed_serve.specs.Desks.{NetworkAt, Views, network_at, views_of}
+use Rattle.fed_serve.specs.Desks.{Views, views_of}
 use Rattle.fed_serve.specs.Moments.{PeerAt, peer_at}
 use Rattle.resolver_service.specs.Batches.{Progress, ServiceViews, Standing, progress, service_views, standing}
-use Rattle.resolver_service.specs.Calls.{Around as CallAround, around as around_call}
+use Rattle.resolve_call.specs.Ports.{clock_seen}
 use Rattle.resolver_service.specs.Ends.{Around, around}
 
 -- ---- one port
@@ -20,21 +19,7 @@ use Rattle.resolver_service.specs.Ends.{Around, around}
 abbrev pub peer_seen : {P : Type 0} → SourceGhosts P → SinkGhosts P → P → PeerAt
 peer_seen source sink peer = peer_at (source.left peer) (sink.held peer) (source.read_faults peer) (sink.write_faults peer)
 
-abbrev pub clock_seen : {C : Type 0} → ClockGhosts C → C → ClockAt
-clock_seen shown clock = clock_at (shown.readings clock) (shown.last clock) (shown.told clock)
-
-abbrev pub network_seen : {N P : Type 0} → NetworkGhosts N P → N → NetworkAt P
-network_seen shown net = network_at (shown.port net) (shown.exchanges net) (shown.callers net) (shown.settled net) (shown.faults net)
-
--- how a network listens
-abbrev pub listening_seen : {N P : Type 0} → NetworkGhosts N P → N → Listening P
-listening_seen shown net = listening (shown.port net) (shown.callers net) (shown.settled net)
-
 -- ---- several of them
-
--- around one call
-abbrev pub call_seen : {N P C : Type 0} → NetworkGhosts N P → ClockGhosts C → N → C → CallAround
-call_seen shown times net clock = around_call (clock_seen times clock) (shown.exchanges net) (shown.faults net)
 
 -- around a service
 abbrev pub around_seen : {N P C : Type 0} → NetworkGhosts N P → ClockGhosts C → N → C → Around P

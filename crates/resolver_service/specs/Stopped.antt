@@ -10,7 +10,8 @@ use Rattle.statement_shelf.specs.declared.calls.ShelfCall.TheVariants.{Purge}
 use Rattle.statement_shelf.specs.declared.calls.ShelfReply.{ShelfReply}
 use Rattle.fed_serve.specs.declared.desk.Desk.{Desk}
 use Rattle.fed_serve.specs.declared.node.Node.{Node}
-use Rattle.fed_serve.specs.Desks.{AreServedAt, IsServedAt, NetworkAt, Views}
+use Rattle.fed_serve.specs.Desks.{AreServedAt, IsServedAt, Views}
+use Rattle.http_plain.specs.Networks.{NetworkAt}
 use Rattle.resolver_service.specs.Batches.{AreBatches, Batch, IsNewDesk, IsSized, Setup, Standing, at_desks, is_worn, peers_at}
 
 -- ---- peers

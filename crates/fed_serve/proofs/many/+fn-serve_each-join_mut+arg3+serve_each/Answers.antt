@@ -4,7 +4,7 @@ use Rattle.std.proofs.Crossing.{crosses}
 use Rattle.std.proofs.lemmas.Result.{err_from_is_err_and}
 use denote.Param.{param}
 use denote.Param.Send.{IsSend, IsSync, sendable}
-use Rattle.fed_serve.specs.Desks.{network_at}
+use Rattle.http_plain.specs.Networks.{network_at}
 use Rattle.fed_serve.proofs.Crossings.{node_sync}
 use Rattle.fed_serve.proofs.DeskLaws.{IsAccepted, IsRefused, first_free, rest_free, serves_fewer, serves_more, serves_none}
 use Rattle.fed_serve.proofs.many.+fn-serve_each-join_mut+arg3+serve_each.Goals as goal

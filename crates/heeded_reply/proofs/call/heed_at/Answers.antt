@@ -4,7 +4,7 @@ use Rattle.sealed.specs.Sealing.{IsSealedFor}
 use Rattle.fed_resolver.specs.Outcomes.{HasChainEnd, HasConfigs}
 use Rattle.fed_resolver.specs.Told.{situation_of}
 use Rattle.resolve_reply.specs.declared.signer.Signer.{Signer}
-use Rattle.resolver_service.specs.Ports.{network_seen}
+use Rattle.http_plain.specs.Networks.{network_seen}
 use Rattle.heeded_reply.specs.Calls.{HearsBy, wire_at}
 use Rattle.heeded_reply.specs.Heeding.{caller_of}
 use Rattle.heeded_reply.proofs.call.heed_at.Goals as goal

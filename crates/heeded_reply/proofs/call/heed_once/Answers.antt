@@ -1,8 +1,9 @@
 use Rattle.std.proofs.Common.{refl, sym, subst}
 use Rattle.std.proofs.lemmas.Result.{err_from_is_err_and}
 use Rattle.fed_ports.specs.Times.{IsOneReading, Told}
-use Rattle.resolver_service.specs.Ports.{clock_seen, network_seen}
-use Rattle.resolver_service.proofs.CallLaws.{no-memory, no-node}
+use Rattle.resolve_call.specs.Ports.{clock_seen}
+use Rattle.http_plain.specs.Networks.{network_seen}
+use Rattle.resolve_call.proofs.CallLaws.{no-memory, no-node}
 use Rattle.heeded_reply.specs.Calls.{IsHeardAt}
 use Rattle.heeded_reply.proofs.CallLaws.{heard-once, heeds-none}
 use Rattle.heeded_reply.proofs.call.heed_once.Goals as goal

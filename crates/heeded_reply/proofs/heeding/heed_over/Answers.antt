@@ -2,7 +2,7 @@ use Rattle.std.proofs.Common.{ap, ◌∙◌}
 use Rattle.std.specs.Prelude.{length}
 use Rattle.http_plain.specs.Links.{link_network, link_routes}
 use Rattle.mark_status.specs.Heeding.{heeding_of}
-use Rattle.resolver_service.specs.Ports.{listening_seen}
+use Rattle.http_plain.specs.Networks.{listening_seen}
 use Rattle.heeded_reply.proofs.PostLaws.{heeds-back, some-back, still-back}
 use Rattle.heeded_reply.proofs.heeding.heed_over.Goals as goal
 

@@ -1,6 +1,6 @@
 use Rattle.std.proofs.Common.{refl, subst}
-use Rattle.resolver_service.specs.CallSteps.{IsCallAt}
-use Rattle.resolver_service.specs.Ports.{network_seen}
+use Rattle.resolve_call.specs.CallSteps.{IsCallAt}
+use Rattle.http_plain.specs.Networks.{network_seen}
 use Rattle.register_once.specs.Finding.{request_for}
 use Rattle.register_once.specs.Opened.{aimed_of}
 use Rattle.register_once.proofs.FinderLaws.{carries, looked-up}

@@ -1,7 +1,8 @@
 use Rattle.std.proofs.Common.{refl, sym, subst}
 use Rattle.std.proofs.lemmas.Result.{err_from_is_err_and}
 use Rattle.fed_ports.specs.Times.{IsOneReading, Told}
-use Rattle.resolver_service.specs.Ports.{call_seen, clock_seen, network_seen}
+use Rattle.resolve_call.specs.Ports.{call_seen, clock_seen}
+use Rattle.http_plain.specs.Networks.{network_seen}
 use Rattle.register_once.specs.Opened.{IsRegistrationAt, wanted_of}
 use Rattle.register_once.proofs.OutcomeLaws.{registration-by}
 use Rattle.register_once.proofs.registering.register_once.Goals as goal

@@ -1,7 +1,7 @@
 use Rattle.std.proofs.Common.{ap, subst, sym}
 use Rattle.client_register.specs.Finders.{FinderSeen}
 use Rattle.client_register.specs.Requests.{posted_in}
-use Rattle.resolver_service.specs.Ports.{network_seen}
+use Rattle.http_plain.specs.Networks.{network_seen}
 use Rattle.register_once.specs.Opened.{LooksFor, aimed}
 use Rattle.register_once.proofs.FinderLaws.{counted, seeks}
 use Rattle.register_once.proofs.registering.register_over.Goals as goal

@@ -1,6 +1,6 @@
 use Rattle.std.proofs.Common.{rules, ◌≤◌, length, refl}
 use Rattle.turn_log.specs.Groups.{known}
-use Rattle.fed_serve.specs.Desks.{network_at}
+use Rattle.http_plain.specs.Networks.{network_at}
 use Rattle.resolver_service.proofs.DeskLaws.{all_done, all_taken, many_as, served_length, whole_again}
 use Rattle.resolver_service.proofs.StopLaws.{serves_ended, stops_desks, stops_first}
 use Rattle.resolver_service.proofs.batch.serve_desks.Goals as goal

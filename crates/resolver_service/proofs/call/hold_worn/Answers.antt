@@ -1,9 +1,0 @@
-use Rattle.std.proofs.Common.{refl, ◌∙◌, sym}
-use Rattle.resolver_service.proofs.CallLaws.{held-worn, none-worn}
-use Rattle.resolver_service.proofs.call.hold_worn.Goals as goal
-
-pub returns-then-is_worn : goal.returns-then-is_worn
-returns-then-is_worn c = held-worn c.args.outcome.now.result c.args.pass _ (sym c.is_worn.ensures ∙ c.if-is_worn.true) c.requires.only refl
-
-pub returns-else-is_worn : goal.returns-else-is_worn
-returns-else-is_worn c = none-worn c.args.outcome.now.result _ (sym c.is_worn.ensures ∙ c.if-is_worn.false) c.requires.none
