@@ -6,7 +6,7 @@ use Rattle.client_register.specs.declared.fault.RegisterFault.TheVariants.{Form,
 use Rattle.client_register.specs.declared.registered.Registered.{Registered}
 use Rattle.fed_commands.specs.Checks.{lines_of}
 use Rattle.node_files.specs.Moments.{at_moment}
-use Rattle.resolve_call.specs.Calls.{around as around_call}
+use Rattle.resolve_call.specs.Ports.{around as around_call}
 use Rattle.register_once.specs.declared.registering.RegisterOutcome.{RegisterOutcome}
 use Rattle.register_once.specs.declared.stop.RegisterStop.{RegisterStop}
 use Rattle.register_once.specs.declared.stop.RegisterStop.TheVariants as stop

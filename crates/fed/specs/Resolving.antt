@@ -19,7 +19,8 @@ use Rattle.statement_shelf.specs.declared.calls.ShelfReply.{ShelfReply}
 use Rattle.statement_shelf.specs.declared.calls.BookCall.{BookCall}
 use Rattle.statement_shelf.specs.declared.calls.BookReply.{BookReply}
 use Rattle.resolve_round.specs.Acts.{HasCounted}
-use Rattle.resolve_call.specs.Calls.{At, Question, ResolvesOnce, around}
+use Rattle.resolve_call.specs.Calls.{At, Question, ResolvesOnce}
+use Rattle.resolve_call.specs.Ports.{around}
 use Rattle.node_files.specs.Moments.{at_moment}
 use Rattle.fed.specs.Authorities.{Outside, WritesLine, input_line}
 

@@ -1,7 +1,7 @@
 -- A reply on the chain that the leaf's last round found.
 use Rattle.std.proofs.Common.{◌≡◌, ◌+◌, ℕ, List, [], ◌++◌, length, Some, Ok, refl, sym, ap, ap₂, ◌∙◌, subst, inl, inr, ⊎_elim}
 use Rattle.std.specs.Prelude.{slice_index_or}
-use Rattle.std.specs.Option.{option_map_or}
+use Rattle.std.specs.Option.{option_and_then, option_map_or}
 use Rattle.jwk_set.specs.declared.set.JwkSet.{JwkSet}
 use Rattle.entity_statement.specs.Claims.{Claims, Identifier}
 use Rattle.entity_statement.specs.Signed.{statement_of}
@@ -29,14 +29,15 @@ use Rattle.resolve_round.specs.Traces.{IsWork}
 use Rattle.resolve_search.specs.declared.round.FoundChain.{FoundChain}
 use Rattle.resolve_search.specs.Turning.{query_at}
 use Rattle.fed_resolver.specs.Going.{HasIssuers, HasLeaf, first_aim, first_text, last_text}
-use Rattle.fed_resolver.specs.Outcomes.{HasChainEnd, HasConfigs, IsReply, IsResult, LastReplies, asked_query}
+use Rattle.fed_resolver.specs.Outcomes.{HasChainEnd, HasConfigs, HasEnds, IsReply, IsResult, LastReplies, asked_query}
 use Rattle.fed_resolver.specs.Refusals.{outcome_of}
 use Rattle.fed_resolver.specs.Replying.{IsMarked}
 use Rattle.fed_resolver.specs.Searches.{Ends, both_ends, ends_of, found_keys, found_texts, issuers_after, judging_after, keys_said, marks_tested}
 use Rattle.fed_resolver.specs.Stretches.{SameKeys}
 use Rattle.fed_resolver.specs.Told.{Situation, ToldWhole, situation_of}
 use Rattle.fed_resolver.specs.Uses.{CountsAll}
-use Rattle.fed_resolver.proofs.EndTexts.{Says, first-says, last-says}
+use Rattle.fed_resolver.proofs.EndTexts.{Says, first-got, first-says, last-got-there, last-says}
+use Rattle.fed_resolver.proofs.IssuedLaws.{issuer-chain}
 use Rattle.fed_resolver.proofs.MarkCounts.{configs-along, good-along, tests-along}
 use Rattle.fed_resolver.proofs.WholeLaws.{whole-query, whole_told}
 use Rattle.fed_base.specs.Counts.{counted}
@@ -130,6 +131,14 @@ module _ (request : ResolveRequest) (signer : Signer) (t : ℕ) (mid new : Trace
   abbrev texts : Texts
   texts = chain_of (pages_in last) leaf.path
 
+  says-ends : HasEnds query texts ends
+  says-ends = record {
+    leaf = ap (option_and_then statement_of) (first-got query last leaf.rounds.last_round leaf.path leaf.is_path mid chain leaf.is_found) ∙ own_reads;
+    of_leaf = (sym (ap (λ (c : Claims). c.iss) own-is) ∙ own-says.of.0, of-leaf);
+    anchor = ap (option_and_then statement_of) (last-got-there query last leaf.rounds.last_round leaf.path leaf.is_path mid chain leaf.is_found) ∙ anchor_reads;
+    of_anchor = (sym (ap (λ (c : Claims). c.iss) anchor-is) ∙ anchor-says.of.0, sym (ap (λ (c : Claims). c.sub) anchor-is) ∙ anchor-says.of.1);
+  }
+
   module _ (reply : Reply) (marked : IsMarked (record { judging = by_kept; texts = text_of kept }) own.marks request signer chain reply) where
     abbrev is_reply : IsReply query request.types signer last has.others reply
     is_reply = record {
@@ -142,6 +151,8 @@ module _ (request : ResolveRequest) (signer : Signer) (t : ℕ) (mid new : Trace
       resolves = leaf.is_found.verdict.1.metadata;
       ends = ends;
       are_ends = ends-are;
+      says_ends = says-ends;
+      issuers = issuer-chain query (issuers_after query last) has.others rounds;
       good = marked.good;
       are_good = subst (λ exp. AreGood (judging_after query anchor has.others) (looked_at own.marks) exp marked.good) leaf.is_found.verdict.1.exp (good-marks chain.resolved.exp marked.good marked.are_good);
       says = subst (λ ts. IsReplyOf signer (record { sub = request.sub; iat = t; exp = marked.good.exp; metadata = cut_to request.types chain.resolved.metadata; chain = ts; marks = marked.good.entries }) reply) leaf.is_found.are marked.says;

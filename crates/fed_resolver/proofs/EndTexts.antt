@@ -1,5 +1,5 @@
 -- The first text of a chain that was found is the configuration of its entity, and the last one that of the anchor.
-use Rattle.std.proofs.Common.{◌≡◌, ◌<◌, ℕ, List, [], ◌∷◌, ◌++◌, length, Bool, true, false, cond, Some, refl, sym, ap, ◌∙◌, subst, length-append, lt-ltb, arith}
+use Rattle.std.proofs.Common.{◌≡◌, ◌<◌, ◌-◌, ℕ, List, [], ◌∷◌, ◌++◌, length, Bool, true, false, cond, Some, refl, sym, ap, ◌∙◌, subst, length-append, lt-ltb, arith}
 use Rattle.std.specs.Prelude.{nat_lt, slice_get}
 use Rattle.std.specs.List.{cons_option, filter_map}
 use Rattle.std.specs.Option.{option_map_or}
@@ -49,6 +49,17 @@ last-tried (tried ∷ next ∷ chain) (x ∷ front) text is =
     let rest : texts_of (next ∷ chain) ≡ front ++ text ∷ [] = cc is in
     last-more tried next chain ∙ last-tried (next ∷ chain) front text rest
 
+-- the last of some texts, by its place
+at-end : (front : List (List ℕ)) (text : List ℕ) → slice_get (front ++ text ∷ []) (length front) ≡ Some text
+at-end [] text = refl
+at-end (x ∷ front) text = at-end front text
+
+last-place : (front : List (List ℕ)) (text : List ℕ) → slice_get (front ++ text ∷ []) (length (front ++ text ∷ []) - 1) ≡ Some text
+last-place front text =
+    let n = length-append front (text ∷ []) in
+    let place : length (front ++ text ∷ []) - 1 ≡ length front = omega (arith, n) in
+    ap (slice_get (front ++ text ∷ [])) place ∙ at-end front text
+
 -- ---- paths
 
 module _ (good : Findings) (leaf anchor : Identifier) (depth : ℕ) where
@@ -68,7 +79,7 @@ module _ (good : Findings) (leaf anchor : Identifier) (depth : ℕ) where
   begins-by true urls rest last is = (rest ++ last ∷ [], ap (λ l. l ++ last ∷ []) is)
   begins-by false urls rest last is = (rest, is)
 
-  chain-begins : (path : Path) → IsPath good leaf anchor depth path → (more : List (List ℕ)) × (chain_urls path ≡ well_known_of leaf ∷ more)
+  pub chain-begins : (path : Path) → IsPath good leaf anchor depth path → (more : List (List ℕ)) × (chain_urls path ≡ well_known_of leaf ∷ more)
   chain-begins path is_path = let b = urls-begin is_path in begins-by (nat_lt 1 (length path.entities)) path.urls b.0 (well_known_of (last_of path)) b.1
 
   -- the last entity's configuration is good, and comes last in the chain
@@ -95,7 +106,7 @@ module _ (good : Findings) (leaf anchor : Identifier) (depth : ℕ) where
 
 -- ---- chains
 
-then-text : (pages : Pages) (url text : List ℕ) (urls : List (List ℕ)) → pages url ≡ Some text → filter_map pages (url ∷ urls) ≡ text ∷ filter_map pages urls
+pub then-text : (pages : Pages) (url text : List ℕ) (urls : List (List ℕ)) → pages url ≡ Some text → filter_map pages (url ∷ urls) ≡ text ∷ filter_map pages urls
 then-text pages url text urls is = ap (λ o. cons_option o (filter_map pages urls)) is
 
 -- what is said of an entity that a search found
@@ -132,17 +143,21 @@ module _ (query : Query) (course : Course) (round : Round query course) (path : 
         of = words.names;
       }
 
-  -- it is the first text of the chain that the round found
-  pub first-there : first_text_of course ≡ Some (first_text chain.texts)
-  unfolding chain_of first_text_of
-  first-there =
+  -- it stands first in the path's chain
+  pub first-got : slice_get (chain_of (pages_in course) path) 0 ≡ Some (first_text chain.texts)
+  unfolding chain_of
+  first-got =
       let own = leaf-good (good_in query course) query.entity query.anchor query.bounds.depth whole in
       let words = statement-words (pages_in course) query.moment (configuration_of query.entity) own.0 own.1 in
       let urls = chain-begins (good_in query course) query.entity query.anchor query.bounds.depth path whole in
       let got : filter_map (pages_in course) (chain_urls path) ≡ words.text ∷ filter_map (pages_in course) urls.0 =
       ap (filter_map (pages_in course)) urls.1 ∙ then-text (pages_in course) (well_known_of query.entity) words.text urls.0 words.there in
-      ap (text_by (pages_in course)) stop ∙ ap (λ ts. slice_get ts 0) got
-      ∙ ap Some (sym (first-tried chain.texts words.text (filter_map (pages_in course) urls.0) (is.are ∙ got)))
+      ap (λ ts. slice_get ts 0) got ∙ ap Some (sym (first-tried chain.texts words.text (filter_map (pages_in course) urls.0) (is.are ∙ got)))
+
+  -- and so in the chain that the round found
+  pub first-there : first_text_of course ≡ Some (first_text chain.texts)
+  unfolding first_text_of
+  first-there = ap (text_by (pages_in course)) stop ∙ first-got
 
   -- the last one is the anchor's
   pub last-says : Says query course query.anchor (last_text chain.texts)
@@ -162,3 +177,19 @@ module _ (query : Query) (course : Course) (round : Round query course) (path : 
         reads = ap statement_of (last-tried chain.texts (filter_map (pages_in course) end.front) words.text texts) ∙ words.reads;
         of = words.names;
       }
+
+  -- it stands last in the path's chain
+  pub last-got-there : slice_get (chain_of (pages_in course) path) (length (chain_of (pages_in course) path) - 1) ≡ Some (last_text chain.texts)
+  unfolding chain_of
+  last-got-there =
+      let end = chain-ends (good_in query course) query.entity query.anchor query.bounds.depth whole in
+      let good : good_in query course (configuration_of query.anchor) ≡ Some end.own = subst (λ e. good_in query course (configuration_of e) ≡ Some end.own) ends-there end.is_good in
+      let words = statement-words (pages_in course) query.moment (configuration_of query.anchor) end.own good in
+      let last : pages_in course (well_known_of (last_of path)) ≡ Some words.text = ap (λ e. pages_in course (well_known_of e)) ends-there ∙ words.there in
+      let got : filter_map (pages_in course) (chain_urls path) ≡ filter_map (pages_in course) end.front ++ words.text ∷ [] =
+      ap (filter_map (pages_in course)) end.urls
+      ∙ filter_map-append (pages_in course) end.front (well_known_of (last_of path) ∷ [])
+      ∙ ap (λ l. filter_map (pages_in course) end.front ++ l) (then-text (pages_in course) (well_known_of (last_of path)) words.text [] last) in
+      ap (λ ts. slice_get ts (length ts - 1)) got
+      ∙ last-place (filter_map (pages_in course) end.front) words.text
+      ∙ ap Some (sym (last-tried chain.texts (filter_map (pages_in course) end.front) words.text (is.are ∙ got)))

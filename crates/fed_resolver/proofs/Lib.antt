@@ -6,6 +6,7 @@ pub mod ChainTexts
 pub mod CourseLaws
 pub mod ElementLaws
 pub mod EndTexts
+pub mod IssuedLaws
 pub mod IssuerLaws
 pub mod KeptLaws
 pub mod MarkCounts

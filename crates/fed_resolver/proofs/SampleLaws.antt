@@ -31,6 +31,8 @@ use Rattle.resolve_reply.specs.declared.signer.Signer.{Signer}
 use Rattle.resolve_round.specs.declared.trace.Trace.{Trace}
 use Rattle.resolve_round.specs.Courses.{Course, pages_of}
 use Rattle.resolve_reply.specs.Marks.{each_named, looked_at, searched_issuers}
+use Rattle.resolve_round.proofs.WordLaws.{statement-words}
+use Rattle.fed_resolver.proofs.IssuedLaws.{issuer-chain}
 use Rattle.fed_resolver.specs.Searches.{ends_of}
 use Rattle.fed_resolver.specs.Outcomes.{IsWhole}
 use Rattle.resolve_round.specs.Pages.{HasValidChain, Query, chain_of, findings, good_text}
@@ -152,6 +154,9 @@ module _ (request : ResolveRequest) (bounds : Bounds) (age moment : ℕ) (signer
   own-good : good_in query course (configuration_of anchor) ≡ Some self.own
   unfolding findings
   own-good = ap (option_and_then (good_text here.moment (configuration_of anchor))) page-there ∙ self.good
+
+  own-names : (self.own.iss ≡ anchor) × (self.own.sub ≡ anchor)
+  own-names = (statement-words (pages_in course) here.moment (configuration_of anchor) self.own own-good).names
 
   own-chain : chain_of (pages_in course) (alone anchor) ≡ self.text ∷ []
   unfolding chain_of
@@ -296,6 +301,8 @@ module _ (request : ResolveRequest) (bounds : Bounds) (age moment : ℕ) (signer
         resolves = self.resolves;
         ends = record { leaf = self.own; anchor = self.own };
         are_ends = own-ends;
+        says_ends = record { leaf = self.reads; of_leaf = own-names; anchor = self.reads; of_anchor = own-names };
+        issuers = issuer-chain (query_of here set.keys) [] [] refl;
         good = record { entries = []; exp = least_exp (statements_of (self.text ∷ [])); configs = [] };
         are_good = rw no-marks (record { marks = []; those = refl; entries_are = refl; exp_is = refl });
         says = record { claims = refl; text = refl };

@@ -1,7 +1,10 @@
 -- Which result a call has, by what its trace tells: each comes only where it says, and no two say the same.
-use Rattle.std.specs.Prelude.{◌≡◌, ℕ, List, Some, Result, Ok, Err}
+use Rattle.std.specs.Prelude.{◌≡◌, ◌-◌, ℕ, List, length, slice_get, Some, Result, Ok, Err}
+use Rattle.std.specs.Option.{option_and_then}
 use Rattle.fed_json.specs.declared.tree.Json.{Json}
-use Rattle.entity_statement.specs.Claims.{Identifier}
+use Rattle.jwk_set.specs.declared.jwk.Jwk.{Jwk}
+use Rattle.entity_statement.specs.Claims.{Claims, Identifier}
+use Rattle.entity_statement.specs.Signed.{statement_of}
 use Rattle.chain_check.specs.Chains.{Texts, statements_of}
 use Rattle.chain_check.specs.Validity.{IsValid, ResolvesTo, case_of}
 use Rattle.chain_check.specs.Verdicts.{least_exp}
@@ -37,6 +40,25 @@ said_of query types chain metadata good = record {
   marks = good.entries;
 }
 
+-- what the ends of a chain say (OpenID Federation 1.0 section 4)
+pub record HasEnds (query : Query) (chain : Texts) (ends : Ends) : Type 0 where
+  -- the first text is the requested entity's own configuration
+  pub leaf : option_and_then statement_of (slice_get chain 0) ≡ Some ends.leaf
+  pub of_leaf : (ends.leaf.iss ≡ query.entity) × (ends.leaf.sub ≡ query.entity)
+  -- the last is the trust anchor's, which lists who may issue trust marks
+  pub anchor : option_and_then statement_of (slice_get chain (length chain - 1)) ≡ Some ends.anchor
+  pub of_anchor : (ends.anchor.iss ≡ query.anchor) × (ends.anchor.sub ≡ query.anchor)
+
+-- these are the keys of an issuer that has a chain: by itself it is valid for the anchor, under its keys and at the moment, and it begins
+-- with the issuer's own configuration, which says these keys
+pub record HasIssuerChain (query : Query) (issuer : Identifier) (keys : List Jwk) : Type 0 where
+  pub chain : Texts
+  pub valid : IsValid (case_of chain query.anchor query.keys query.moment)
+  pub config : Claims
+  pub first : option_and_then statement_of (slice_get chain 0) ≡ Some config
+  pub of : (config.iss ≡ issuer) × (config.sub ≡ issuer)
+  pub says : config.keys ≡ keys
+
 -- the reply carries the chain of the path that the round found, and says what this chain says
 pub record IsReply (query : Query) (types : List (List ℕ)) (signer : Signer) (last : Course) (others : List Course) (reply : Reply) : Type 0 where
   pub path : Path
@@ -48,10 +70,13 @@ pub record IsReply (query : Query) (types : List (List ℕ)) (signer : Signer) (
   -- the leaf's metadata under the merged policy
   pub metadata : Json
   pub resolves : ResolvesTo (statements_of chain) metadata
-  -- the good marks among those that are looked at, in order, and the least end of the chain and of theirs
+  -- the good marks among those that are looked at, in order, and the least end of the chain and of theirs: each was judged by the keys of
+  -- an issuer that has a valid chain
   pub ends : Ends
   pub are_ends : ends_of query last ≡ Some ends
+  pub says_ends : HasEnds query chain ends
   pub good : GoodMarks
+  pub issuers : (issuer : Identifier) (keys : List Jwk) → found_keys query others issuer ≡ Some keys → HasIssuerChain query issuer keys
   pub are_good : AreGood (judging_after query ends.anchor others) (looked_at ends.leaf.marks) (least_exp (statements_of chain)) good
   -- what is said and signed
   pub says : IsReplyOf signer (said_of query types chain metadata good) reply

@@ -6,7 +6,7 @@ ghost use Rattle.fed_json.specs.Compact.{compact};
 ghost use Rattle.sealed.specs.Sealing.{IsSealedFor, IsSignedAs};
 ghost use Rattle.statement_shelf.specs.Passes.{IsPassOfAll};
 ghost use Rattle.resolve_reply.specs.Bounds.{bounds_for};
-ghost use Rattle.resolve_reply.specs.Replies.{SaysReply, reply_type};
+ghost use Rattle.resolve_reply.specs.Replies.{ReadsBack, SaysReply, reply_type};
 ghost use Rattle.resolve_round.specs.Acts.{IsKept};
 ghost use Rattle.resolve_round.specs.Linking.{link_view};
 ghost use Rattle.resolve_round.specs.Calls.{HasPass, SameParts};
@@ -61,6 +61,7 @@ pub fn resolve<R: Wait + Threads + Sync, L: Link, G: Ledger>(
     ensures sealed { IfOk result.result (λ reply. IsSealedFor signer.now.keys reply.text) }
     // Whatever its length, it is signed under the signer's key.
     ensures signed { IfOk result.result (λ reply. IsSignedAs signer.now.keys reply_type (compact reply.claims) reply.text) }
+    ensures reads { IfOk result.result (λ reply. ReadsBack signer.now.keys reply.claims reply.text) }
     // Its claims can be sealed anew, with another end and other marks.
     ensures says { IfOk result.result (λ reply. SaysReply reply.claims) }
     // Beside it stand the end of its chain, and for each of its marks the configuration that the mark was judged by.
@@ -119,6 +120,7 @@ fn answer<R: Wait + Threads + Sync, L: Link, G: Ledger>(
     ensures complete { IsComplete (situation_of request.now signer.now t) signer.now (L.web link.old) (L.link_faults link.old) (L.link_faults link.new) (outcome_of result call.new.trace.now) }
     ensures sealed { IfOk result (λ reply. IsSealedFor signer.now.keys reply.text) }
     ensures signed { IfOk result (λ reply. IsSignedAs signer.now.keys reply_type (compact reply.claims) reply.text) }
+    ensures reads { IfOk result (λ reply. ReadsBack signer.now.keys reply.claims reply.text) }
     ensures says { IfOk result (λ reply. SaysReply reply.claims) }
     ensures chain_exp { IfOk result (HasChainEnd (situation_of request.now signer.now t) signer.now call.new.trace.now) }
     ensures configs { IfOk result (HasConfigs (situation_of request.now signer.now t) signer.now call.new.trace.now) }
@@ -154,6 +156,7 @@ fn search<R: Wait + Threads + Sync, L: Link, G: Ledger>(
     ensures counted { CountsTests (situation_of request.now signer.now t) signer.now (outcome_of result call.new.trace.now) result (G.count call.old.steps.now.ledger) (G.count call.new.steps.now.ledger) }
     ensures sealed { IfOk result (λ reply. IsSealedFor signer.now.keys reply.text) }
     ensures signed { IfOk result (λ reply. IsSignedAs signer.now.keys reply_type (compact reply.claims) reply.text) }
+    ensures reads { IfOk result (λ reply. ReadsBack signer.now.keys reply.claims reply.text) }
     ensures says { IfOk result (λ reply. SaysReply reply.claims) }
     ensures chain_exp { IfOk result (HasChainEnd (situation_of request.now signer.now t) signer.now call.new.trace.now) }
     ensures configs { IfOk result (HasConfigs (situation_of request.now signer.now t) signer.now call.new.trace.now) }

@@ -5,7 +5,7 @@ ghost use Rattle.entity_statement.specs.Told.{told};
 ghost use Rattle.fed_json.specs.Compact.{compact};
 ghost use Rattle.sealed.specs.Sealing.{IsSealedFor, IsSignedAs};
 ghost use Rattle.resolve_reply.specs.Marks.{issuers_by_mark, judging_by, looked_at, tests_of_marks};
-ghost use Rattle.resolve_reply.specs.Replies.{SaysReply, reply_type};
+ghost use Rattle.resolve_reply.specs.Replies.{ReadsBack, SaysReply, reply_type};
 ghost use Rattle.resolve_round.specs.Linking.{link_view};
 ghost use Rattle.resolve_round.specs.Told.{ProvesGood};
 ghost use Rattle.resolve_round.specs.Calls.{Acts, Counted};
@@ -54,6 +54,7 @@ pub(crate) fn reply_on<R: Wait + Threads + Sync, L: Link, G: Ledger>(
         (λ _. CountsSome call.new.trace.now before (G.count call.new.steps.now.ledger)) }
     ensures sealed { IfOk result (λ reply. IsSealedFor signer.now.keys reply.text) }
     ensures signed { IfOk result (λ reply. IsSignedAs signer.now.keys reply_type (compact reply.claims) reply.text) }
+    ensures reads { IfOk result (λ reply. ReadsBack signer.now.keys reply.claims reply.text) }
     ensures says { IfOk result (λ reply. SaysReply reply.claims) }
     ensures chain_exp { IfOk result (HasChainEnd (situation_of request.now signer.now t) signer.now call.new.trace.now) }
     ensures configs { IfOk result (HasConfigs (situation_of request.now signer.now t) signer.now call.new.trace.now) }
@@ -87,6 +88,7 @@ fn reply_by<R: Wait + Threads + Sync, L: Link, G: Ledger>(
         (λ _. CountsSome call.new.trace.now before (G.count call.new.steps.now.ledger)) }
     ensures sealed { IfOk result (λ reply. IsSealedFor signer.now.keys reply.text) }
     ensures signed { IfOk result (λ reply. IsSignedAs signer.now.keys reply_type (compact reply.claims) reply.text) }
+    ensures reads { IfOk result (λ reply. ReadsBack signer.now.keys reply.claims reply.text) }
     ensures says { IfOk result (λ reply. SaysReply reply.claims) }
     ensures chain_exp { IfOk result (HasChainEnd (situation_of request.now signer.now t) signer.now call.new.trace.now) }
     ensures configs { IfOk result (HasConfigs (situation_of request.now signer.now t) signer.now call.new.trace.now) }
@@ -148,6 +150,7 @@ fn sealed_reply<R: Threads + Sync, G: Ledger>(
     ensures reply { IfOk result (IsMarked (marking_by leaf.now.sub (told anchor.now) issuers.now.found t) leaf.now.marks request.now signer.now chain) }
     ensures sealed { IfOk result (λ reply. IsSealedFor signer.now.keys reply.text) }
     ensures signed { IfOk result (λ reply. IsSignedAs signer.now.keys reply_type (compact reply.claims) reply.text) }
+    ensures reads { IfOk result (λ reply. ReadsBack signer.now.keys reply.claims reply.text) }
     ensures says { IfOk result (λ reply. SaysReply reply.claims) }
     ensures counted { MatchResult result
         (λ _. G.count steps.new.ledger ≡ counted (tests_of_marks (judging_by leaf.now.sub (told anchor.now) issuers.now.found t) (looked_at leaf.now.marks)) (G.count steps.old.ledger))

@@ -34,6 +34,7 @@ module _ (v w : Walking) (weaker : (trace : Trace) (result : Result Reply Refusa
       counted = is.2.counted;
       complete = is.2.complete;
       sealed = is.2.sealed;
+      reads = is.2.reads;
     },
   )
   uses node t before now (dealt change dealing) is = is

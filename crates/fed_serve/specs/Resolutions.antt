@@ -5,6 +5,7 @@ use Rattle.fed_ports.specs.Webs.{Web}
 use Rattle.http_messages.specs.declared.response.Response.{Response}
 use Rattle.http_plain.specs.Responses.{HasReason}
 use Rattle.sealed.specs.Sealing.{IsSealedFor}
+use Rattle.resolve_reply.specs.Replies.{ReadsBack}
 use Rattle.turn_log.specs.declared.worn.Worn.{Worn as WornAt}
 use Rattle.statement_shelf.specs.Passes.{CommonsKnown}
 use Rattle.resolve_reply.specs.declared.reply.Reply.{Reply}
@@ -44,6 +45,7 @@ pub record IsResolved (signer : Signer) (request : ResolveRequest) (t : ℕ) (wa
   pub counted : CountsTests (situation_of request signer t) signer outcome outcome.result before.tests now.tests
   pub complete : IsComplete (situation_of request signer t) signer before.web before.faults now.faults outcome
   pub sealed : IfOk outcome.result (λ reply. IsSealedFor signer.keys reply.text)
+  pub reads : IfOk outcome.result (λ reply. ReadsBack signer.keys reply.claims reply.text)
 
 -- the response was made, and its status has a reason; or memory was wanting
 abbrev pub IsMade : Option Response → Result Response Memory → Type 0

@@ -12,6 +12,7 @@ use Rattle.key_ring.specs.Sets.{live_set, signer_keys}
 use Rattle.key_ring.proofs.SetLaws.{signer_named}
 use Rattle.authority_core.specs.Nodes.{Node}
 use Rattle.http_plain.specs.Networks.{NetworkAt}
+use Rattle.node_config.specs.Nodes.{Resolver}
 use Rattle.node_files.specs.Moments.{at_moment}
 use Rattle.node_files.specs.NodeFiles.{IsNodeOf}
 use Rattle.node_files.specs.ResolvingParts.{ArePartsOf, signer_of}
@@ -19,10 +20,13 @@ use Rattle.node_files.specs.declared.fault.NodeFault.{NodeFault}
 use Rattle.node_files.specs.declared.parts.Parts.{Parts}
 use Rattle.resolve_reply.specs.declared.reply.Reply.{Reply}
 use Rattle.resolve_reply.specs.declared.signer.Signer.{Signer}
+use Rattle.resolve_round.specs.declared.request.ResolveRequest.{ResolveRequest}
 use Rattle.resolve_round.specs.declared.trace.Trace.{Trace}
+use Rattle.fed_resolver.specs.declared.outcome.Outcome.{Outcome}
 use Rattle.fed_resolver.specs.declared.outcome.Refusal.{Refusal}
 use Rattle.fed_resolver.specs.Outcomes.{HasChainEnd, HasConfigs}
-use Rattle.resolve_call.specs.Calls.{At, IsCallBy, IsCallOf, Question, ResolvesOnce, around}
+use Rattle.resolve_call.specs.Calls.{At, Follows, IsCallBy, IsCallOf, Question, ResolvesOnce}
+use Rattle.resolve_call.specs.Ports.{Around, around}
 use Rattle.resolve_call.proofs.CallLaws.{call-by}
 use Rattle.heeded_reply.specs.declared.reply.HeededReply.{HeededReply}
 use Rattle.heeded_reply.specs.declared.reply.Heard.{Heard}
@@ -72,7 +76,8 @@ sealed-live (Some h) ring pair signs sealed = λ short. sealed (live_set ring) (
 
 module _ {P : Type 0} (question : Question) (node : Node) (parts : Parts) (files files_now : Option Files) (failed failed_now : ℕ) (first last : ClockAt) (before now : NetworkAt P) (heard : Heard)
     (are : ArePartsOf node parts) (is_node : IsNodeOf files question.config node) (unchanged : files_now ≡ files) (steady : failed_now ≡ failed) (reading : IsOneReading first last)
-    (call : IsHeardAt parts question.request last.last before now heard) where
+    (call : IsHeardAt parts question.request last.last before now heard)
+    (follows : (n : Node) (r : Resolver) (request : ResolveRequest) (a b : Around) (o : Outcome) → (by : IsCallBy n r request a b o) → Follows n r request a b o by) where
   abbrev start : At
   start = at_moment files failed (around first before.exchanges before.faults)
 
@@ -90,7 +95,14 @@ module _ {P : Type 0} (question : Question) (node : Node) (parts : Parts) (files
       let hears =
       subst (λ routes. HearsBy (caller_of question.request (signer_of node are.resolver by.pair) routes last.last) heard.outcome.trace (wire_at call.between) (wire_at now) heard.reply heard.outcome.result) are.routes
       (subst (λ (s : Signer). HearsBy (caller_of question.request s parts.routes last.last) heard.outcome.trace (wire_at call.between) (wire_at now) heard.reply heard.outcome.result) signer call.hears) in
-      let of : IsCallOf question start between heard.outcome = record { node = node; is_node = is_node; resolver = are.resolver; resolves = are.resolves; call = by } in
+      let of : IsCallOf question start between heard.outcome = record {
+        node = node;
+        is_node = is_node;
+        resolver = are.resolver;
+        resolves = are.resolves;
+        call = by;
+        follows = follows node are.resolver question.request (around first before.exchanges before.faults) (around last call.between.exchanges call.between.faults) heard.outcome by;
+      } in
       record {
         between = between;
         resolves = record { calls = of; files = unchanged; store = steady };

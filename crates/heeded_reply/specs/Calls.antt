@@ -12,7 +12,8 @@ use Rattle.resolve_round.specs.declared.request.ResolveRequest.{ResolveRequest}
 use Rattle.resolve_round.specs.declared.trace.Trace.{Trace}
 use Rattle.fed_resolver.specs.declared.outcome.Outcome.{Outcome}
 use Rattle.fed_resolver.specs.declared.outcome.Refusal.{Refusal}
-use Rattle.resolve_call.specs.Calls.{Around, At, IsCallOf, Question, ResolvesOnce}
+use Rattle.resolve_call.specs.Ports.{Around}
+use Rattle.resolve_call.specs.Calls.{At, IsCallOf, Question, ResolvesOnce}
 use Rattle.resolve_call.specs.CallSteps.{IsCallAt}
 use Rattle.heeded_reply.specs.declared.reply.HeededReply.{HeededReply}
 use Rattle.heeded_reply.specs.declared.reply.Heard.{Heard}

@@ -22,6 +22,7 @@ use fed_resolver::{Outcome, ResolveRequest, Signer};
 use http_plain::Route;
 use node_files::{NodeFault, Parts, open_resolver, parts_of};
 use plain_notes::Notes;
+use resolve_call::laws::follows;
 use resolve_call::{OpenCall, open_call, resolve_at};
 use statement_shelf::FedPass;
 use std::alloc::Global;
@@ -67,6 +68,7 @@ pub fn heed_once<R: Wait + Threads + Sync, D: Store, N: Network + Drop, C: Clock
     drop(registry);
     let parts = parts?;
     let call = open_heeding(alloc, parts, net)?;
+    follows();
     // The clock is read once all memory is taken that is needed before the call.
     let moment = clock.now();
     Ok(heed_at(rt, alloc, call, request, moment, net, worn))

@@ -13,7 +13,7 @@ use Rattle.client_register.specs.Answers.{Registers}
 use Rattle.client_register.specs.Requests.{posted_in}
 use Rattle.client_register.specs.Registrations.{Registrar, registrar, request}
 use Rattle.node_files.specs.Moments.{at_moment}
-use Rattle.resolve_call.specs.Calls.{Around as CallAround, around as around_call}
+use Rattle.resolve_call.specs.Ports.{Around as CallAround, around as around_call}
 use Rattle.resolve_call.proofs.CallLaws.{call-by}
 use Rattle.register_once.specs.declared.opening.Opened.{Opened}
 use Rattle.register_once.specs.declared.registering.RegisterOutcome.{RegisterOutcome}

@@ -30,7 +30,8 @@ use Rattle.fed_commands.specs.Answers.{IsTextRead}
 use Rattle.node_files.specs.Moments.{NodeAt}
 use Rattle.node_files.specs.NodeFiles.{IsNodeOf, IsResolver}
 use Rattle.node_files.specs.ResolvingParts.{configured_keys}
-use Rattle.resolve_call.specs.Calls.{Around as CallAround, HoldsWorn, IsCallBy}
+use Rattle.resolve_call.specs.Ports.{Around as CallAround}
+use Rattle.resolve_call.specs.Calls.{HoldsWorn, IsCallBy}
 use Rattle.register_once.specs.declared.registering.RegisterOutcome.{RegisterOutcome}
 use Rattle.register_once.specs.declared.stop.RegisterStop.{RegisterStop}
 use Rattle.register_once.specs.declared.stop.RegisterStop.TheVariants.{Input, NoAnchor, Source, Store, Memory}

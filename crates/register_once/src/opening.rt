@@ -5,7 +5,7 @@ ghost use Rattle.std.specs.Option.{option_copied};
 ghost use Rattle.node_files.specs.Moments.{node_seen};
 ghost use Rattle.node_files.specs.NodeFiles.{Counts};
 ghost use Rattle.node_files.specs.ResolvingParts.{booked_keys};
-ghost use Rattle.resolve_call.specs.Calls.{Around as CallAround};
+ghost use Rattle.resolve_call.specs.Ports.{Around as CallAround};
 ghost use Rattle.register_once.specs.Opened.{AreOf, IsNone, IsOpened, is_of, wanted_of};
 ghost use Rattle.register_once.specs.Registering.{CountsSource, CountsStore, IsStoppedBy, around_seen};
 

@@ -18,6 +18,7 @@ use Rattle.turn_log.specs.Groups.{known}
 use Rattle.statement_shelf.specs.Passes.{CommonsPass}
 use Rattle.resolve_reply.specs.declared.reply.Reply.{Reply}
 use Rattle.resolve_reply.specs.declared.signer.Signer.{Signer}
+use Rattle.resolve_reply.specs.Replies.{ReadsBack}
 use Rattle.resolve_round.specs.declared.trace.Ask.{Ask}
 use Rattle.resolve_round.specs.declared.request.ResolveRequest.{ResolveRequest}
 use Rattle.resolve_round.specs.Traces.{asks_in}
@@ -34,7 +35,8 @@ use Rattle.node_files.specs.declared.fault.NodeFault.TheVariants as fault
 use Rattle.node_files.specs.NodeFiles.{Answers, IsNodeOf, IsResolver}
 use Rattle.node_files.specs.declared.parts.Parts.{Parts}
 use Rattle.resolve_call.specs.Alone.{ResolvesAlone}
-use Rattle.resolve_call.specs.Calls.{At, HasNoCall, HoldsWorn, IsCallBy, Question, around, is_worn}
+use Rattle.resolve_call.specs.Calls.{At, HasNoCall, HoldsWorn, IsCallBy, Question, is_worn}
+use Rattle.resolve_call.specs.Ports.{around}
 use Rattle.resolve_call.specs.Exchanged.{ExchangedBy}
 use Rattle.resolve_call.specs.Calls.{HasKeys}
 use Rattle.resolve_call.specs.CallSteps.{IsCallAt}
@@ -115,6 +117,7 @@ call-by node parts request first last before now outcome are reading call = reco
   faults = call.fails.faults;
   unavailable = call.fails.unavailable;
   sealed = sealed-live outcome.result node.ring are.keys parts.signer.keys are.signs (ap (λ (s : Signer). s.keys) are.signer) call.told.sealed;
+  reads = subst (λ (keys : Keys). IfOk outcome.result (λ reply. ReadsBack keys reply.claims reply.text)) (ap (λ (s : Signer). s.keys) are.signer) call.told.reads;
 }
 
 -- ---- there is no call

@@ -33,7 +33,8 @@ use Rattle.fed_resolver.specs.Outcomes.{IsAnswered, Tells}
 use Rattle.fed_resolver.specs.Told.{Situation, ToldInPart, ToldWhole, situation_of}
 use Rattle.fed_resolver.specs.Uses.{CountsFaults, FetchesFrom, IsComplete, SpeaksFor, faults_met, faults_of}
 use Rattle.resolve_call.specs.Alone.{HitsAreFetched}
-use Rattle.resolve_call.specs.Calls.{Around, IsCallBy}
+use Rattle.resolve_call.specs.Ports.{Around}
+use Rattle.resolve_call.specs.Calls.{IsCallBy}
 use Rattle.resolve_call.specs.Exchanged.{Exchanged, ExchangedBy, ExchangedFor}
 use Rattle.node_files.specs.ResolvingParts.{signer_of}
 use Rattle.resolve_call.specs.Webs.{IsShownBy, ShowsWeb}

@@ -12,6 +12,7 @@ use Rattle.statement_shelf.specs.Passes.{CommonsPass, IsPassOfAll, opened_book}
 use Rattle.statement_shelf.specs.declared.calls.AnchorKeys.{AnchorKeys}
 use Rattle.statement_shelf.specs.declared.commons.SharedCommons.{SharedCommons}
 use Rattle.resolve_reply.specs.declared.signer.Signer.{Signer}
+use Rattle.resolve_reply.specs.Replies.{ReadsBack}
 use Rattle.resolve_round.specs.declared.request.ResolveRequest.{ResolveRequest}
 use Rattle.resolve_round.specs.Traces.{asks_in}
 use Rattle.fed_resolver.specs.declared.outcome.Outcome.{Outcome}
@@ -31,6 +32,7 @@ pub record TellsBy (signer : Signer) (anchors : List AnchorKeys) (request : Reso
   pub alone : ResolvesAlone (situation_of request signer moment) signer anchors outcome
   pub keys : HasKeys (booked_keys request.anchor anchors) outcome.trace.keys.keys outcome.result
   pub sealed : IfOk outcome.result (λ reply. IsSealedFor signer.keys reply.text)
+  pub reads : IfOk outcome.result (λ reply. ReadsBack signer.keys reply.claims reply.text)
 
 -- the link or the network failed only where a round had a fault
 pub record FailsBy (outcome : Outcome) (before now : ℕ) : Type 0 where

@@ -1,8 +1,8 @@
 -- One resolve call of a node over its network: what is asked, the outside before and after, and what is answered.
 use Rattle.std.specs.Prelude.{◌≡◌, ◌≤◌, ◌⊎◌, ℕ, List, [], length, map, Bool, true, false, Option, Some, None, IfOk, Result, Ok, Err}
 use Rattle.fed_base.specs.Counts.{Rose}
-use Rattle.fed_ports.specs.Exchanges.{Exchange}
-use Rattle.fed_ports.specs.Times.{ClockAt, IsOneReading}
+use Rattle.fed_ports.specs.Webs.{Web}
+use Rattle.fed_ports.specs.Times.{IsOneReading}
 use Rattle.jwk_set.specs.declared.jwk.Jwk.{Jwk}
 use Rattle.jws_form.specs.Compact.{max_bytes}
 use Rattle.sealed.specs.Seals.{IsSealedBy}
@@ -10,25 +10,33 @@ use Rattle.slh_dsa.specs.Keys.{Keys}
 use Rattle.key_ring.specs.Sets.{live_set, signer_keys}
 use Rattle.node_config.specs.Nodes.{Resolver, entity_of}
 use Rattle.authority_core.specs.Nodes.{Node}
+use Rattle.chain_climb.specs.Elements.{Among}
 use Rattle.turn_log.specs.Runs.{call_limit}
 use Rattle.turn_log.specs.Groups.{known}
 use Rattle.statement_shelf.specs.Passes.{CommonsPass}
 use Rattle.statement_shelf.specs.declared.calls.AnchorKeys.{AnchorKeys}
 use Rattle.resolve_reply.specs.declared.reply.Reply.{Reply}
+use Rattle.resolve_reply.specs.declared.signer.Signer.{Signer}
+use Rattle.resolve_reply.specs.Replies.{ReadsBack}
 use Rattle.resolve_round.specs.declared.request.ResolveRequest.{ResolveRequest}
+use Rattle.resolve_round.specs.declared.trace.Search.{Search}
 use Rattle.resolve_round.specs.Traces.{asks_in}
 use Rattle.resolve_round.specs.Acts.{HasCounted}
 use Rattle.fed_resolver.specs.declared.outcome.Outcome.{Outcome}
 use Rattle.fed_resolver.specs.declared.outcome.Refusal.{Refusal}
 use Rattle.fed_resolver.specs.declared.outcome.Refusal.TheVariants.{NoAnchor, Unavailable, Memory, Worn}
-use Rattle.fed_resolver.specs.Told.{situation_of}
-use Rattle.fed_resolver.specs.Uses.{CountsFaults}
+use Rattle.fed_resolver.specs.Completeness.{HitsAgree}
+use Rattle.fed_resolver.specs.Outcomes.{IsAnswered, IsWhole}
+use Rattle.fed_resolver.specs.Told.{Situation, situation_of}
+use Rattle.fed_resolver.specs.Uses.{CountsFaults, SpeaksFor}
 use Rattle.node_files.specs.declared.fault.NodeFault.{NodeFault}
 use Rattle.node_files.specs.declared.fault.NodeFault.TheVariants.{Input}
 use Rattle.node_files.specs.Moments.{NodeAt}
 use Rattle.node_files.specs.NodeFiles.{Counts, IsNodeOf, IsResolver}
-use Rattle.resolve_call.specs.Alone.{ResolvesAlone}
+use Rattle.resolve_call.specs.Alone.{HasOneRound, HitsAreFetched, ResolvesAlone}
 use Rattle.resolve_call.specs.Exchanged.{ExchangedBy}
+use Rattle.resolve_call.specs.Ports.{Around}
+use Rattle.resolve_call.specs.Webs.{ShowsWeb}
 use Rattle.node_files.specs.ResolvingParts.{booked_entity, configured_bounds, configured_keys, signer_of}
 
 -- the name of a node's configuration file, and what is asked of the node
@@ -36,16 +44,7 @@ pub record Question : Type 0 where
   pub config : List ℕ
   pub request : ResolveRequest
 
--- the clock and the network around a call at one moment: the exchanges, where these are told, and how often the network failed
-pub record Around : Type 0 where
-  pub clock : ClockAt
-  pub exchanges : Option (List Exchange)
-  pub faults : ℕ
-
-abbrev pub around : ClockAt → Option (List Exchange) → ℕ → Around
-around clock exchanges faults = record { clock = clock; exchanges = exchanges; faults = faults }
-
--- the same with the files, where they are told, and how often the store failed
+-- what is around a call, with the files, where they are told, and how often the store failed
 abbrev pub At : Type 0
 At = NodeAt Around
 
@@ -80,6 +79,23 @@ pub record IsCallBy (node : Node) (resolver : Resolver) (request : ResolveReques
   pub unavailable : outcome.result ≡ Err Unavailable → Rose before.faults now.faults
   -- a reply that isn't too long is sealed by the live keys of the node's ring
   pub sealed : IfOk outcome.result (λ reply. length reply.text ≤ max_bytes → IsSealedBy reply.text (live_set node.ring))
+  -- who reads its text finds its claims
+  pub reads : IfOk outcome.result (λ reply. ReadsBack pair reply.claims reply.text)
+
+-- what follows for such a call, whose cache is empty when it begins
+pub record FollowsFrom (resolver : Resolver) (here : Situation) (signer : Signer) (before now : Around) (outcome : Outcome) : Type 0 where
+  -- a text that the cache gave was fetched by the same call, at the same URL
+  pub hits : HitsAreFetched outcome.trace.searches
+  -- the entity that was asked for has one round at most, and the cache gives nothing to it
+  pub one_round : (whole : IsWhole here signer outcome) → HasOneRound whole.told.base.leaf
+  -- the answer speaks of each web that the exchanges of this call show
+  pub speaks : (web : Web) → ShowsWeb resolver.routes before now web → IsAnswered outcome.result → SpeaksFor here signer web outcome
+  -- and what the cache gave is that web's too
+  pub agrees : (web : Web) → ShowsWeb resolver.routes before now web → IsAnswered outcome.result → (search : Search) → Among search outcome.trace.searches → HitsAgree web search
+
+abbrev pub Follows : (node : Node) (resolver : Resolver) (request : ResolveRequest) (before now : Around) (outcome : Outcome) → IsCallBy node resolver request before now outcome → Type 0
+Follows node resolver request before now outcome call =
+    FollowsFrom resolver (situation_of request (signer_of node resolver call.pair) now.clock.last) (signer_of node resolver call.pair) before now outcome
 
 -- the same of the node of the configuration file
 pub record IsCallOf (question : Question) (before now : At) (outcome : Outcome) : Type 0 where
@@ -88,6 +104,7 @@ pub record IsCallOf (question : Question) (before now : At) (outcome : Outcome) 
   pub resolver : Resolver
   pub resolves : node.settings.resolver ≡ Some resolver
   pub call : IsCallBy node resolver question.request before.around now.around outcome
+  pub follows : Follows node resolver question.request before.around now.around outcome call
 
 -- there was no call: no file is that of a node that resolves, where the files are told, or the store failed, or memory was wanting
 pub record HasNoCall (question : Question) (before now : At) (fault : NodeFault) : Type 0 where

@@ -8,7 +8,7 @@ use Rattle.fed_ports.specs.Webs.{Web, page_in}
 use Rattle.http_plain.specs.declared.route.Route.{Route}
 use Rattle.http_plain.specs.Clients.{ClientPage, HasNoRoute}
 use Rattle.chain_climb.specs.Elements.{Among}
-use Rattle.resolve_call.specs.Calls.{Around}
+use Rattle.resolve_call.specs.Ports.{Around}
 
 -- the web has the page that each of these exchanges shows for a URL, and none of a URL to which no route leads
 pub record IsShownBy (routes : List Route) (exchanges : List Exchange) (web : Web) : Type 0 where

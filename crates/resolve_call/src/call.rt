@@ -16,6 +16,7 @@ ghost use Rattle.resolve_call.specs.Exchanged.{ExchangedBy};
 ghost use Rattle.resolve_call.specs.Ports.{call_seen};
 ghost use Rattle.http_plain.specs.Networks.{listening_seen, network_seen};
 
+use crate::laws::follows;
 use fed_base::{Memory, Plain, Seq, Steps, Text};
 use fed_ports::{Clock, Link, Network, Store};
 use fed_resolver::{Outcome, Refusal, ResolveRequest, Signer, resolve};
@@ -81,6 +82,7 @@ pub fn resolve_once<R: Wait + Threads + Sync, D: Store, N: Network + Drop, C: Cl
     drop(registry);
     let parts = parts?;
     let call = open_call(alloc, parts, net)?;
+    follows();
     // The clock is read once all memory is taken that is needed before the call.
     let moment = clock.now();
     Ok(resolve_at(rt, alloc, call, request, moment, net, worn))

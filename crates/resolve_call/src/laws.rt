@@ -13,7 +13,8 @@ ghost use Rattle.fed_resolver.specs.Told.{situation_of};
 ghost use Rattle.fed_resolver.specs.Uses.{SpeaksFor};
 ghost use Rattle.fed_resolver.specs.declared.outcome.Outcome.{Outcome as AnyOutcome};
 ghost use Rattle.resolve_call.specs.Alone.{HasOneRound, HitsAreFetched};
-ghost use Rattle.resolve_call.specs.Calls.{Around, IsCallBy};
+ghost use Rattle.resolve_call.specs.Ports.{Around};
+ghost use Rattle.resolve_call.specs.Calls.{Follows, IsCallBy};
 ghost use Rattle.resolve_call.specs.Webs.{ShowsWeb};
 
 use fed_resolver::laws::{completeness, traces};
@@ -48,4 +49,14 @@ pub fn webs()
 {
     traces();
     completeness();
+}
+
+/// All of these in one record, for whoever makes such a call. It does nothing.
+pub fn follows()
+    ensures { (node : Node) (resolver : Resolver) (request : AnyRequest) (before now : Around) (outcome : AnyOutcome)
+        → (call : IsCallBy node resolver request before now outcome) → Follows node resolver request before now outcome call }
+{
+    hits();
+    one_round();
+    webs();
 }

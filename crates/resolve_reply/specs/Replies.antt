@@ -1,16 +1,19 @@
 -- What a reply claims, and its text (OpenID Federation 1.0 section 8.3.2).
-use Rattle.std.specs.Prelude.{◌≡◌, ◌<◌, ◌^◌, ℕ, List, [], ◌∷◌, ◌++◌, map, fold, min, codes, bytes_eq, Bool, not, if◌then◌else◌, Option, IsTrue}
+use Rattle.std.specs.Prelude.{◌≡◌, ◌≤◌, ◌<◌, ◌^◌, ℕ, List, [], ◌∷◌, ◌++◌, length, map, fold, min, codes, bytes_eq, Bool, not, if◌then◌else◌, Option, Some, IsTrue}
 use Rattle.std.specs.List.{filter, list_all, list_any}
 use Rattle.std.specs.Option.{option_map_or}
 use Rattle.std.specs.Str.{IsUtf8, is_utf8}
 use Rattle.fed_base.specs.Values.{◌>>=◌}
 use Rattle.fed_json.specs.declared.tree.Json.{Json, Text, Object, List as ListOf}
 use Rattle.fed_json.specs.declared.tree.Member.{Member}
-use Rattle.fed_json.specs.Forms.{IsWhole}
+use Rattle.fed_json.specs.Compact.{compact}
+use Rattle.fed_json.specs.Forms.{IsWhole, nesting}
 use Rattle.fed_json.specs.Members.{number_member, text_member}
-use Rattle.fed_json.specs.Reading.{member_of}
+use Rattle.fed_json.specs.Reading.{member_of, tree_in}
 use Rattle.fed_json.specs.Trees.{find, object_members, texts_of}
-use Rattle.sealed.specs.Sealing.{sealed_text}
+use Rattle.jws_form.specs.Compact.{max_bytes}
+use Rattle.sealed.specs.Sealing.{HasParts, sealed_text}
+use Rattle.slh_dsa.specs.Keys.{Keys}
 use Rattle.entity_statement.specs.Claims.{Identifier, mark_utf8}
 use Rattle.entity_statement.specs.declared.marks.MarkEntry.{MarkEntry}
 use Rattle.trust_mark.specs.declared.mark.Mark.{Mark}
@@ -109,3 +112,10 @@ reply_type = codes "resolve-response+jwt"
 pub record IsReplyOf (signer : Signer) (said : Said) (reply : Reply) : Type 0 where
   pub claims : reply.claims ≡ reply_claims signer.iss said
   pub text : reply.text ≡ sealed_text signer.keys reply_type reply.claims
+
+-- what a reader of these claims' text gets
+pub record ReadsBack (keys : Keys) (claims : Json) (text : List ℕ) : Type 0 where
+  -- of a text that isn't too long: the signer's algorithm and name, this type, and the claims' text (RFC 7515 section 5.2)
+  pub splits : length text ≤ max_bytes → HasParts keys reply_type (compact claims) text
+  -- and of that the claims, where they are nested at most 127 deep
+  pub reads_back : nesting claims ≤ 127 → tree_in (compact claims) ≡ Some claims

@@ -3,7 +3,7 @@
 ghost use Rattle.std.specs.Prelude.{◌≡◌, IfOk};
 ghost use Rattle.fed_json.specs.Compact.{compact};
 ghost use Rattle.sealed.specs.Sealing.{IsSealedFor, IsSignedAs};
-ghost use Rattle.resolve_reply.specs.Replies.{IsReplyOf, IsWritable, SaysReply, reply_type};
+ghost use Rattle.resolve_reply.specs.Replies.{IsReplyOf, IsWritable, ReadsBack, SaysReply, reply_type};
 
 use crate::claims::reply_claims;
 use crate::said::Said;
@@ -55,6 +55,8 @@ pub fn seal_reply<R: Threads + Sync>(
     ensures reply { IfOk result (IsReplyOf signer.now said) }
     // Whatever its length, it is signed under the signer's key.
     ensures signed { IfOk result (λ reply. IsSignedAs signer.now.keys reply_type (compact reply.claims) reply.text) }
+    // Who reads the text finds its parts, and in them the claims.
+    ensures reads { IfOk result (λ reply. ReadsBack signer.now.keys reply.claims reply.text) }
     // The claims can be sealed anew.
     ensures says { IfOk result (λ reply. SaysReply reply.claims) }
     ensures beside { IfOk result (λ reply. (reply.chain_exp ≡ chain_exp) × (reply.configs ≡ configs)) }

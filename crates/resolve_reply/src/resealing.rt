@@ -7,7 +7,7 @@ ghost use Rattle.fed_json.specs.Members.{number_member};
 ghost use Rattle.sealed.specs.Sealing.{IsObject, IsSealedFor, IsSignedAs, sealed_text};
 ghost use Rattle.fed_json.specs.Compact.{compact};
 ghost use Rattle.entity_statement.specs.Claims.{mark_utf8};
-ghost use Rattle.resolve_reply.specs.Replies.{SaysReply, is_unmarked, reply_type, resealed_claims, with_end};
+ghost use Rattle.resolve_reply.specs.Replies.{ReadsBack, SaysReply, is_unmarked, reply_type, resealed_claims, with_end};
 
 use crate::claims::add_marks;
 use crate::metadata::members_of;
@@ -45,6 +45,7 @@ pub fn reseal<R: Threads + Sync>(
     // A text of at most 262,144 bytes is sealed by each set that has the signer's key; whatever its length, it is signed under that key.
     ensures sealed { IfOk result (λ resealed. IsSealedFor signer.now.keys resealed.text) }
     ensures signed { IfOk result (λ resealed. IsSignedAs signer.now.keys reply_type (compact resealed.claims) resealed.text) }
+    ensures reads { IfOk result (λ resealed. ReadsBack signer.now.keys resealed.claims resealed.text) }
 {
     let claims = resealed_claims(alloc, claims, exp, marks)?;
     let text = sealed_claims(rt, alloc, signer, &claims)?;

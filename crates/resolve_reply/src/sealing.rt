@@ -5,7 +5,7 @@ ghost use Rattle.std.specs.Thread.{IsSync};
 ghost use Rattle.fed_json.specs.Compact.{compact};
 ghost use Rattle.fed_json.specs.Forms.{IsWhole};
 ghost use Rattle.sealed.specs.Sealing.{IsSealedFor, IsSignedAs, sealed_text};
-ghost use Rattle.resolve_reply.specs.Replies.{reply_type};
+ghost use Rattle.resolve_reply.specs.Replies.{ReadsBack, reply_type};
 
 use crate::signer::Signer;
 use fed_base::{Memory, Text};
@@ -29,6 +29,7 @@ pub(crate) fn sealed_claims<R: Threads + Sync>(
     ensures text { IfOk result (λ text. text ≡ sealed_text signer.now.keys reply_type claims.now) }
     ensures sealed { IfOk result (IsSealedFor signer.now.keys) }
     ensures signed { IfOk result (IsSignedAs signer.now.keys reply_type (compact claims.now)) }
+    ensures reads { IfOk result (ReadsBack signer.now.keys claims.now) }
 {
     let typ = Text::of(alloc, REPLY_TYPE)?;
     let payload = write_tree(alloc, claims)?;

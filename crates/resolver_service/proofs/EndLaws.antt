@@ -34,6 +34,7 @@ use Rattle.resolver_service.specs.Ends.{Around, EndsBy, HasServed, HasStopped, S
 use Rattle.resolver_service.specs.Faults.{end_without_node}
 use Rattle.resolver_service.specs.Steps.{EndsOn, EndsServing, IsEndOf, IsOpenedFrom, StopsAfter, StopsBatch, StopsBy}
 use Rattle.resolver_service.specs.Stopped.{ServesSome}
+use Rattle.resolver_service.proofs.OrderLaws.{in_order}
 
 -- the end of a batch, by what stopped it
 stops_in : {P N C : Type 0} (s : Setup P N C) (count : ℕ) (before now : Standing P) (why : Stop) (end : ResolverEnd) → IsEndOf why now.progress.known end
@@ -81,15 +82,17 @@ module _ {P N C : Type 0} (views : ServiceViews P N C) where
       → IsHistory ShelfStep [] BookStep (opened_book part.commons) joined → HasServed views node connections before now joined
   has_served node opened part connections before now first joined is has unseen serves history =
       let same : part ≡ is.is_full.part = cc (sym has ∙ is.is_full.has) in
+      let all : ServesAll (setup views opened.node is.resolver.routes) is.resolver.workers connections (standing before.net first before.clock) (standing now.net joined now.clock) =
+      subst (λ routes. ServesAll (setup views opened.node routes) is.resolver.workers connections (standing before.net first before.clock) (standing now.net joined now.clock)) is.routes
+      (subst (λ workers. ServesAll (setup views opened.node opened.routes) workers connections (standing before.net first before.clock) (standing now.net joined now.clock)) is.workers serves) in
       record {
         resolver = is.resolver;
         full = opened.node;
         is_full = is.is_full;
         first = first;
         unseen = unseen;
-        serves =
-            subst (λ routes. ServesAll (setup views opened.node routes) is.resolver.workers connections (standing before.net first before.clock) (standing now.net joined now.clock)) is.routes
-            (subst (λ workers. ServesAll (setup views opened.node opened.routes) workers connections (standing before.net first before.clock) (standing now.net joined now.clock)) is.workers serves);
+        serves = all;
+        in_order = in_order (setup views opened.node is.resolver.routes) (standing before.net first before.clock) all.0 (standing now.net joined now.clock) all.2;
         history = subst (λ book. IsHistory ShelfStep [] BookStep book joined) (ap (λ (p : ResolverPart). opened_book p.commons) same ∙ is.is_full.is.opened) history;
       }
 
@@ -101,6 +104,9 @@ module _ {P N C : Type 0} (views : ServiceViews P N C) where
       → IsHistory ShelfStep [] BookStep (opened_book part.commons) last → HasStopped views node connections before now end
   has_stopped node opened part connections before now first last end is has unseen left fewer then serves stops history =
       let same : part ≡ is.is_full.part = cc (sym has ∙ is.is_full.has) in
+      let some : ServesSome (setup views opened.node is.resolver.routes) is.resolver.workers connections left (standing before.net first before.clock) then =
+      subst (λ routes. ServesSome (setup views opened.node routes) is.resolver.workers connections left (standing before.net first before.clock) then) is.routes
+      (subst (λ workers. ServesSome (setup views opened.node opened.routes) workers connections left (standing before.net first before.clock) then) is.workers serves) in
       record {
         resolver = is.resolver;
         full = opened.node;
@@ -110,9 +116,8 @@ module _ {P N C : Type 0} (views : ServiceViews P N C) where
         left = left;
         fewer = fewer;
         then = then;
-        serves =
-            subst (λ routes. ServesSome (setup views opened.node routes) is.resolver.workers connections left (standing before.net first before.clock) then) is.routes
-            (subst (λ workers. ServesSome (setup views opened.node opened.routes) workers connections left (standing before.net first before.clock) then) is.workers serves);
+        serves = some;
+        in_order = in_order (setup views opened.node is.resolver.routes) (standing before.net first before.clock) some.0 then some.2;
         last = last;
         stops =
             subst (λ routes. StopsIn (setup views opened.node routes) (min is.resolver.workers left) then (standing now.net last now.clock) end) is.routes

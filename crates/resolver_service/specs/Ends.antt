@@ -5,6 +5,7 @@ use Rattle.fed_ports.specs.Stores.{Files}
 use Rattle.fed_ports.specs.Times.{ClockAt}
 use Rattle.node_config.specs.Nodes.{Resolver}
 use Rattle.authority_core.specs.Nodes.{Node as Authority}
+use Rattle.chain_climb.specs.Elements.{Ordered}
 use Rattle.turn_log.specs.Groups.{IsHistory, known}
 use Rattle.turn_log.specs.Runs.{call_limit}
 use Rattle.statement_shelf.specs.Book.{BookStep, opened_with}
@@ -21,6 +22,7 @@ use Rattle.resolver_service.specs.declared.ending.ResolverEnd.{ResolverEnd}
 use Rattle.resolver_service.specs.declared.ending.ResolverEnd.TheVariants as ends
 use Rattle.resolver_service.specs.Batches.{ServesAll, ServiceViews, Setup, Standing, setup, standing}
 use Rattle.resolver_service.specs.Nodes.{IsNodeWith}
+use Rattle.resolver_service.specs.Precedence.{StandsBefore}
 use Rattle.resolver_service.specs.Stopped.{BreaksOff, BreaksOffUnsettled, ServesSome, WantsIn, WearsIn}
 
 -- the network and the clock at one moment
@@ -62,6 +64,8 @@ module _ {P N C : Type 0} where
     pub first : CommonsKnown
     pub unseen : HasSeenNothing first
     pub serves : ServesAll (setup views full resolver.routes) resolver.workers connections (standing before.net first before.clock) (standing now.net joined now.clock)
+    -- on each shared object the calls of an earlier batch stand before those of a later one
+    pub in_order : Ordered StandsBefore serves.0
     pub history : IsHistory ShelfStep [] BookStep (opened_with is_full.is.anchors) joined
 
   -- how the batch stopped that was begun: the network failed, and all who were accepted were settled; or some of them were dropped; or
@@ -85,6 +89,7 @@ module _ {P N C : Type 0} where
     pub fewer : 0 < left
     pub then : Standing P
     pub serves : ServesSome (setup views full resolver.routes) resolver.workers connections left (standing before.net first before.clock) then
+    pub in_order : Ordered StandsBefore serves.0
     pub last : CommonsKnown
     pub stops : StopsIn (setup views full resolver.routes) (min resolver.workers left) then (standing now.net last now.clock) result
     pub history : IsHistory ShelfStep [] BookStep (opened_with is_full.is.anchors) last

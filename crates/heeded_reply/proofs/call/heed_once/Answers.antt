@@ -54,3 +54,4 @@ returns-clause-heeds g c =
     c.in_ok-parts.ensures c.in_ok-registry.ensures.node.0 c.in_ok-registry.ensures.files c.in_ok-registry.ensures.counts reading
     (subst (λ moment. IsHeardAt c.in_ok-parts.parts c.args.request.now moment (network_seen g.N.Network c.args.net.now) (network_seen g.N.Network c.heed_at.new.net) c.heed_at.result)
     (sym c.now-moment.ensures.last) (c.heed_at.ensures.heard c.in_ok-parts.parts c.in_ok-call.ensures))
+    c.follows.ensures

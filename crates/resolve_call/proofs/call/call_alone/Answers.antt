@@ -24,6 +24,7 @@ returns-clause-told g c = λ anchors fresh.
           (legal-book c.args.asked.now.commons.now anchors c.args.pass.now c.resolve-outcome.new.pass fresh events all history)
           c.resolve-outcome.ensures.resolves.tells;
       sealed = c.resolve-outcome.ensures.sealed;
+      reads = c.resolve-outcome.ensures.reads;
     }
 
 pub returns-clause-fails : goal.returns-clause-fails

@@ -47,17 +47,19 @@ returns-clause-resolves g c =
       counted = c.now-moment.ensures.counted;
       added = subst (Told (g.C.Clock.readings c.args.clock.now) (g.C.Clock.told c.args.clock.now) (g.C.Clock.told c.now-moment.new.self)) (sym c.now-moment.ensures.last) c.now-moment.ensures.told;
     } in
+    let call =
+    call-by c.in_ok-registry.registry c.in_ok-parts.parts c.args.request.now (clock_seen g.C.Clock c.args.clock.now) (clock_seen g.C.Clock c.now-moment.new.self)
+    (network_seen g.N.Network c.args.net.now) (network_seen g.N.Network c.resolve_at.new.net) c.resolve_at.result are reading
+    (subst (λ moment. IsCallAt c.in_ok-parts.parts c.args.request.now moment (network_seen g.N.Network c.args.net.now) (network_seen g.N.Network c.resolve_at.new.net) c.resolve_at.result)
+    (sym c.now-moment.ensures.last) (c.resolve_at.ensures.call c.in_ok-parts.parts c.in_ok-call.ensures)) in
     record {
       calls = record {
         node = c.in_ok-registry.registry;
         is_node = c.in_ok-registry.ensures.node.0;
         resolver = are.resolver;
         resolves = are.resolves;
-        call =
-            call-by c.in_ok-registry.registry c.in_ok-parts.parts c.args.request.now (clock_seen g.C.Clock c.args.clock.now) (clock_seen g.C.Clock c.now-moment.new.self)
-            (network_seen g.N.Network c.args.net.now) (network_seen g.N.Network c.resolve_at.new.net) c.resolve_at.result are reading
-            (subst (λ moment. IsCallAt c.in_ok-parts.parts c.args.request.now moment (network_seen g.N.Network c.args.net.now) (network_seen g.N.Network c.resolve_at.new.net) c.resolve_at.result)
-            (sym c.now-moment.ensures.last) (c.resolve_at.ensures.call c.in_ok-parts.parts c.in_ok-call.ensures));
+        call = call;
+        follows = c.follows.ensures c.in_ok-registry.registry are.resolver c.args.request.now _ _ c.resolve_at.result call;
       };
       files = c.in_ok-registry.ensures.files;
       store = c.in_ok-registry.ensures.counts;
