@@ -1,5 +1,5 @@
 /* SLH-DSA-SHA2-128s, or SLH-DSA-SHA2-128f with -DFAST (FIPS 205), pure, deterministic and with an empty context: one hash after the other, over a
- * SHA-256 of plain C, as what bench/signatures compares the lanes with. The block of PK.seed is hashed once, and of a FORS tree and of a
+ * SHA-256 of plain C, as what bench/signatures.sh compares the lanes with. The block of PK.seed is hashed once, and of a FORS tree and of a
  * layer's tree each node is made once.
  *
  * It does what each line of the input names: `keygen`, `sign` or `verify`, of a message of 1,000 bytes; with the word `show` it writes the

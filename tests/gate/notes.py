@@ -128,23 +128,19 @@ def check_free_words():
     faulty(f"issue --workers 4 --ring r --workers 4 --typ {STATEMENT}", "the option --workers stands twice")
     faulty("issue --workers 4 --ring r", "the option --typ TYP is missing")
     faulty("public --ring r --workers 4", "the option --workers isn't known to public; see fed --help")
-    served = "--config c --port 1 --connections 1"
-    for value in "no", "Yes", "1":
-        faulty(f"authority {served} --stream {value}", f"--stream takes yes, and not {value}")
-    faulty(f"authority --stream yes {served} --stream yes", "the option --stream stands twice")
-    faulty("authority --stream yes --config c --port 1", "the option --connections N is missing")
-    faulty(f"authority {served} --stream", "the option --stream has no value; it takes yes")
+    served = "--config none.json --port 1 --connections 1"
+    resolves = "--config none.json --sub https://rp.example --anchor https://ta.example"
+    for verb, words, option, part, missing in (("authority", served, "--stream", "--config c --port 1", "--connections N"),
+                                               ("resolve", resolves, "--heed", "--config c --sub https://rp.example", "--anchor ID")):
+        for value in "no", "Yes", "1":
+            faulty(f"{verb} {words} {option} {value}", f"{option} takes yes, and not {value}")
+        faulty(f"{verb} {option} yes {words} {option} yes", f"the option {option} stands twice")
+        faulty(f"{verb} {option} yes {part}", f"the option {missing} is missing")
+        faulty(f"{verb} {words} {option}", f"the option {option} has no value; it takes yes")
+        row(f"{verb} {option} yes {words}", "", 2, "input\n", "none.json isn't there")
     faulty(f"resolver {served} --stream yes",
            "resolver has no --stream: it answers a connection once; authority may keep connections")
-    row("authority --config none.json --stream yes --port 1 --connections 1", "", 2, "input\n", "none.json isn't there")
-    resolves = "--config none.json --sub https://rp.example --anchor https://ta.example"
-    for value in "no", "Yes", "1":
-        faulty(f"resolve {resolves} --heed {value}", f"--heed takes yes, and not {value}")
-    faulty(f"resolve --heed yes {resolves} --heed yes", "the option --heed stands twice")
-    faulty("resolve --heed yes --config c --sub https://rp.example", "the option --anchor ID is missing")
-    faulty(f"resolve {resolves} --heed", "the option --heed has no value; it takes yes")
     faulty(f"resolver {served} --heed yes", "the option --heed isn't known to resolver; see fed --help")
-    row(f"resolve {resolves} --heed yes", "", 2, "input\n", "none.json isn't there")
 
 
 def check_words():

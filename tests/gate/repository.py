@@ -188,18 +188,33 @@ def check_links(files):
     for path in files:
         if not path.endswith(".md"):
             continue
-        for link, anchor in re.findall(r"\]\(([^)#\s]*)#?([^)\s]*)\)", text_of(path)):
+        for label, link, anchor in re.findall(r"\[([^\]]*)\]\(([^)#\s]*)#?([^)\s]*)\)", text_of(path)):
             if re.match(r"[a-z]+:", link):
                 continue
             to = os.path.normpath(os.path.join(os.path.dirname(path), link)) if link else path
+            # a label that is a file's name is the name of the file that it leads to
+            named = label.strip("`")
+            if link and re.fullmatch(r"[\w/.@-]+\.(md|py|sh|conf|json|service|timer)", named) and not f"/{to}".endswith(f"/{named}"):
+                fault(f"{path} links to {to} by the name {named}")
             if not os.path.exists(f"{TOP}/{to}"):
                 fault(f"{path} links to {link}, which isn't there")
             elif anchor and (not os.path.isfile(f"{TOP}/{to}") or anchor not in anchors_of(to)):
                 fault(f"{path} links to {link}#{anchor}, which isn't there")
 
 
+MONTHS = "January February March April May June July August September October November December".split()
+
+
+def check_days(files):
+    """Looks that no document tells a day, a machine or a kit's version: these stand beside the figures of bench/RESULTS.md, and in the log."""
+    for path in files:
+        if path.endswith(".md") and path != "bench/RESULTS.md":
+            for found in re.finditer(rf"\b({'|'.join(MONTHS)}) 202\d|\brattle-kit-\d+|\bXeon\b", text_of(path)):
+                fault(f"{path} tells of {found[0]}")
+
+
 def check_sizes():
-    """Looks that what a stranger reads first stays short, and that no document tells a day: that is for bench/ and the log."""
+    """Looks that what a stranger reads first stays short."""
     for path, most in ("README.md", 12 * 1024), ("CONTRIBUTING.md", 9 * 1024):
         if len(text_of(path).encode()) > most:
             fault(f"{path} has {len(text_of(path).encode())} bytes, and not at most {most}")
@@ -233,6 +248,7 @@ def main():
         if path.endswith(".edit"):
             check_edit(path, crates)
     check_links(files)
+    check_days(files)
     check_made()
     check_sizes()
     for it in faults:

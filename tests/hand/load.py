@@ -143,7 +143,7 @@ class Asked:
 def differs(reply, keys, chain_keys):
     """What of a reply isn't as it must be, or nothing."""
     text = reply.body.decode()
-    if subprocess.run([f"{TOP}/bench/compressions", keys["resolver"]["pub"]], input=reply.body, capture_output=True).returncode:
+    if subprocess.run([f"{TOP}/bench/compressions.py", keys["resolver"]["pub"]], input=reply.body, capture_output=True).returncode:
         return "the signature"
     claims = claims_of(text)
     chain = claims["trust_chain"]

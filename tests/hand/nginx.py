@@ -1,9 +1,10 @@
 #!/usr/bin/env python3
 """nginx with examples/nginx.conf in front of two processes of one node, on loopback, under a key made here: an answer that isn't kept yet and one
-that is, what a resolver gets and posts through examples/nginx-outward.conf, answers while one of the two is ended, and answers from what was kept
-while both are; then the same in front with connections that are kept to processes that stream, of which fewer are opened than are asked. Then each
-nginx file of examples/ as it stands, in a network and a view of the files of its own, which wants root and unshare. Where nginx or openssl is
-missing it says so and tries nothing. It prints what differs and fails where anything does."""
+that is, a list that is kept for ten seconds, what a resolver gets and posts through examples/nginx-outward.conf, answers while one of the two is
+ended, answers from what was kept while both are, and 429 to who asks too often; then the same in front with connections that are kept to processes
+that stream, of which fewer are opened than are asked. Then each nginx file of examples/ as it stands, in a network and a view of the files of its
+own, which wants root and unshare. Where nginx or openssl is missing it says so and tries nothing. It prints what differs and fails where anything
+does."""
 
 import http.client
 import json
@@ -126,6 +127,7 @@ def tried_in(place, started, stream):
     tell("no other method comes through", asked(front, "/list", "DELETE")[0] == 403)
 
     if not stream:
+        lists(front)
         outward(place, started, front, text)
     else:
         # twenty that nothing keeps, one behind the other: their connections by the addresses in the logs of both
@@ -139,7 +141,7 @@ def tried_in(place, started, stream):
 
     started[0].send_signal(signal.SIGTERM)
     started[0].wait(timeout=PATIENCE)
-    for path in ("/list", "/fetch?sub=https%3A%2F%2Frp.example", "/historical-keys"):
+    for path in ("/list?trust_marked=false", "/fetch?sub=https%3A%2F%2Frp.example", "/historical-keys"):
         status, kept, _ = asked(front, path)
         tell(f"{path} of the other process: {status} {kept}", (status, kept) == (200, "MISS"))
     started[1].send_signal(signal.SIGTERM)
@@ -147,6 +149,20 @@ def tried_in(place, started, stream):
     status, kept, again = asked(front, "/.well-known/openid-federation")
     tell(f"while nobody answers: {status} {kept}", (status, kept, again) == (200, "HIT", text))
     tell("what wasn't kept isn't there", asked(front, "/list?intermediate=true")[0] == 502)
+    # who asks too often is told so, and that alone: a burst and ten a second are let through
+    statuses, end = set(), time.monotonic() + PATIENCE
+    while len(statuses) < 2 and time.monotonic() < end:
+        statuses.add(asked(front, "/.well-known/openid-federation")[0])
+    tell(f"too many requests: {statuses}", statuses == {200, 429})
+
+
+def lists(front):
+    """A list is kept for ten seconds alone, so that who is new is found."""
+    first, second = asked(front, "/list"), asked(front, "/list")
+    tell(f"a list: {first}, {second}", (first[:2], second[:2]) == ((200, "MISS"), (200, "HIT")))
+    time.sleep(11)
+    third = asked(front, "/list")
+    tell(f"a list, eleven seconds later: {third}", third[:2] == (200, "EXPIRED"))
 
 
 def outward(place, started, front, text):

@@ -34,17 +34,21 @@ chroot "$2/merged" sh -c '
     dpkg --force-depends -i /tmp/fed.deb >/dev/null 2>&1 && echo installed
     /usr/bin/fed --version | head -n 1
     stat -c "%a %U" /var/lib/fed
-    ls /lib/systemd/system/fed-authority@.service
+    ls /lib/systemd/system/fed-*.service
+    grep -hc "^ExecStart.*=/usr/bin/fed " /lib/systemd/system/fed-*.service
+    dpkg -L fed | while read -r name; do [ -d "$name" ] || echo "$name"; done >/tmp/files
     dpkg -r fed >/dev/null 2>&1 && echo removed
-    ls /usr/bin/fed 2>/dev/null || echo gone
+    while read -r name; do [ ! -e "$name" ] || echo "$name stays"; done </tmp/files
     ls -d /var/lib/fed'
 END
 tell "installed, run and removed" "$(cat "$place/said")" "installed
 $(./fed --version | head -n 1)
 700 fed
 /lib/systemd/system/fed-authority@.service
+/lib/systemd/system/fed-resolver@.service
+2
+2
 removed
-gone
 /var/lib/fed"
 echo "package: $passed passed, $failed failed"
 [ "$failed" = 0 ]

@@ -243,7 +243,7 @@ def signed_differs(text, moments, typ, claims_at):
     wanted = compact(claims_at(iat))
     if claims != wanted:
         return f"the claims, {claims[:300]}, not {wanted[:300]}"
-    done = subprocess.run([f"{TOP}/bench/compressions", KEYS[RESOLVER]["pub"]], input=text.encode(), capture_output=True)
+    done = subprocess.run([f"{TOP}/bench/compressions.py", KEYS[RESOLVER]["pub"]], input=text.encode(), capture_output=True)
     return "the signature" if done.returncode else ""
 
 

@@ -83,8 +83,8 @@ asks the authorities over HTTP, and writes a signed reply.
 words    --config FILE the configuration, with the member resolver
          --sub ID      the entity, a URL
          --anchor ID   one of the configuration's trust anchors
-         --heed yes    the issuers of the reply's trust marks are asked about
-                       them, and a mark that isn't active is left out
+         --heed yes    the issuers of the reply's trust marks that name a status
+                       endpoint are asked whether the marks are active
 input    none is read
 output   a line        the reply in JWS compact serialization
          mark I WORD   with --heed yes, behind it for the mark at each place:

@@ -51,4 +51,4 @@ status  0  the work is done              1  refused
 ";
 
 /// What `--version` writes.
-pub const VERSION: &[u8] = b"fed 0.1.0\n";
+pub const VERSION: &[u8] = b"fed 0.2.0\n";

@@ -3,6 +3,7 @@
 # signature checks, each taken as `fed verify` on the leaf's configuration less the start. User time; the number of runs is the first word,
 # 50 where there is none.
 set -euo pipefail
+case ${1-} in -h | --help) sed -n '2,/^set /s/^# \{0,1\}//p' "$0" && exit 0 ;; esac
 cd "$(dirname "$0")/.."
 runs=${1:-50}
 ./fed --version >/dev/null

@@ -6,6 +6,7 @@
 # that it takes minutes.
 # Words: the bytes of the texts of a row (4000000), and a folder to keep the program in: what an earlier run left there isn't built again.
 set -euo pipefail
+case ${1-} in -h | --help) sed -n '2,/^set /s/^# \{0,1\}//p' "$0" && exit 0 ;; esac
 cd "$(dirname "$0")/.."
 bytes=${1:-4000000}
 rounds=21

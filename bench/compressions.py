@@ -8,6 +8,9 @@ import json
 import sys
 from collections import namedtuple
 
+if {"-h", "--help"} & set(sys.argv[1:]):
+    sys.exit(print(__doc__))
+
 # FIPS 205 section 11, table 2: layers and the height of each one's trees, height and number of FORS trees, bytes of a digest
 Numbers = namedtuple("Numbers", "layers height fors_height fors_trees digest")
 SETS = {"SLH-DSA-SHA2-128s": Numbers(7, 9, 12, 14, 30), "SLH-DSA-SHA2-128f": Numbers(22, 3, 6, 33, 34)}

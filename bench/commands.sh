@@ -5,6 +5,7 @@
 # instructions for SHA-256. Beside the memory stand the bytes of the input and the output.
 # Words: the number of keys made (20), of texts issued (4), and of texts verified and chains checked (100) in a round.
 set -euo pipefail
+case ${1-} in -h | --help) sed -n '2,/^set /s/^# \{0,1\}//p' "$0" && exit 0 ;; esac
 cd "$(dirname "$0")/.."
 keys=${1:-20}
 issues=${2:-4}
@@ -120,7 +121,7 @@ row() {
     case $3 in
     keygen) compressions=292352 ;;
     issue) compressions=$(signing "$(sed 's/\.[^.]*$//' "$place/out" | tr -d '\n' | wc -c)") ;;
-    *) compressions=$(bench/compressions "$key" <"$4") ;;
+    *) compressions=$(bench/compressions.py "$key" <"$4") ;;
     esac
     echo "$1 $time $compressions $(beside "$compressions" "$5" "$6" "$7") $(($(wc -c <"$4") + $(wc -c <"$place/out"))) $memory" | awk '{
         printf "%-13s %10s %13d %10s %6.2f %13d %8d\n", $1, $2, $3, $4, ($4 > 0 ? $2 / $4 : 0), $5, $6 }'

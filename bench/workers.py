@@ -3,7 +3,7 @@
 refused before it signs, as shares of the first, with keys of both algorithms; beside the share of a processor's time that four `issue` at once take.
 And the time of one reply of a resolver whose cache has the pages, by 1 and by 4 workers, while nobody else asks.
 
-    bench/workers [ROUNDS]    each time is the least of so many rounds (12), in which all take turns
+    bench/workers.py [ROUNDS]    each time is the least of so many rounds (12), in which all take turns
 
 It wants four processors. Where they are shared with others, or are two cores with two threads each, four `issue` at once say what can be gained.
 """
@@ -18,8 +18,11 @@ import tempfile
 import time
 import urllib.parse
 
+if {"-h", "--help"} & set(sys.argv[1:]):
+    sys.exit(print(__doc__))
+
 sys.dont_write_bytecode = True
-sys.path.insert(0, os.path.dirname(os.path.abspath(__file__)))
+sys.path.insert(0, f"{os.path.dirname(os.path.abspath(__file__))}/lib")
 from webs import ANCHOR, LEAF, Texts, built, configured, deep, served, web_of  # noqa: E402
 
 WORKERS = [1, 2, 3, 4, 8, 16]

@@ -6,7 +6,7 @@ and making the one of the reply, the ratio of both, and the most that the progra
 the searches for 19 pages and more, what a page costs beside signatures and tests, the most of it over the least, and so what a page more
 costs, with what is left of a call for none; and what one page more takes in memory, beside its bytes.
 
-    bench/resolve [COUNT]    COUNT is how often each is resolved in a round (5)
+    bench/resolve.py [COUNT]    COUNT is how often each is resolved in a round (5)
 
 The start is a call for an anchor that isn't listed. Times are user and system time together, the least of three rounds. All entities have
 one key, so that the texts are made quickly; a call tests each text under it as under any other.
@@ -18,8 +18,11 @@ import subprocess
 import sys
 import tempfile
 
+if {"-h", "--help"} & set(sys.argv[1:]):
+    sys.exit(print(__doc__))
+
 sys.dont_write_bytecode = True
-sys.path.insert(0, os.path.dirname(os.path.abspath(__file__)))
+sys.path.insert(0, f"{os.path.dirname(os.path.abspath(__file__))}/lib")
 from webs import ANCHOR, LEAF, Texts, built, configured, counted, deep, inclusive, seconds, served, web_of, wide  # noqa: E402
 
 DEPTHS, WIDTHS = [3, 6, 9, 14], [2, 4, 8, 16, 32, 78]

@@ -3,7 +3,7 @@
 chain and one `issue` of the same claims, and `register` of a posted configuration beside a `resolve` of its entity. For each command: how
 many signatures it tests and makes, and its instructions, both counted by callgrind where valgrind is there; and its time.
 
-    bench/register [COUNT]    COUNT is how often each command is run in a round (5)
+    bench/register.py [COUNT]    COUNT is how often each command is run in a round (5)
 
 Times are user and system time together, the least of three rounds, in each of which all commands are run. They are those of a whole
 command, with its start; `issue`, `resolve` and `register` open a ring of one key, and so compute its root. All entities have one key, so
@@ -17,8 +17,11 @@ import shutil
 import sys
 import tempfile
 
+if {"-h", "--help"} & set(sys.argv[1:]):
+    sys.exit(print(__doc__))
+
 sys.dont_write_bytecode = True
-sys.path.insert(0, os.path.dirname(os.path.abspath(__file__)))
+sys.path.insert(0, f"{os.path.dirname(os.path.abspath(__file__))}/lib")
 from webs import (  # noqa: E402
     ANCHOR, LEAF, Texts, built, configured, deep, ended, fetch_of, page_of, profiled, ran, seconds, served, web_of, work_in)
 

@@ -10,7 +10,7 @@ import threading
 import time
 import typing
 
-TOP = os.path.dirname(os.path.dirname(os.path.abspath(__file__)))
+TOP = os.path.dirname(os.path.dirname(os.path.dirname(os.path.abspath(__file__))))
 LEAF, ANCHOR = "https://rp.example", "https://ta.example"
 
 

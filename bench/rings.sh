@@ -3,6 +3,7 @@
 # and 16 keys, less the start of the program, the least of three rounds; and beside it that of `keygen`, which computes one root.
 # Word: the number of runs in a round (4).
 set -euo pipefail
+case ${1-} in -h | --help) sed -n '2,/^set /s/^# \{0,1\}//p' "$0" && exit 0 ;; esac
 cd "$(dirname "$0")/.."
 runs=${1:-4}
 place=$(mktemp -d)

@@ -6,6 +6,7 @@
 # each time is the least of three rounds.
 # Words: the number of entities on paths in a run (400000), and how many entities hint each other (8 and 12).
 set -euo pipefail
+case ${1-} in -h | --help) sed -n '2,/^set /s/^# \{0,1\}//p' "$0" && exit 0 ;; esac
 cd "$(dirname "$0")/.."
 work=${1:-400000}
 lattices=${*:2}

@@ -2,7 +2,7 @@
 """What a request and its response of 12,288 bytes cost over loopback, beside nginx in the same run, and how many instructions it takes to
 read messages of 1 KB, 16 KB and 256 KB.
 
-    bench/http [COUNT [FOLDER]]    COUNT requests in a round (2000); the program is kept in the folder, and else built anew in minutes
+    bench/http_request.py [COUNT [FOLDER]]    COUNT requests in a round (2000); the program is kept in the folder, and else built anew in minutes
 
 The processor time is that of the server's process, user and system together, by the system's scheduler: the least of seven rounds, in which
 the two take turns. One client asks, a connection for each request. nginx serves a file by one process, and closes each connection too;
@@ -20,6 +20,9 @@ import subprocess
 import sys
 import tempfile
 import time
+
+if {"-h", "--help"} & set(sys.argv[1:]):
+    sys.exit(print(__doc__))
 
 TOP = os.path.dirname(os.path.dirname(os.path.abspath(__file__)))
 ROUNDS = 7

@@ -3,7 +3,7 @@
 answers, beside those of its signature, for a chain of 3 and of 9 texts and beside the pages of 0, 16 and 64 other entities in the cache. And how
 many replies 1, 2 and 4 workers give on as many processors in the time of a signature.
 
-    bench/resolver [SECONDS]    SECONDS is how long each number of workers is asked (20)
+    bench/resolver.py [SECONDS]    SECONDS is how long each number of workers is asked (20)
 
 A signature's time is that of one worker's processor for a reply: user and system time of the resolver alone, by the number of its replies, in the
 same run. Twice as many clients as workers ask without a pause.
@@ -20,8 +20,11 @@ import threading
 import time
 import urllib.parse
 
+if {"-h", "--help"} & set(sys.argv[1:]):
+    sys.exit(print(__doc__))
+
 sys.dont_write_bytecode = True
-sys.path.insert(0, os.path.dirname(os.path.abspath(__file__)))
+sys.path.insert(0, f"{os.path.dirname(os.path.abspath(__file__))}/lib")
 from webs import ANCHOR, LEAF, Texts, built, configured, counted, deep, inclusive, served, web_of  # noqa: E402
 
 WORKERS = [1, 2, 4]

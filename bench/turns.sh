@@ -4,6 +4,7 @@
 # first, so that it takes minutes.
 # Words: the number of calls of each thread (200000), and a folder to keep the program in: what an earlier run left there isn't built again.
 set -euo pipefail
+case ${1-} in -h | --help) sed -n '2,/^set /s/^# \{0,1\}//p' "$0" && exit 0 ;; esac
 cd "$(dirname "$0")/.."
 calls=${1:-200000}
 rounds=7

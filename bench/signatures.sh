@@ -10,6 +10,7 @@
 # Words: the number of signatures (3), the number of checks (1000), the commit of the scalar code, a folder to keep the programs in (what an
 # earlier run left there isn't built again), and the last commit with fixed groups.
 set -euo pipefail
+case ${1-} in -h | --help) sed -n '2,/^set /s/^# \{0,1\}//p' "$0" && exit 0 ;; esac
 cd "$(dirname "$0")/.."
 signs=${1:-3}
 checks=${2:-1000}

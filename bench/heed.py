@@ -4,7 +4,7 @@ without and with `--heed yes`, and its instructions, which callgrind counts. Of 
 configuration names a status endpoint, so that it is asked about them, and the others by an entity that names none. Where a mark isn't kept,
 the reply is signed anew.
 
-    bench/heed
+    bench/heed.py
 
 Instructions are those of the call less those of its start, a call for an anchor that isn't listed, which opens the node and no more. All
 entities have one key, so that the texts are made quickly; a call tests each text under it as under any other. The answers are those of
@@ -21,8 +21,11 @@ import sys
 import tempfile
 import time
 
+if {"-h", "--help"} & set(sys.argv[1:]):
+    sys.exit(print(__doc__))
+
 sys.dont_write_bytecode = True
-sys.path.insert(0, os.path.dirname(os.path.abspath(__file__)))
+sys.path.insert(0, f"{os.path.dirname(os.path.abspath(__file__))}/lib")
 from webs import ANCHOR, LEAF, Texts, built, by_function, configured, inclusive, post_of, profiled, served, web_of, work_in  # noqa: E402
 
 OTHER = "https://issuer.example"

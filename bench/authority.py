@@ -3,7 +3,7 @@
 peak of the memory, at 100, 1,000 and 10,000; and, where valgrind is there, the instructions of reading it beside those of the kit's JSON
 reader alone (which reads it and lets it go), and those of a fetch beside those of sealing it, which is nearly all its signature.
 
-    bench/authority [COUNT]    COUNT is how often each node is opened in a round (5)
+    bench/authority.py [COUNT]    COUNT is how often each node is opened in a round (5)
 
 A node is opened by a call on a port that is taken, which ends with status 7 behind the reading. The time is user and system time together, the
 least of three rounds, less that of a node without subordinates, whose ring has the same one key.
@@ -21,6 +21,9 @@ import subprocess
 import sys
 import tempfile
 import time
+
+if {"-h", "--help"} & set(sys.argv[1:]):
+    sys.exit(print(__doc__))
 
 TOP = os.path.dirname(os.path.dirname(os.path.abspath(__file__)))
 SIZES = [100, 1000, 10000]

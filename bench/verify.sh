@@ -2,6 +2,7 @@
 # The time of one check of a signature: `fed verify` less the start of the program, and beside it OpenSSL where the one on the PATH has
 # SLH-DSA, as a ratio in one run. User time; the number of runs is the first word, 200 where there is none.
 set -euo pipefail
+case ${1-} in -h | --help) sed -n '2,/^set /s/^# \{0,1\}//p' "$0" && exit 0 ;; esac
 cd "$(dirname "$0")/.."
 runs=${1:-200}
 place=$(mktemp -d)
