@@ -7,11 +7,12 @@ use crate::nodes::filled;
 use crate::signed::{add_status, add_text};
 use crate::words::{add_number, add_word, cut, number};
 use authority_core::{ListQuery, Media, Registry, Response};
-use fed_base::{Duplicate, Memory, Plain, Seq, Steps, Text};
+use fed_base::{Duplicate, Memory, OpensLedgers, Plain, Seq, Steps, Text};
 use std::alloc::Global;
 
 /// What the node answers to a row.
-pub(crate) fn ask(
+pub(crate) fn ask<R: OpensLedgers>(
+    rt: &R,
     alloc: Global,
     node: &Registry,
     kind: &str,
@@ -21,25 +22,36 @@ pub(crate) fn ask(
     let (first, rest) = cut(given);
     let t = number(first);
     match kind {
-        "configuration" => told(alloc, node, node.configuration(alloc, t)?),
-        "fetch" => fetch(alloc, node, t, rest),
-        "list" => list(alloc, node, given),
-        "historical" => told(alloc, node, node.historical_keys(alloc, t)?),
-        "status" => status(alloc, node, t, &filled(alloc, rest, kept)?),
+        "configuration" => told(rt, alloc, node, node.configuration(alloc, t)?),
+        "fetch" => fetch(rt, alloc, node, t, rest),
+        "list" => list(rt, alloc, node, given),
+        "historical" => told(rt, alloc, node, node.historical_keys(alloc, t)?),
+        "status" => status(rt, alloc, node, t, &filled(alloc, rest, kept)?),
         _ => Text::of(alloc, b"no such row"),
     }
 }
 
 // `fetch MOMENT IDENTIFIER`.
-fn fetch(alloc: Global, node: &Registry, t: u64, sub: &str) -> Result<Text, Memory> {
+fn fetch<R: OpensLedgers>(
+    rt: &R,
+    alloc: Global,
+    node: &Registry,
+    t: u64,
+    sub: &str,
+) -> Result<Text, Memory> {
     let sub = Text::of(alloc, sub.as_bytes())?;
-    told(alloc, node, node.fetch(alloc, t, &sub)?)
+    told(rt, alloc, node, node.fetch(alloc, t, &sub)?)
 }
 
 // `list TYPES MARKED MARK-TYPE INTERMEDIATE`: types with commas between them, `true` or `false`, a type or nothing, `true` or `false`.
-fn list(alloc: Global, node: &Registry, given: &str) -> Result<Text, Memory> {
+fn list<R: OpensLedgers>(
+    rt: &R,
+    alloc: Global,
+    node: &Registry,
+    given: &str,
+) -> Result<Text, Memory> {
     let query = query(alloc, given)?.copy(alloc)?;
-    told(alloc, node, node.list(alloc, &query)?)
+    told(rt, alloc, node, node.list(alloc, &query)?)
 }
 
 fn query(alloc: Global, given: &str) -> Result<ListQuery, Memory> {
@@ -76,9 +88,15 @@ fn unless_empty(alloc: Global, text: &str) -> Result<Option<Text>, Memory> {
 }
 
 // `status MOMENT TEXT`: what the node tells of the text, and how many signatures it tested for that.
-fn status(alloc: Global, node: &Registry, t: u64, text: &Text) -> Result<Text, Memory> {
+fn status<R: OpensLedgers>(
+    rt: &R,
+    alloc: Global,
+    node: &Registry,
+    t: u64,
+    text: &Text,
+) -> Result<Text, Memory> {
     match std::str::from_utf8(text.as_slice()) {
-        Ok(mark) => status_of(alloc, node, t, &mark_of(alloc, mark)?),
+        Ok(mark) => status_of(rt, alloc, node, t, &mark_of(alloc, mark)?),
         Err(_) => Text::of(alloc, b"no UTF-8"),
     }
 }
@@ -89,25 +107,36 @@ fn mark_of(alloc: Global, text: &str) -> Result<Text, Memory>
     Text::of(alloc, text.as_bytes())
 }
 
-fn status_of(alloc: Global, node: &Registry, t: u64, mark: &Text) -> Result<Text, Memory>
+fn status_of<R: OpensLedgers>(
+    rt: &R,
+    alloc: Global,
+    node: &Registry,
+    t: u64,
+    mark: &Text,
+) -> Result<Text, Memory>
     requires { IsUtf8 mark.now }
 {
     let mut steps = Steps {
-        ledger: Plain::new(),
+        ledger: Plain::new(rt),
     };
     let answer = node.status(alloc, t, mark, &mut steps)?;
     let mut out = begun(alloc, &answer)?;
-    add_status(alloc, &mut out, node, &answer.body, mark)?;
+    add_status(rt, alloc, &mut out, node, &answer.body, mark)?;
     add_number(alloc, &mut out, steps.ledger.steps())?;
     Ok(out)
 }
 
 // The status, the media type and the body.
-fn told(alloc: Global, node: &Registry, answer: Response) -> Result<Text, Memory> {
+fn told<R: OpensLedgers>(
+    rt: &R,
+    alloc: Global,
+    node: &Registry,
+    answer: Response,
+) -> Result<Text, Memory> {
     let mut out = begun(alloc, &answer)?;
     match answer.media {
         Media::Json => add_word(&mut out, answer.body.as_slice())?,
-        _ => add_text(alloc, &mut out, node, &answer.body)?,
+        _ => add_text(rt, alloc, &mut out, node, &answer.body)?,
     }
     Ok(out)
 }

@@ -11,13 +11,14 @@ mod signed;
 mod words;
 
 use authority_core::Registry;
-use fed_base::{Memory, Text};
+use fed_base::{Memory, OpensLedgers, Text};
 use std::alloc::Global;
 use std::io::{self, Print};
 use words::cut;
 
 // What is answered to a row, which may keep a text or a node for those behind it.
-fn answer(
+fn answer<R: OpensLedgers>(
+    rt: &R,
     alloc: Global,
     row: &str,
     text: &mut Text,
@@ -33,7 +34,7 @@ fn answer(
             nodes::keep_node(alloc, given, text, node)
         },
         _ => match node {
-            Some(node) => answers::ask(alloc, node, kind, given, text),
+            Some(node) => answers::ask(rt, alloc, node, kind, given, text),
             None => Text::of(alloc, b"no node"),
         },
     }
@@ -51,7 +52,7 @@ fn write<R: Print>(rt: &R, told: Result<Text, Memory>) -> io::Result<()> {
 }
 
 // Answers the row that a line is.
-fn step<R: Print>(
+fn step<R: Print + OpensLedgers>(
     rt: &R,
     alloc: Global,
     line: io::Result<String>,
@@ -63,7 +64,7 @@ fn step<R: Print>(
     if row.starts_with('#') {
         return println!(rt; "{row}");
     }
-    write(rt, answer(alloc, row, text, node))
+    write(rt, answer(rt, alloc, row, text, node))
 }
 
 fn main(rt: HostRuntime) -> io::Result<()> {

@@ -5,7 +5,7 @@ ghost use Rattle.jws_form.specs.Compact.{IsCompact};
 
 use crate::words::{add_number, add_word};
 use authority_core::Registry;
-use fed_base::{Memory, Plain, Steps, Text};
+use fed_base::{Memory, OpensLedgers, Plain, Steps, Text};
 use jws_form::{Compact, FormFault, split};
 use sealed::{Tested, test_key};
 use std::alloc::Global;
@@ -18,7 +18,8 @@ fn parts(alloc: Global, text: &Text) -> Result<Compact, FormFault>
 }
 
 /// Adds the type of a signed text, its key, its payload, and whether the node's signer signed it.
-pub(crate) fn add_text(
+pub(crate) fn add_text<R: OpensLedgers>(
+    rt: &R,
     alloc: Global,
     out: &mut Text,
     node: &Registry,
@@ -29,12 +30,13 @@ pub(crate) fn add_text(
     };
     add_header(out, &compact)?;
     add_word(out, compact.payload.as_slice())?;
-    add_seal(alloc, out, node, &compact)
+    add_seal(rt, alloc, out, node, &compact)
 }
 
 /// Adds the same of an answer on a mark's status, with its issuer, its moment, the status, and whether it has the mark that was asked for
 /// in place of its payload.
-pub(crate) fn add_status(
+pub(crate) fn add_status<R: OpensLedgers>(
+    rt: &R,
     alloc: Global,
     out: &mut Text,
     node: &Registry,
@@ -46,7 +48,7 @@ pub(crate) fn add_status(
     };
     add_header(out, &compact)?;
     add_answer(alloc, out, &compact, mark)?;
-    add_seal(alloc, out, node, &compact)
+    add_seal(rt, alloc, out, node, &compact)
 }
 
 fn add_header(out: &mut Text, compact: &Compact) -> Result<(), Memory> {
@@ -61,11 +63,17 @@ fn add_some(out: &mut Text, text: &Option<Text>) -> Result<(), Memory> {
     }
 }
 
-fn add_seal(alloc: Global, out: &mut Text, node: &Registry, compact: &Compact) -> Result<(), Memory>
+fn add_seal<R: OpensLedgers>(
+    rt: &R,
+    alloc: Global,
+    out: &mut Text,
+    node: &Registry,
+    compact: &Compact,
+) -> Result<(), Memory>
     requires { IsCompact compact.now.whole compact.now }
 {
     let mut steps = Steps {
-        ledger: Plain::new(),
+        ledger: Plain::new(rt),
     };
     match test_key(alloc, compact, &node.signer().public(), &mut steps)? {
         Tested::Yes(_) => add_word(out, b"signed"),

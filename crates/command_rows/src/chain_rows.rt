@@ -3,13 +3,17 @@
 use crate::judge_rows::copied;
 use crate::run_rows;
 use crate::seals::{Signer, sealed_claims};
-use fed_base::{Alg, Memory, Text};
+use fed_base::{Alg, Memory, OpensLedgers, Text};
 use std::alloc::Global;
 use std::str;
 use std::thread::Threads;
 
 /// The status, what is written and the file `r` after the command of these words, this file, and the chain of these texts.
-pub fn told<R: Threads + Sync>(rt: &R, alloc: Global, given: &str) -> Result<String, Memory> {
+pub fn told<R: Threads + OpensLedgers + Sync>(
+    rt: &R,
+    alloc: Global,
+    given: &str,
+) -> Result<String, Memory> {
     let (words, given) = given.split_once('\t').unwrap_or((given, ""));
     let (file, texts) = given.split_once('\t').unwrap_or((given, ""));
     match chain_of(alloc, texts)? {

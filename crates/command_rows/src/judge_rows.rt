@@ -8,7 +8,7 @@ use crate::seals::{Signer, sealed_claims};
 use base64url::decode_32;
 use chain_check::{Judged, Reason, Tried, Verdict, judge};
 use entity_id::EntityId;
-use fed_base::{Alg, Duplicate, Memory, Plain, Seq, Steps, Text};
+use fed_base::{Alg, Duplicate, Memory, OpensLedgers, Plain, Seq, Steps, Text};
 use fed_json::read_tree;
 use jwk_set::JwkSet;
 use jws_form::{Compact, FormFault, split};
@@ -33,7 +33,7 @@ pub fn copied(alloc: Global, text: &str) -> Result<String, Memory> {
 
 /// What is found of the claims, sealed by the key of the seeds from 96 to 143 and tested under a key, at a moment and for an anchor and its
 /// keys.
-pub fn told(alloc: Global, given: &str) -> Result<String, Memory> {
+pub fn told<R: OpensLedgers>(rt: &R, alloc: Global, given: &str) -> Result<String, Memory> {
     let (public, given) = given.split_once('\t').unwrap_or((given, ""));
     let (moment, given) = given.split_once('\t').unwrap_or((given, ""));
     let (anchor, given) = given.split_once('\t').unwrap_or((given, ""));
@@ -50,7 +50,7 @@ pub fn told(alloc: Global, given: &str) -> Result<String, Memory> {
     };
     match taken_apart(alloc, text.as_slice()) {
         Ok(compact) => {
-            let told = judged(alloc, &compact, &question);
+            let told = judged(rt, alloc, &compact, &question);
             drop(compact);
             told
         }
@@ -74,12 +74,17 @@ fn taken_apart(alloc: Global, text: &[u8]) -> Result<Compact, FormFault>
 }
 
 // This text, with what its test under a key tells.
-fn tested(alloc: Global, compact: &Compact, public: &[u8; 32]) -> Result<Tried, Memory>
+fn tested<R: OpensLedgers>(
+    rt: &R,
+    alloc: Global,
+    compact: &Compact,
+    public: &[u8; 32],
+) -> Result<Tried, Memory>
     requires { IsCompact compact.now.whole compact.now }
     ensures { IfOk result IsOfItsText }
 {
     let mut steps = Steps {
-        ledger: Plain::new(),
+        ledger: Plain::new(rt),
     };
     let mut tried = Tried {
         text: compact.whole.copy(alloc)?,
@@ -94,19 +99,29 @@ fn tested(alloc: Global, compact: &Compact, public: &[u8; 32]) -> Result<Tried, 
 }
 
 // The chain of this text alone.
-fn tested_chain(alloc: Global, compact: &Compact, public: &[u8; 32]) -> Result<Seq<Tried>, Memory>
+fn tested_chain<R: OpensLedgers>(
+    rt: &R,
+    alloc: Global,
+    compact: &Compact,
+    public: &[u8; 32],
+) -> Result<Seq<Tried>, Memory>
     requires { IsCompact compact.now.whole compact.now }
     ensures { IfOk result (All IsOfItsText) }
 {
     let mut chain = Seq::new(alloc);
-    chain.push(tested(alloc, compact, public)?)?;
+    chain.push(tested(rt, alloc, compact, public)?)?;
     Ok(chain)
 }
 
-fn judged(alloc: Global, compact: &Compact, question: &Question) -> Result<String, Memory>
+fn judged<R: OpensLedgers>(
+    rt: &R,
+    alloc: Global,
+    compact: &Compact,
+    question: &Question,
+) -> Result<String, Memory>
     requires { IsCompact compact.now.whole compact.now }
 {
-    let chain = tested_chain(alloc, compact, &question.public)?;
+    let chain = tested_chain(rt, alloc, compact, &question.public)?;
     let told = by_anchor(alloc, &chain, question);
     drop(chain);
     told

@@ -21,7 +21,7 @@ fn main(rt: HostRuntime) -> io::Result<()> {
             Some(("run", given)) => run_rows::told(&rt, alloc, given),
             Some(("alike", given)) => run_rows::compared(&rt, alloc, given),
             Some(("chain", given)) => chain_rows::told(&rt, alloc, given),
-            Some(("judge", given)) => judge_rows::told(alloc, given),
+            Some(("judge", given)) => judge_rows::told(&rt, alloc, given),
             _ => judge_rows::copied(alloc, row),
         };
         match told {

@@ -1,6 +1,6 @@
 // Rows of the commands.
 
-use fed_base::{Memory, Seq, Text};
+use fed_base::{Memory, OpensLedgers, Seq, Text};
 use fed_commands::perform_command;
 use fed_ports::{MemoryClock, MemorySink, MemorySource, MemoryStore, NamedFile};
 use fed_words::{Call, Command, read_call};
@@ -98,7 +98,7 @@ fn command_of(alloc: Global, words: &Seq<Text>) -> Result<Command, Memory> {
 }
 
 // The status, what is written and the file `r` after the words' command.
-fn ran<R: Threads + Sync>(
+fn ran<R: Threads + OpensLedgers + Sync>(
     rt: &R,
     alloc: Global,
     words: &Seq<Text>,
@@ -122,7 +122,7 @@ fn ran<R: Threads + Sync>(
 }
 
 // The same with a sink and a store of their own.
-fn ran_from<R: Threads + Sync>(
+fn ran_from<R: Threads + OpensLedgers + Sync>(
     rt: &R,
     alloc: Global,
     words: &Seq<Text>,
@@ -150,7 +150,11 @@ fn source_of(alloc: Global, input: &str, faults: Faults) -> Result<MemorySource,
 }
 
 /// The status, what is written and the file `r` after the command of these words, this fault, this file and this input with a line end.
-pub fn told<R: Threads + Sync>(rt: &R, alloc: Global, given: &str) -> Result<String, Memory> {
+pub fn told<R: Threads + OpensLedgers + Sync>(
+    rt: &R,
+    alloc: Global,
+    given: &str,
+) -> Result<String, Memory> {
     let (words, given) = given.split_once('\t').unwrap_or((given, ""));
     let (fault, given) = given.split_once('\t').unwrap_or((given, ""));
     let (file, input) = given.split_once('\t').unwrap_or((given, ""));
@@ -158,7 +162,7 @@ pub fn told<R: Threads + Sync>(rt: &R, alloc: Global, given: &str) -> Result<Str
 }
 
 /// The same of these parts.
-pub fn answered<R: Threads + Sync>(
+pub fn answered<R: Threads + OpensLedgers + Sync>(
     rt: &R,
     alloc: Global,
     words: &str,
@@ -174,7 +178,11 @@ pub fn answered<R: Threads + Sync>(
 }
 
 /// What two commands answer over one file and input: the first one's status, how long its answer is, and whether the other's is the same.
-pub fn compared<R: Threads + Sync>(rt: &R, alloc: Global, given: &str) -> Result<String, Memory> {
+pub fn compared<R: Threads + OpensLedgers + Sync>(
+    rt: &R,
+    alloc: Global,
+    given: &str,
+) -> Result<String, Memory> {
     let (words, given) = given.split_once('\t').unwrap_or((given, ""));
     let (others, given) = given.split_once('\t').unwrap_or((given, ""));
     let (file, input) = given.split_once('\t').unwrap_or((given, ""));

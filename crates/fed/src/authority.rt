@@ -8,7 +8,7 @@ ghost use Rattle.node_service.specs.Streams.{IsAnsweredBy};
 
 use crate::ports::{Order, Ports};
 use fed_inspect::write_line;
-use fed_ports::{Clock, Memory, Network, Sink, Store, Text};
+use fed_ports::{Clock, Memory, Network, OpensLedgers, Sink, Store, Text};
 use node_service::{ServiceEnd, serve_authority};
 use plain_notes::{Notes, explain_memory};
 use std::alloc::Global;
@@ -27,7 +27,14 @@ pub(crate) fn served_line(alloc: Global, connections: u64) -> Result<Text, Memor
 }
 
 /// Serves as the authority of the configuration file, a stream of requests a connection or one, and gives the exit status.
-pub(crate) fn serve<R: Wait + Threads + Sync, S, K: Sink, D: Store, N: Network + Drop, C: Clock>(
+pub(crate) fn serve<
+    R: Wait + Threads + OpensLedgers + Sync,
+    S,
+    K: Sink,
+    D: Store,
+    N: Network + Drop,
+    C: Clock,
+>(
     rt: &R,
     alloc: Global,
     order: Order<'_>,

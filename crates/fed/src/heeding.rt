@@ -10,7 +10,7 @@ ghost use Rattle.fed.specs.Services.{RunsResolving};
 use crate::ports::Ports;
 use crate::resolving::{Question, resolve, tell_fault, tell_refusal};
 use fed_inspect::write_line;
-use fed_ports::{Clock, Network, Sink, Store};
+use fed_ports::{Clock, Network, OpensLedgers, Sink, Store};
 use fed_resolver::{Outcome, Reply, ResolveRequest};
 use heeded_reply::{Heard, HeededReply, explain_marks, heed_once, reply_lines};
 use node_files::NodeFault;
@@ -24,7 +24,7 @@ use std::thread::Threads;
 /// Resolves what is asked as the resolver of the configuration file, asks the issuers of the reply's marks about them where `heed` says
 /// so, and gives the exit status.
 pub(crate) fn resolve_as<
-    R: Wait + Threads + Sync,
+    R: Wait + Threads + OpensLedgers + Sync,
     S,
     K: Sink,
     D: Store,
@@ -53,7 +53,14 @@ pub(crate) fn resolve_as<
 }
 
 // Resolves what is asked, and asks about the marks.
-fn resolve_heeding<R: Wait + Threads + Sync, S, K: Sink, D: Store, N: Network + Drop, C: Clock>(
+fn resolve_heeding<
+    R: Wait + Threads + OpensLedgers + Sync,
+    S,
+    K: Sink,
+    D: Store,
+    N: Network + Drop,
+    C: Clock,
+>(
     rt: &R,
     alloc: Global,
     question: Question<'_>,
@@ -85,11 +92,12 @@ fn resolve_heeding<R: Wait + Threads + Sync, S, K: Sink, D: Store, N: Network + 
         worn,
         notes,
     );
-    tell_heard(alloc, question.request, heard, out, notes)
+    tell_heard(rt, alloc, question.request, heard, out, notes)
 }
 
 // Writes what came of a call, or that there is no such node, and gives the status.
-fn tell_heard<K: Sink>(
+fn tell_heard<R: OpensLedgers, K: Sink>(
+    rt: &R,
     alloc: Global,
     request: &ResolveRequest,
     heard: Result<Heard, NodeFault>,
@@ -100,7 +108,7 @@ fn tell_heard<K: Sink>(
 {
     match heard {
         Ok(heard) => {
-            explain_outcome(alloc, request, &heard.outcome, notes);
+            explain_outcome(rt, alloc, request, &heard.outcome, notes);
             tell_result(alloc, heard, out, notes)
         }
         Err(fault) => tell_fault(alloc, fault, out, notes),

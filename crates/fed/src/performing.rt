@@ -19,7 +19,7 @@ use crate::resolver::serve_as_resolver;
 use crate::resolving::Question;
 use fed_commands::perform_command;
 use fed_inspect::inspect;
-use fed_ports::{Clock, Network, Seq, Sink, Source, Store, Text};
+use fed_ports::{Clock, Network, OpensLedgers, Seq, Sink, Source, Store, Text};
 use fed_resolver::ResolveRequest;
 use fed_words::{Call, Service, read_call};
 use plain_notes::{Notes, explain_memory};
@@ -30,7 +30,7 @@ use word_notes::explain_command;
 
 /// Does what the words ask for, adds what a person is to read of it to the notes, and gives the exit status.
 pub(crate) fn perform<
-    R: Threads + Wait + Sync,
+    R: Threads + Wait + OpensLedgers + Sync,
     S: Source,
     K: Sink,
     D: Store,
@@ -102,7 +102,7 @@ where
 
 // Serves, resolves or rehearses, as is asked for.
 fn serve_as<
-    R: Threads + Wait + Sync,
+    R: Threads + Wait + OpensLedgers + Sync,
     S: Source,
     K: Sink,
     D: Store,

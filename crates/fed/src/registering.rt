@@ -15,7 +15,7 @@ use chain_check::Verdict;
 use client_register::{RegisterFault, Registered};
 use fed_commands::verdict_lines;
 use fed_inspect::write_line;
-use fed_ports::{Clock, Network, Sink, Source, Store};
+use fed_ports::{Clock, Network, OpensLedgers, Sink, Source, Store};
 use fed_words::Registration;
 use plain_notes::{Notes, explain_memory};
 use register_once::{RegisterOrder, RegisterOutcome, RegisterStop, register_once};
@@ -26,7 +26,7 @@ use std::thread::Threads;
 
 /// Registers the relying party that is posted in the input, as the node of the configuration file, and gives the exit status.
 pub(crate) fn register<
-    R: Wait + Threads + Sync,
+    R: Wait + Threads + OpensLedgers + Sync,
     S: Source,
     K: Sink,
     D: Store,

@@ -6,7 +6,7 @@ ghost use Rattle.fed.specs.Rehearsals.{IsSummaryTold, IsRehearsedAs};
 ghost use Rattle.fed.specs.Resolving.{HoldsBy};
 
 use fed_inspect::write_line;
-use fed_ports::Sink;
+use fed_ports::{OpensLedgers, Sink};
 use plain_notes::{Notes, explain_memory, explain_worn};
 use rehearsal::{RehearsalFault, Summary};
 use statement_shelf::FedPass;
@@ -15,7 +15,7 @@ use std::sync::Wait;
 use std::thread::Threads;
 
 /// Resolves the leaf of a federation in memory twice, whose metadata has so many parameters, and gives the exit status.
-pub(crate) fn rehearse<R: Wait + Threads + Sync, K: Sink>(
+pub(crate) fn rehearse<R: Wait + Threads + OpensLedgers + Sync, K: Sink>(
     rt: &R,
     alloc: Global,
     params: u64,

@@ -11,7 +11,7 @@ ghost use Rattle.resolver_service.specs.declared.ending.ResolverEnd.TheVariants 
 use crate::authority::served_line;
 use crate::ports::{Order, Passes, Ports};
 use fed_inspect::write_line;
-use fed_ports::{Clock, Network, Sink, Store};
+use fed_ports::{Clock, Network, OpensLedgers, Sink, Store};
 use plain_notes::{Notes, explain_memory, explain_worn};
 use resolver_service::{ResolverEnd, serve_resolver};
 use statement_shelf::FedPass;
@@ -21,7 +21,7 @@ use std::thread::Threads;
 
 /// Serves as the resolver of the configuration file, and gives the exit status.
 pub(crate) fn serve_as_resolver<
-    R: Threads + Wait + Sync,
+    R: Threads + Wait + OpensLedgers + Sync,
     S,
     K: Sink,
     D: Store,

@@ -7,7 +7,7 @@ ghost use Rattle.fed.specs.Resolving.{HoldsBy, IsReplyTold, IsTold, IsToldBy, Ru
 
 use crate::ports::Ports;
 use fed_inspect::write_line;
-use fed_ports::{Clock, Network, Sink, Store, Text};
+use fed_ports::{Clock, Network, OpensLedgers, Sink, Store, Text};
 use fed_resolver::{Outcome, Refusal, Reply, ResolveRequest};
 use node_files::NodeFault;
 use plain_notes::{Notes, explain_memory};
@@ -37,7 +37,14 @@ pub(crate) struct Question<'a> {
 }
 
 /// Resolves what is asked as the resolver of the configuration file, and gives the exit status.
-pub(crate) fn resolve<R: Wait + Threads + Sync, S, K: Sink, D: Store, N: Network + Drop, C: Clock>(
+pub(crate) fn resolve<
+    R: Wait + Threads + OpensLedgers + Sync,
+    S,
+    K: Sink,
+    D: Store,
+    N: Network + Drop,
+    C: Clock,
+>(
     rt: &R,
     alloc: Global,
     question: Question<'_>,
@@ -69,11 +76,12 @@ pub(crate) fn resolve<R: Wait + Threads + Sync, S, K: Sink, D: Store, N: Network
         worn,
         notes,
     );
-    tell_call(alloc, question.request, called, out, notes)
+    tell_call(rt, alloc, question.request, called, out, notes)
 }
 
 // Writes what a call answered, or that there is no such node, and gives the status.
-fn tell_call<K: Sink>(
+fn tell_call<R: OpensLedgers, K: Sink>(
+    rt: &R,
     alloc: Global,
     request: &ResolveRequest,
     called: Result<Outcome, NodeFault>,
@@ -84,7 +92,7 @@ fn tell_call<K: Sink>(
 {
     match called {
         Ok(outcome) => {
-            explain_outcome(alloc, request, &outcome, notes);
+            explain_outcome(rt, alloc, request, &outcome, notes);
             tell(alloc, outcome, out, notes)
         }
         Err(fault) => tell_fault(alloc, fault, out, notes),

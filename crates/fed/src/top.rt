@@ -14,7 +14,7 @@ ghost use Rattle.fed.specs.Services.{RunsService};
 use crate::performing::perform;
 use crate::ports::{Passes, Ports};
 use fed_commands::hand_notes;
-use fed_ports::{Clock, Network, Seq, Sink, Source, Store, Text};
+use fed_ports::{Clock, Network, OpensLedgers, Seq, Sink, Source, Store, Text};
 use plain_notes::Notes;
 use statement_shelf::FedPass;
 use std::alloc::Global;
@@ -65,7 +65,7 @@ use std::thread::Threads;
 /// | 3 | the source failed | nothing |
 /// | 7 | no chain was found, and a fetch failed | nothing |
 pub fn run<
-    R: Threads + Wait + Sync,
+    R: Threads + Wait + OpensLedgers + Sync,
     S: Source,
     K: Sink,
     D: Store,
@@ -120,7 +120,7 @@ where
 /// wrong where it is, which for claims and rings is told by another clock of the same kind. A note for which memory is wanting, or that
 /// can't be written, changes nothing.
 pub fn run_with_notes<
-    R: Threads + Wait + Sync,
+    R: Threads + Wait + OpensLedgers + Sync,
     S: Source,
     K: Sink,
     D: Store,

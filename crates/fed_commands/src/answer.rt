@@ -11,7 +11,7 @@ ghost use Rattle.ring_commands.specs.RingFiles.{IsFileOf};
 
 use crate::operation::{Prepared, perform, prepare};
 use fed_notes::{explain_migration, is_old_ring};
-use fed_ports::{Failed, Memory, ReadEnd, Source, Store, StoreFault, Text, read_all};
+use fed_ports::{Failed, Memory, OpensLedgers, ReadEnd, Source, Store, StoreFault, Text, read_all};
 use fed_words::Command;
 use plain_notes::{Notes, explain_source, explain_unkept_file, explain_unread_file};
 use ring_commands::{File, Reply};
@@ -131,7 +131,7 @@ fn without_line_end(mut bytes: Text) -> Text
 }
 
 /// The command's reply on its file and its input, at a moment in seconds since 1970, with what is said of it. No file is changed.
-pub fn reply_to<R: Threads + Sync, S: Source, D: Store>(
+pub fn reply_to<R: Threads + OpensLedgers + Sync, S: Source, D: Store>(
     rt: &R,
     alloc: Global,
     command: &Command,

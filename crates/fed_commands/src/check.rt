@@ -9,14 +9,15 @@ use chain_notes::{Asked, explain_verdict};
 use entity_id::EntityId;
 use fed_json::{TreeFault, copied_texts, read_tree};
 use fed_notes::explain_unless_list;
-use fed_ports::{Memory, Plain, Seq, Steps, Text};
+use fed_ports::{Memory, OpensLedgers, Plain, Seq, Steps, Text};
 use jwk_set::{JwkSet, SetFault};
 use plain_notes::Notes;
 use ring_commands::{Reply, plain};
 use std::alloc::Global;
 
 /// What is found of the chain in the input, for the anchor with these keys at the moment `t` (seconds since 1970).
-pub fn check(
+pub fn check<R: OpensLedgers>(
+    rt: &R,
     alloc: Global,
     anchor: &EntityId,
     keys: &JwkSet,
@@ -31,7 +32,7 @@ pub fn check(
         return plain(alloc, 2, b"input\n");
     };
     let mut steps = Steps {
-        ledger: Plain::new(),
+        ledger: Plain::new(rt),
     };
     let verdict = check_chain(alloc, &chain, anchor, keys, t, &mut steps)?;
     let asked = Asked {

@@ -15,7 +15,7 @@ use fed_notes::{
     explain_absent_file, explain_existing_file, explain_keys_file, explain_long_file,
     explain_long_input, warn_of_ended_signer,
 };
-use fed_ports::{Alg, Duplicate, Memory, Text};
+use fed_ports::{Alg, Duplicate, Memory, OpensLedgers, Text};
 use fed_words::{Act, Command, Moment, TextType, moment_or};
 use jwk_set::JwkSet;
 use key_ring::KeyRing;
@@ -248,7 +248,7 @@ fn no_keys(alloc: Global, name: &Text, file: &File, notes: &mut Notes) -> Result
 
 /// What is answered on the input, without its line end; an input that is too long is `None`. Claims and chains free its memory once they
 /// are read from it.
-pub fn perform<R: Threads + Sync>(
+pub fn perform<R: Threads + OpensLedgers + Sync>(
     rt: &R,
     alloc: Global,
     operation: Operation,
@@ -264,7 +264,7 @@ pub fn perform<R: Threads + Sync>(
         return plain(alloc, 2, b"input\n");
     };
     match operation {
-        Operation::Verify(key) => verify(alloc, &key, input.as_slice(), notes),
+        Operation::Verify(key) => verify(rt, alloc, &key, input.as_slice(), notes),
         Operation::Keygen { alg, at, exp } => {
             keygen(alloc, alg, at, exp, input.as_slice(), notes)
         }
@@ -280,6 +280,6 @@ pub fn perform<R: Threads + Sync>(
             input.as_slice(),
             notes,
         ),
-        Operation::Check { anchor, keys, at } => check(alloc, &anchor, &keys, at, input, notes),
+        Operation::Check { anchor, keys, at } => check(rt, alloc, &anchor, &keys, at, input, notes),
     }
 }

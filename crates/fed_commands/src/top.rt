@@ -5,7 +5,7 @@ ghost use Rattle.fed_commands.specs.Answers.{IsEnded, IsMomentFor, named, output
 ghost use Rattle.fed_commands.specs.Runs.{IsRun, views, world};
 
 use crate::answer::{Stop, keep, reply_to};
-use fed_ports::{Clock, Sink, Source, Store, write_all};
+use fed_ports::{Clock, OpensLedgers, Sink, Source, Store, write_all};
 use fed_words::Command;
 use plain_notes::{Notes, explain_memory, explain_sink};
 use ring_commands::Reply;
@@ -27,7 +27,7 @@ use std::thread::Threads;
 /// | 4 | the sink failed | a beginning of the text |
 /// | 5 | memory was wanting | nothing |
 /// | 6 | the store failed | nothing |
-pub fn perform_command<R: Threads + Sync, S: Source, K: Sink, D: Store, C: Clock>(
+pub fn perform_command<R: Threads + OpensLedgers + Sync, S: Source, K: Sink, D: Store, C: Clock>(
     rt: &R,
     alloc: Global,
     command: &Command,

@@ -5,13 +5,14 @@ ghost use Rattle.fed_commands.specs.Findings.{IsVerified};
 
 use crate::verify_finding::{Finding, examine};
 use fed_notes::explain_verify;
-use fed_ports::Memory;
+use fed_ports::{Memory, OpensLedgers};
 use plain_notes::Notes;
 use ring_commands::Reply;
 use std::alloc::Global;
 
 /// What is found of a configuration under a public key.
-pub fn verify(
+pub fn verify<R: OpensLedgers>(
+    rt: &R,
     alloc: Global,
     key: &[u8; 32],
     text: &[u8],
@@ -19,7 +20,7 @@ pub fn verify(
 ) -> Result<Reply, Memory>
     ensures { IfOk result (IsVerified key.now text.now) }
 {
-    let finding = examine(alloc, key, text)?;
+    let finding = examine(rt, alloc, key, text)?;
     explain_finding(alloc, &finding, text, notes);
     let status = finding.status();
     let text = finding.line(alloc);

@@ -6,7 +6,7 @@ ghost use Rattle.fed_commands.specs.Findings.{IsFinding, status_of, line_of};
 
 use entity_id::EntityId;
 use entity_statement::{SignedStatement, Statement};
-use fed_ports::{Memory, Plain, Steps, Text};
+use fed_ports::{Memory, OpensLedgers, Plain, Steps, Text};
 use jws_form::Compact;
 use slh_dsa::verify;
 use std::alloc::Global;
@@ -25,7 +25,12 @@ pub enum Finding {
 }
 
 /// What is found of the text.
-pub fn examine(alloc: Global, key: &[u8; 32], text: &[u8]) -> Result<Finding, Memory>
+pub fn examine<R: OpensLedgers>(
+    rt: &R,
+    alloc: Global,
+    key: &[u8; 32],
+    text: &[u8],
+) -> Result<Finding, Memory>
     ensures { IfOk result (IsFinding key.now text.now) }
 {
     let Some(signed) = SignedStatement::read(alloc, text)? else {
@@ -35,7 +40,7 @@ pub fn examine(alloc: Global, key: &[u8; 32], text: &[u8]) -> Result<Finding, Me
         drop(signed);
         return Ok(Finding::Names);
     }
-    if has_signature(key, &signed.compact) {
+    if has_signature(rt, key, &signed.compact) {
         Ok(Finding::Valid(subject(signed)))
     } else {
         drop(signed);
@@ -44,11 +49,11 @@ pub fn examine(alloc: Global, key: &[u8; 32], text: &[u8]) -> Result<Finding, Me
 }
 
 // Whether the signature verifies under the key, by the algorithm that the header names.
-fn has_signature(key: &[u8; 32], compact: &Compact) -> bool
+fn has_signature<R: OpensLedgers>(rt: &R, key: &[u8; 32], compact: &Compact) -> bool
     ensures { IsTrue result ↔ Verifies compact.now.alg key.now compact.now.signed compact.now.signature }
 {
     let mut steps = Steps {
-        ledger: Plain::new(),
+        ledger: Plain::new(rt),
     };
     let signed = compact.signed.as_slice();
     let signature = compact.signature.as_slice();

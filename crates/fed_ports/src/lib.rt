@@ -32,7 +32,8 @@ mod store;
 pub use address::{Address, listen_address};
 pub use clock::Clock;
 pub use fed_base::{
-    Alg, CallPlan, Duplicate, Failed, Ledger, MOMENT_LIMIT, Memory, Plain, Seq, Steps, Text,
+    Alg, CallPlan, Duplicate, Failed, Ledger, MOMENT_LIMIT, Memory, OpensLedgers, Plain, Seq,
+    Steps, Text,
 };
 pub use input::{ReadEnd, read_all};
 pub use link::{Link, LinkFault};

@@ -16,7 +16,7 @@ ghost use Rattle.heeded_reply.specs.Stages.{IsOpenHeeding, wire_seen};
 
 use crate::heeding::{Asked, heed_reply};
 use crate::reply::{Heard, HeededReply};
-use fed_base::{Duplicate, Memory, Seq, Text};
+use fed_base::{Duplicate, Memory, OpensLedgers, Seq, Text};
 use fed_ports::{Clock, Network, Store};
 use fed_resolver::{Outcome, ResolveRequest, Signer};
 use http_plain::Route;
@@ -44,7 +44,7 @@ pub(crate) struct OpenHeeding<N> {
 /// What the node of a configuration file answers to a request for an entity's resolved metadata (OpenID Federation 1.0 section 8.3), as
 /// [`resolve_call::resolve_once`], and what becomes of its reply once each issuer of a mark that names a status endpoint was asked
 /// about it (section 8.4), over the same network: a mark is left out where it isn't active. A post that fails doesn't fail the call.
-pub fn heed_once<R: Wait + Threads + Sync, D: Store, N: Network + Drop, C: Clock>(
+pub fn heed_once<R: Wait + Threads + OpensLedgers + Sync, D: Store, N: Network + Drop, C: Clock>(
     rt: &R,
     alloc: Global,
     config: &Text,
@@ -95,7 +95,7 @@ fn open_heeding<N: Network + Drop>(
 }
 
 // Makes the call at the moment, in seconds since 1970, and asks about its reply's marks.
-fn heed_at<R: Wait + Threads + Sync, N: Network + Drop>(
+fn heed_at<R: Wait + Threads + OpensLedgers + Sync, N: Network + Drop>(
     rt: &R,
     alloc: Global,
     call: OpenHeeding<N>,
@@ -129,7 +129,7 @@ fn heed_at<R: Wait + Threads + Sync, N: Network + Drop>(
 }
 
 // The outcome's reply, where it has one, once its marks were asked about.
-fn heed_outcome<R: Threads + Sync, N: Network + Drop>(
+fn heed_outcome<R: Threads + OpensLedgers + Sync, N: Network + Drop>(
     asked: &Asked<R>,
     request: &ResolveRequest,
     outcome: &Outcome,

@@ -20,7 +20,7 @@ use crate::asker::LinkAsker;
 use crate::marks::claimed_marks;
 use crate::reply::HeededReply;
 use entity_statement::MarkEntry;
-use fed_base::{Duplicate, Memory, Plain, Seq, Steps, Text};
+use fed_base::{Duplicate, Memory, OpensLedgers, Plain, Seq, Steps, Text};
 use fed_ports::Network;
 use http_plain::{HttpLink, Route};
 use mark_status::{Heeded, Tell, heed};
@@ -40,7 +40,7 @@ pub(crate) struct Asked<'a, R> {
 
 /// The reply once its marks were asked about, over the network, in whose place another stands meanwhile. It makes one signature where a
 /// mark isn't kept, and none else.
-pub(crate) fn heed_reply<R: Threads + Sync, N: Network + Drop>(
+pub(crate) fn heed_reply<R: Threads + OpensLedgers + Sync, N: Network + Drop>(
     asked: &Asked<R>,
     reply: &Reply,
     routes: Seq<Route>,
@@ -56,10 +56,9 @@ pub(crate) fn heed_reply<R: Threads + Sync, N: Network + Drop>(
     let marks = claimed_marks(asked.alloc, &reply.claims)?;
     let mut arrivals = Arrivals::new();
     let what = heed_over(
-        asked.alloc,
+        asked,
         &marks,
         &reply.configs,
-        asked.moment,
         routes,
         another,
         net,
@@ -75,11 +74,10 @@ pub(crate) fn heed_reply<R: Threads + Sync, N: Network + Drop>(
 }
 
 // What is heeded of these marks over the network.
-fn heed_over<N: Network + Drop>(
-    alloc: Global,
+fn heed_over<R: OpensLedgers, N: Network + Drop>(
+    asked: &Asked<R>,
     marks: &Seq<MarkEntry>,
     configs: &Seq<Text>,
-    moment: u64,
     routes: Seq<Route>,
     another: N,
     net: &mut N,
@@ -88,7 +86,7 @@ fn heed_over<N: Network + Drop>(
     requires marks { All (λ entry. IsSome (mark_of entry.text)) marks.now }
     requires configs { All (λ config. IsSome (statement_of config)) configs.now }
     requires each { length marks.now ≡ length configs.now }
-    ensures heeds { IfOk result (HeedsOver routes (heeding_of marks.now configs.now moment) (wire_seen N.Network net.old) (wire_seen N.Network net.new)) }
+    ensures heeds { IfOk result (HeedsOver routes (heeding_of marks.now configs.now asked.now.moment) (wire_seen N.Network net.old) (wire_seen N.Network net.new)) }
     ensures left_out { IfOk result (λ what. All (IsKeptOrTold marks.now what) marks.now) }
     ensures broken { OnErr result (PostedSome routes (length marks.now) (N.exchanges net.old) (N.exchanges net.new)) }
     ensures still { listening_seen N.Network net.new ≡ listening_seen N.Network net.old }
@@ -97,9 +95,16 @@ fn heed_over<N: Network + Drop>(
     let link = HttpLink::new(network, routes);
     let mut asker = LinkAsker::new(link);
     let mut steps = Steps {
-        ledger: Plain::new(),
+        ledger: Plain::new(asked.rt),
     };
-    let what = heed(alloc, &mut asker, marks, configs, moment, &mut steps);
+    let what = heed(
+        asked.alloc,
+        &mut asker,
+        marks,
+        configs,
+        asked.moment,
+        &mut steps,
+    );
     *arrivals = asker.arrivals();
     let link = asker.into_link();
     *net = link.into_net();

@@ -7,7 +7,7 @@ ghost use Rattle.trust_mark.specs.Marks.{mark_of};
 use crate::read_rows::text_of;
 use crate::words::{add_number, add_word, cut};
 use entity_statement::{MarkEntry, SignedStatement};
-use fed_base::{Duplicate, Memory, Plain, Seq, Steps, Text};
+use fed_base::{Duplicate, Memory, OpensLedgers, Plain, Seq, Steps, Text};
 use fed_ports::Page;
 use mark_status::{Heeded, MemoryAsker, Post, Tell, heed};
 use std::alloc::Global;
@@ -65,7 +65,12 @@ impl Returned {
 
     /// `heed MOMENT CALL ..`: what each mark is told where the calls of these numbers fail, the types of those that are kept, their end,
     /// how many signatures were tested, and the posts that were made.
-    pub(crate) fn heed(&self, alloc: Global, given: &str) -> Result<Text, Memory> {
+    pub(crate) fn heed<R: OpensLedgers>(
+        &self,
+        rt: &R,
+        alloc: Global,
+        given: &str,
+    ) -> Result<Text, Memory> {
         if !all_read(alloc, &self.marks, &self.configs)? {
             return Text::of(alloc, b"no marks");
         }
@@ -74,7 +79,7 @@ impl Returned {
         let failing = failing.parse::<u64>().unwrap_or(99);
         let mut asker = MemoryAsker::new(alloc, self.pages.copy(alloc)?, &[failing], 16)?;
         let mut steps = Steps {
-            ledger: Plain::new(),
+            ledger: Plain::new(rt),
         };
         let heeded = heed(alloc, &mut asker, &self.marks, &self.configs, t, &mut steps)?;
         heeded_told(alloc, &heeded, steps.ledger.steps(), asker.posts())

@@ -10,19 +10,25 @@ mod seal_rows;
 mod verify_rows;
 mod words;
 
-use fed_base::{Memory, Text};
+use fed_base::{Memory, OpensLedgers, Text};
 use heed_rows::Returned;
 use std::alloc::Global;
 use std::io;
 use words::cut;
 
 // What is answered to a row that keeps nothing.
-fn answer(alloc: Global, kind: &str, given: &str, kept: &Text) -> Result<Text, Memory> {
+fn answer<R: OpensLedgers>(
+    rt: &R,
+    alloc: Global,
+    kind: &str,
+    given: &str,
+    kept: &Text,
+) -> Result<Text, Memory> {
     match kind {
         "mark" => read_rows::mark(alloc, given),
         "delegation" => read_rows::delegation(alloc, given),
         "status" => read_rows::status(alloc, given),
-        "verify" => verify_rows::verify(alloc, given, kept),
+        "verify" => verify_rows::verify(rt, alloc, given, kept),
         _ => Text::of(alloc, b"no such row"),
     }
 }
@@ -39,7 +45,8 @@ fn keep(alloc: Global, kind: &str, given: &str, kept: &mut Text) -> Result<Text,
 }
 
 // What is answered to a row that is about marks that are asked about, which are none again when they were.
-fn ask(
+fn ask<R: OpensLedgers>(
+    rt: &R,
     alloc: Global,
     kind: &str,
     given: &str,
@@ -50,7 +57,7 @@ fn ask(
         "returned" => returned.add(alloc, given, kept)?,
         "page" => returned.add_page(alloc, given, kept)?,
         _ => {
-            let told = returned.heed(alloc, given);
+            let told = returned.heed(rt, alloc, given);
             *returned = Returned::new(alloc);
             return told;
         },
@@ -67,8 +74,8 @@ fn main(rt: HostRuntime) -> io::Result<()> {
         let (kind, given) = cut(line.as_str());
         let told = match kind {
             "seal" | "grow" | "unsealed" | "text" => keep(alloc, kind, given, &mut kept),
-            "returned" | "page" | "heed" => ask(alloc, kind, given, &kept, &mut returned),
-            _ => answer(alloc, kind, given, &kept),
+            "returned" | "page" | "heed" => ask(&rt, alloc, kind, given, &kept, &mut returned),
+            _ => answer(&rt, alloc, kind, given, &kept),
         };
         if line.as_str().starts_with('#') {
             println!(rt; "{}", line.as_str())?;

@@ -3,7 +3,7 @@
 use crate::words::{add_number, cut};
 use entity_id::EntityId;
 use entity_statement::{MarkEntry, Statement, StatementFault};
-use fed_base::{Duplicate, Memory, Plain, Steps, Text};
+use fed_base::{Duplicate, Memory, OpensLedgers, Plain, Steps, Text};
 use fed_json::read_tree;
 use jwk_set::JwkSet;
 use std::alloc::Global;
@@ -60,7 +60,8 @@ fn verdict_told(alloc: Global, verdict: MarkVerdict) -> Result<Text, Memory> {
 }
 
 // What is answered on the entry by these, with the number of signatures that were tested.
-fn told(
+fn told<R: OpensLedgers>(
+    rt: &R,
     alloc: Global,
     moment: &str,
     entry: &MarkEntry,
@@ -70,7 +71,7 @@ fn told(
 ) -> Result<Text, Memory> {
     let t = moment.parse::<u64>().unwrap_or(0);
     let mut steps = Steps {
-        ledger: Plain::new(),
+        ledger: Plain::new(rt),
     };
     let verdict = verify_mark(alloc, entry, leaf, anchor, keys, t, &mut steps)?;
     let mut out = verdict_told(alloc, verdict)?;
@@ -79,7 +80,8 @@ fn told(
 }
 
 // The same by a key set that is yet to be read.
-fn by_keys(
+fn by_keys<R: OpensLedgers>(
+    rt: &R,
     alloc: Global,
     moment: &str,
     entry: &MarkEntry,
@@ -89,7 +91,7 @@ fn by_keys(
 ) -> Result<Text, Memory> {
     match keys(alloc, set) {
         Some(keys) => {
-            let told = told(alloc, moment, entry, leaf, anchor, &keys);
+            let told = told(rt, alloc, moment, entry, leaf, anchor, &keys);
             drop(keys);
             told
         },
@@ -98,7 +100,8 @@ fn by_keys(
 }
 
 // The same by a configuration too, where it is one.
-fn by_statement(
+fn by_statement<R: OpensLedgers>(
+    rt: &R,
     alloc: Global,
     moment: &str,
     entry: &MarkEntry,
@@ -108,7 +111,7 @@ fn by_statement(
 ) -> Result<Text, Memory> {
     match anchor {
         Ok(anchor) => {
-            let told = by_keys(alloc, moment, entry, leaf, &anchor, set);
+            let told = by_keys(rt, alloc, moment, entry, leaf, &anchor, set);
             drop(anchor);
             told
         },
@@ -117,7 +120,8 @@ fn by_statement(
 }
 
 // The same by a configuration that is yet to be read.
-fn by_anchor(
+fn by_anchor<R: OpensLedgers>(
+    rt: &R,
     alloc: Global,
     moment: &str,
     entry: &MarkEntry,
@@ -129,28 +133,39 @@ fn by_anchor(
     match read_tree(alloc, claims.as_slice()) {
         Ok(tree) => {
             let anchor = Statement::of_claims(alloc, tree);
-            by_statement(alloc, moment, entry, leaf, anchor, set)
+            by_statement(rt, alloc, moment, entry, leaf, anchor, set)
         },
         Err(_) => Text::of(alloc, b"no anchor"),
     }
 }
 
 // The same for an entity that is yet to be read.
-fn by_leaf(alloc: Global, moment: &str, entry: &MarkEntry, given: &str) -> Result<Text, Memory> {
+fn by_leaf<R: OpensLedgers>(
+    rt: &R,
+    alloc: Global,
+    moment: &str,
+    entry: &MarkEntry,
+    given: &str,
+) -> Result<Text, Memory> {
     let (leaf, given) = cut(given);
     match EntityId::of(alloc, leaf.as_bytes())? {
-        Some(leaf) => by_anchor(alloc, moment, entry, &leaf, given),
+        Some(leaf) => by_anchor(rt, alloc, moment, entry, &leaf, given),
         None => Text::of(alloc, b"no leaf"),
     }
 }
 
 /// `verify MOMENT TYPE LEAF ANCHOR KEYS`: until when the kept mark is good, as an entry of this type, or the first reason
 /// for which it isn't, and how many signatures were tested. `ANCHOR` is what the trust anchor's configuration says of marks.
-pub(crate) fn verify(alloc: Global, given: &str, kept: &Text) -> Result<Text, Memory> {
+pub(crate) fn verify<R: OpensLedgers>(
+    rt: &R,
+    alloc: Global,
+    given: &str,
+    kept: &Text,
+) -> Result<Text, Memory> {
     let (moment, given) = cut(given);
     let (mark_type, given) = cut(given);
     let mark_type = Text::of(alloc, mark_type.as_bytes())?;
     let text = kept.copy(alloc)?;
     let entry = MarkEntry { mark_type, text };
-    by_leaf(alloc, moment, &entry, given)
+    by_leaf(rt, alloc, moment, &entry, given)
 }

@@ -10,7 +10,7 @@ ghost use Rattle.node_service.specs.Streams.{IsAnsweredBy};
 use crate::connections::{Server, serve_connections};
 use crate::stop::Stop;
 use crate::tools::Tools;
-use fed_ports::{Clock, Network, Store, Text};
+use fed_ports::{Clock, Network, OpensLedgers, Store, Text};
 use fed_serve::Node;
 use node_files::{NodeFault, Post, explain_accept, explain_port, open_authority};
 use plain_notes::Notes;
@@ -51,7 +51,12 @@ impl From<NodeFault> for ServiceEnd {
 /// Answers so many connections on a port, one after the other, as the authority of a configuration file. The node is read from that file
 /// and the ring file that it names, once, before the port is taken. With `stream` a connection may have up to a hundred requests, and else
 /// one. What becomes of one connection ends nothing.
-pub fn serve_authority<R: Wait + Threads + Sync, D: Store, N: Network + Drop, C: Clock>(
+pub fn serve_authority<
+    R: Wait + Threads + OpensLedgers + Sync,
+    D: Store,
+    N: Network + Drop,
+    C: Clock,
+>(
     rt: &R,
     alloc: Global,
     config: &Text,
@@ -90,7 +95,7 @@ pub fn serve_authority<R: Wait + Threads + Sync, D: Store, N: Network + Drop, C:
 }
 
 // Takes the port and answers the connections.
-fn serve_alone<R: Wait + Threads + Sync, N: Network, C: Clock>(
+fn serve_alone<R: Wait + Threads + OpensLedgers + Sync, N: Network, C: Clock>(
     server: &Server<R>,
     post: Post,
     net: &mut N,
@@ -102,7 +107,7 @@ fn serve_alone<R: Wait + Threads + Sync, N: Network, C: Clock>(
         (network_seen N.Network C.Clock net.old clock.old) (network_seen N.Network C.Clock net.new clock.new) result }
     ensures exchanges { N.exchanges net.new ≡ N.exchanges net.old }
 {
-    let Ok(mut tools) = Tools::new(server.alloc) else {
+    let Ok(mut tools) = Tools::new(server.rt, server.alloc) else {
         return ServiceEnd::Memory;
     };
     if net.listen(post.port).is_err() {

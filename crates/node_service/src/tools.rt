@@ -1,7 +1,7 @@
 // What an authority answers with beside its node and its clock.
 
 use crate::no_link::NoLink;
-use fed_ports::{Memory, Plain, Seq, Steps};
+use fed_ports::{Memory, OpensLedgers, Plain, Seq, Steps};
 use statement_shelf::{Commons, FedPass};
 use std::alloc::Global;
 
@@ -15,13 +15,13 @@ pub(crate) struct Tools {
 }
 
 impl Tools {
-    pub(crate) fn new(alloc: Global) -> Result<Tools, Memory> {
+    pub(crate) fn new<R: OpensLedgers>(rt: &R, alloc: Global) -> Result<Tools, Memory> {
         let (_commons, pass) = Commons::new(alloc, Seq::new(alloc))?;
         Ok(Tools {
             pass,
             link: NoLink::new(),
             steps: Steps {
-                ledger: Plain::new(),
+                ledger: Plain::new(rt),
             },
         })
     }

@@ -10,7 +10,7 @@ ghost use Rattle.register_once.specs.Opened.{LooksFor, LooksUp, aimed_of};
 
 use client_register::{Found, Posted};
 use entity_id::EntityId;
-use fed_base::{Duplicate, Memory, Seq};
+use fed_base::{Duplicate, Memory, OpensLedgers, Seq};
 use fed_ports::Network;
 use fed_resolver::{Outcome, Refusal, ResolveRequest};
 use node_files::Parts;
@@ -34,7 +34,7 @@ pub(crate) struct Aim<'a> {
 /// What is found of the chain of a posted configuration, by one resolve call from an empty cache (OpenID Federation 1.0 section 8.3). There
 /// is nothing where memory was wanting, and where anything else was posted, of which nobody is asked. What is read of an entity that isn't
 /// resolved is added to the notes, and `worn` has the pass where a shared object is worn.
-pub(crate) fn look_for<R: Wait + Threads + Sync, N: Network + Drop>(
+pub(crate) fn look_for<R: Wait + Threads + OpensLedgers + Sync, N: Network + Drop>(
     rt: &R,
     alloc: Global,
     aim: Aim<'_>,
@@ -57,7 +57,7 @@ pub(crate) fn look_for<R: Wait + Threads + Sync, N: Network + Drop>(
 }
 
 // Makes one resolve call for an entity.
-fn look_up<R: Wait + Threads + Sync, N: Network + Drop>(
+fn look_up<R: Wait + Threads + OpensLedgers + Sync, N: Network + Drop>(
     rt: &R,
     alloc: Global,
     aim: Aim<'_>,
@@ -83,7 +83,7 @@ fn look_up<R: Wait + Threads + Sync, N: Network + Drop>(
 // Says why no chain was found. Where memory was wanting the end of the command says so.
 fn tell(alloc: Global, request: &ResolveRequest, outcome: &Outcome, notes: &mut Notes) {
     if !matches!(&outcome.result, Err(Refusal::Memory)) {
-        explain_outcome(alloc, request, outcome, notes);
+        explain_outcome(rt, alloc, request, outcome, notes);
     }
 }
 

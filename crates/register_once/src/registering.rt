@@ -21,7 +21,7 @@ use crate::stop::RegisterStop;
 use chain_notes::Asked;
 use client_register::{RegisterFault, Registered, register};
 use entity_id::EntityId;
-use fed_base::{Plain, Steps};
+use fed_base::{OpensLedgers, Plain, Steps};
 use fed_ports::{Clock, Network, Source, Store};
 use plain_notes::Notes;
 use statement_shelf::FedPass;
@@ -42,7 +42,13 @@ pub struct RegisterOutcome {
 /// configuration, whose chain is then looked for by one resolve call, from an empty cache (OpenID Federation 1.0 section 12.2). It looks at
 /// the files, the input and the trust anchor in this order, and then reads the clock once. What was posted isn't trusted, nor is what is
 /// found: the chain is checked under the keys that the configuration gives the trust anchor.
-pub fn register_once<R: Wait + Threads + Sync, S: Source, D: Store, N: Network + Drop, C: Clock>(
+pub fn register_once<
+    R: Wait + Threads + OpensLedgers + Sync,
+    S: Source,
+    D: Store,
+    N: Network + Drop,
+    C: Clock,
+>(
     rt: &R,
     alloc: Global,
     order: RegisterOrder<'_>,
@@ -68,7 +74,7 @@ pub fn register_once<R: Wait + Threads + Sync, S: Source, D: Store, N: Network +
 }
 
 // Registers by what was opened, at a moment, over the network.
-fn register_over<R: Wait + Threads + Sync, N: Network + Drop>(
+fn register_over<R: Wait + Threads + OpensLedgers + Sync, N: Network + Drop>(
     rt: &R,
     alloc: Global,
     opened: &Opened,
@@ -91,7 +97,7 @@ fn register_over<R: Wait + Threads + Sync, N: Network + Drop>(
     let mut worn = None;
     let held = look_for(rt, alloc, aim, posted, net, &mut worn, notes);
     let mut finder = HeldFinder::new(held);
-    let result = register_by(alloc, &mut finder, opened, anchor, moment);
+    let result = register_by(rt, alloc, &mut finder, opened, anchor, moment);
     let HeldFinder {
         held: _,
         calls: _,
@@ -108,7 +114,8 @@ fn register_over<R: Wait + Threads + Sync, N: Network + Drop>(
 }
 
 // Registers by a finder.
-fn register_by(
+fn register_by<R: OpensLedgers>(
+    rt: &R,
     alloc: Global,
     finder: &mut HeldFinder,
     opened: &Opened,
@@ -123,7 +130,7 @@ fn register_by(
     ensures told { IfErr result CanBeTold }
 {
     let mut steps = Steps {
-        ledger: Plain::new(),
+        ledger: Plain::new(rt),
     };
     let signer = &opened.parts.signer;
     register(

@@ -11,18 +11,23 @@ mod texts;
 mod told;
 mod words;
 
-use fed_base::{Memory, Text};
+use fed_base::{Memory, OpensLedgers, Text};
 use std::alloc::Global;
 use std::io;
 use texts::Texts;
 use words::at;
 
 // What is answered to a row.
-fn answer(alloc: Global, texts: &mut Texts, row: &str) -> Result<Text, Memory> {
+fn answer<R: OpensLedgers>(
+    rt: &R,
+    alloc: Global,
+    texts: &mut Texts,
+    row: &str,
+) -> Result<Text, Memory> {
     match at(row, 0) {
         "seal" => texts::seal(alloc, texts, row),
         "spoil" => texts::spoil(alloc, texts, row),
-        "register" => requests::register(alloc, texts, row),
+        "register" => requests::register(rt, alloc, texts, row),
         _ => Text::of(alloc, b"no such row"),
     }
 }
@@ -36,7 +41,7 @@ fn main(rt: HostRuntime) -> io::Result<()> {
             println!(rt; "{}", line.as_str())?;
             continue;
         }
-        match answer(alloc, &mut texts, line.as_str()) {
+        match answer(&rt, alloc, &mut texts, line.as_str()) {
             Ok(told) => match std::str::from_utf8(told.as_slice()) {
                 Ok(told) => println!(rt; "{told}")?,
                 Err(_) => println!(rt; "no UTF-8")?,

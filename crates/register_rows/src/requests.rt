@@ -6,7 +6,7 @@ use crate::told::told;
 use crate::words::{add_number, add_word, at, number};
 use client_register::{MemoryFinder, register as register_posted};
 use entity_id::EntityId;
-use fed_base::{Duplicate, Memory, Plain, Steps, Text};
+use fed_base::{Duplicate, Memory, OpensLedgers, Plain, Steps, Text};
 use fed_json::read_tree;
 use jwk_set::JwkSet;
 use std::alloc::Global;
@@ -29,7 +29,8 @@ fn keys(alloc: Global, set: &str) -> Option<JwkSet> {
 }
 
 // What the provider answers, how often the finder was asked and failed, and how many signatures were tested.
-fn answered(
+fn answered<R: OpensLedgers>(
+    rt: &R,
     alloc: Global,
     texts: &Texts,
     provider: &EntityId,
@@ -40,7 +41,7 @@ fn answered(
     let posted = posted(alloc, texts, at(row, 5))?;
     let mut finder = MemoryFinder::new(answers(alloc, texts, at(row, 6))?);
     let mut steps = Steps {
-        ledger: Plain::new(),
+        ledger: Plain::new(rt),
     };
     let (lifetime, t) = (number(at(row, 3)), number(at(row, 4)));
     let provider_key = match at(row, 7) {
@@ -69,7 +70,8 @@ fn answered(
 }
 
 // The same for an anchor whose keys are yet to be read.
-fn by_keys(
+fn by_keys<R: OpensLedgers>(
+    rt: &R,
     alloc: Global,
     texts: &Texts,
     provider: &EntityId,
@@ -78,7 +80,7 @@ fn by_keys(
 ) -> Result<Text, Memory> {
     match keys(alloc, at(row, 2)) {
         Some(keys) => {
-            let told = answered(alloc, texts, provider, anchor, &keys, row);
+            let told = answered(rt, alloc, texts, provider, anchor, &keys, row);
             drop(keys);
             told
         },
@@ -87,17 +89,28 @@ fn by_keys(
 }
 
 // The same for an anchor that is yet to be read.
-fn by_anchor(alloc: Global, texts: &Texts, provider: &EntityId, row: &str) -> Result<Text, Memory> {
+fn by_anchor<R: OpensLedgers>(
+    rt: &R,
+    alloc: Global,
+    texts: &Texts,
+    provider: &EntityId,
+    row: &str,
+) -> Result<Text, Memory> {
     match EntityId::of(alloc, at(row, 1).as_bytes())? {
-        Some(anchor) => by_keys(alloc, texts, provider, &anchor, row),
+        Some(anchor) => by_keys(rt, alloc, texts, provider, &anchor, row),
         None => Text::of(alloc, b"no anchor"),
     }
 }
 
 /// `register ANCHOR KEYS LIFETIME MOMENT POSTED ANSWERS KEY`: what https://op.example answers.
-pub(crate) fn register(alloc: Global, texts: &Texts, row: &str) -> Result<Text, Memory> {
+pub(crate) fn register<R: OpensLedgers>(
+    rt: &R,
+    alloc: Global,
+    texts: &Texts,
+    row: &str,
+) -> Result<Text, Memory> {
     match EntityId::of(alloc, b"https://op.example")? {
-        Some(provider) => by_anchor(alloc, texts, &provider, row),
+        Some(provider) => by_anchor(rt, alloc, texts, &provider, row),
         None => Text::of(alloc, b"no provider"),
     }
 }

@@ -9,14 +9,14 @@ mod node;
 mod registration;
 mod words;
 
-use fed_base::{Memory, Seq, Text};
+use fed_base::{Memory, OpensLedgers, Seq, Text};
 use std::alloc::Global;
 use std::io::{self, Print};
 use std::sync::Wait;
 use std::thread::Threads;
 
 // What came of the test of that name.
-fn answer<R: Threads + Wait + Sync>(
+fn answer<R: Threads + Wait + OpensLedgers + Sync>(
     rt: &R,
     alloc: Global,
     published: &Seq<Text>,
@@ -43,7 +43,7 @@ fn write<R: Print>(rt: &R, name: &str, told: Result<Text, Memory>) -> io::Result
 }
 
 // Does the test that a line names.
-fn step<R: Print + Threads + Wait + Sync>(
+fn step<R: Print + Threads + Wait + OpensLedgers + Sync>(
     rt: &R,
     alloc: Global,
     published: &Seq<Text>,

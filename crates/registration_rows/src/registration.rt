@@ -4,7 +4,7 @@ use crate::node::{MOMENT, store};
 use crate::words::{add_number, add_word, show};
 use client_register::{RegisterFault, Registered};
 use entity_id::EntityId;
-use fed_base::{Duplicate, MOMENT_LIMIT, Memory, Seq, Text};
+use fed_base::{Duplicate, MOMENT_LIMIT, Memory, OpensLedgers, Seq, Text};
 use fed_json::{count_below, find, object_members, text_at};
 use fed_net::MemoryNetwork;
 use fed_ports::{MemoryClock, MemorySource};
@@ -24,7 +24,7 @@ const CALLS: u64 = 1000;
 const SECOND: u64 = 7;
 
 /// A posted chain: whom it registers, until when, and what was sent.
-pub(crate) fn posted_chain<R: Wait + Threads + Sync>(
+pub(crate) fn posted_chain<R: Wait + Threads + OpensLedgers + Sync>(
     rt: &R,
     alloc: Global,
     published: &Seq<Text>,
@@ -47,7 +47,7 @@ pub(crate) fn posted_chain<R: Wait + Threads + Sync>(
 }
 
 /// A posted configuration: the same, by pages of the network.
-pub(crate) fn posted_configuration<R: Wait + Threads + Sync>(
+pub(crate) fn posted_configuration<R: Wait + Threads + OpensLedgers + Sync>(
     rt: &R,
     alloc: Global,
     published: &Seq<Text>,
@@ -63,7 +63,7 @@ pub(crate) fn posted_configuration<R: Wait + Threads + Sync>(
 }
 
 /// The same, where the network fails at the second page.
-pub(crate) fn posted_and_failing<R: Wait + Threads + Sync>(
+pub(crate) fn posted_and_failing<R: Wait + Threads + OpensLedgers + Sync>(
     rt: &R,
     alloc: Global,
     published: &Seq<Text>,
@@ -79,7 +79,7 @@ pub(crate) fn posted_and_failing<R: Wait + Threads + Sync>(
 }
 
 /// The same, up to an anchor that isn't listed.
-pub(crate) fn posted_elsewhere<R: Wait + Threads + Sync>(
+pub(crate) fn posted_elsewhere<R: Wait + Threads + OpensLedgers + Sync>(
     rt: &R,
     alloc: Global,
     published: &Seq<Text>,
@@ -116,7 +116,7 @@ fn answers(alloc: Global, published: &Seq<Text>) -> Result<Seq<Text>, Memory> {
 }
 
 // What is answered to what was posted, and what was sent meanwhile. The network's calls of these numbers fail.
-fn answered<R: Wait + Threads + Sync>(
+fn answered<R: Wait + Threads + OpensLedgers + Sync>(
     rt: &R,
     alloc: Global,
     published: &Seq<Text>,
@@ -133,7 +133,7 @@ fn answered<R: Wait + Threads + Sync>(
 }
 
 // What is answered.
-fn told_of<R: Wait + Threads + Sync>(
+fn told_of<R: Wait + Threads + OpensLedgers + Sync>(
     rt: &R,
     alloc: Global,
     posted: &[u8],

@@ -15,7 +15,7 @@ use crate::resolver::{Opened, open_resolver};
 use crate::summary::{Counts, Summary, counts_of, last_of};
 use chain_check::{Verdict, check_chain};
 use entity_id::EntityId;
-use fed_base::{Memory, Plain, Seq, Steps, Text};
+use fed_base::{Memory, OpensLedgers, Plain, Seq, Steps, Text};
 use fed_net::MemoryLink;
 use fed_serve::Node;
 use jwk_set::JwkSet;
@@ -30,7 +30,7 @@ const CALLS: u64 = 1_000;
 /// Makes a federation in memory in which the leaf's metadata has so many parameters, 200 at most; lets a resolver resolve the leaf twice,
 /// the second time from its cache; and checks the chain of the second reply. `worn` has the pass where a shared object had counted 2^62
 /// calls.
-pub fn rehearse<R: Wait + Threads + Sync>(
+pub fn rehearse<R: Wait + Threads + OpensLedgers + Sync>(
     rt: &R,
     alloc: Global,
     params: u64,
@@ -47,7 +47,7 @@ pub fn rehearse<R: Wait + Threads + Sync>(
 }
 
 // The rehearsal over a link that has the pages of the federation.
-fn rehearse_over<R: Wait + Threads + Sync>(
+fn rehearse_over<R: Wait + Threads + OpensLedgers + Sync>(
     rt: &R,
     alloc: Global,
     params: u64,
@@ -64,7 +64,7 @@ fn rehearse_over<R: Wait + Threads + Sync>(
 }
 
 // The rehearsal by the resolver's node and its pass.
-fn rehearse_by<R: Wait + Threads + Sync>(
+fn rehearse_by<R: Wait + Threads + OpensLedgers + Sync>(
     rt: &R,
     alloc: Global,
     params: u64,
@@ -103,7 +103,7 @@ fn is_worn(summary: &Result<Summary, RehearsalFault>) -> bool
 }
 
 // Asks for the leaf twice, and sums up.
-fn ask_twice<R: Wait + Threads + Sync>(
+fn ask_twice<R: Wait + Threads + OpensLedgers + Sync>(
     rt: &R,
     alloc: Global,
     params: u64,
@@ -118,19 +118,20 @@ fn ask_twice<R: Wait + Threads + Sync>(
 {
     let mut clock = StandingClock::new();
     let mut steps = Steps {
-        ledger: Plain::new(),
+        ledger: Plain::new(rt),
     };
     let first = ask(rt, alloc, node, pass, link, &mut clock, &mut steps)?;
     let counts = counts_of(&first.trace);
     drop(first);
     let second = ask(rt, alloc, node, pass, link, &mut clock, &mut steps)?;
-    let summary = sum_up(alloc, params, anchor, counts, &second);
+    let summary = sum_up(rt, alloc, params, anchor, counts, &second);
     drop(second);
     Ok(summary?)
 }
 
 // Checks the chain of the second reply, and sums up.
-fn sum_up(
+fn sum_up<R: OpensLedgers>(
+    rt: &R,
     alloc: Global,
     params: u64,
     anchor: &EntityId,
@@ -142,7 +143,7 @@ fn sum_up(
     let Some(chain) = chain_in(alloc, second.peer.as_slice())? else {
         return Err(Memory);
     };
-    let last = check(alloc, params, &chain, anchor, &second.trace.keys)?;
+    let last = check(rt, alloc, params, &chain, anchor, &second.trace.keys)?;
     Ok(Summary {
         params,
         chain: chain.len() as u64,
@@ -153,7 +154,8 @@ fn sum_up(
 }
 
 // Checks the chain, and gives the last parameter of what it resolves to. A chain that is refused is told as want of memory.
-fn check(
+fn check<R: OpensLedgers>(
+    rt: &R,
     alloc: Global,
     params: u64,
     chain: &Seq<Text>,
@@ -163,7 +165,7 @@ fn check(
     ensures { IfOk result (IsChecked params chain.now anchor.now keys.now.keys) }
 {
     let mut steps = Steps {
-        ledger: Plain::new(),
+        ledger: Plain::new(rt),
     };
     let verdict = check_chain(alloc, chain, anchor, keys, MOMENT, &mut steps)?;
     match verdict {

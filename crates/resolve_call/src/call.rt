@@ -17,7 +17,7 @@ ghost use Rattle.resolve_call.specs.Ports.{call_seen};
 ghost use Rattle.http_plain.specs.Networks.{listening_seen, network_seen};
 
 use crate::laws::follows;
-use fed_base::{Memory, Plain, Seq, Steps, Text};
+use fed_base::{Memory, OpensLedgers, Plain, Seq, Steps, Text};
 use fed_ports::{Clock, Link, Network, Store};
 use fed_resolver::{Outcome, Refusal, ResolveRequest, Signer, resolve};
 use http_plain::{HttpLink, Route};
@@ -58,7 +58,7 @@ pub struct OpenCall<N> {
 /// What the node of a configuration file answers to a request for an entity's resolved metadata, with the trace of what it did (OpenID
 /// Federation 1.0 section 8.3), or why there is no such node. It reads the clock once, and keeps nothing: its cache is empty at first, and
 /// its keys of trust anchors are those of the configuration. `worn` has the pass where a shared object has counted 2^62 calls.
-pub fn resolve_once<R: Wait + Threads + Sync, D: Store, N: Network + Drop, C: Clock>(
+pub fn resolve_once<R: Wait + Threads + OpensLedgers + Sync, D: Store, N: Network + Drop, C: Clock>(
     rt: &R,
     alloc: Global,
     config: &Text,
@@ -113,7 +113,7 @@ pub fn open_call<N: Network>(alloc: Global, parts: Parts, net: &N) -> Result<Ope
 
 /// What a node of these parts answers to a request for an entity's resolved metadata, at a moment in seconds since 1970, with the trace of
 /// what it did (OpenID Federation 1.0 section 8.3). `worn` has the pass where a shared object has counted 2^62 calls.
-pub fn resolve_at<R: Wait + Threads + Sync, N: Network + Drop>(
+pub fn resolve_at<R: Wait + Threads + OpensLedgers + Sync, N: Network + Drop>(
     rt: &R,
     alloc: Global,
     call: OpenCall<N>,
@@ -174,7 +174,7 @@ fn is_worn(outcome: &Outcome) -> bool
 }
 
 // One call over the network, in whose place another stands meanwhile.
-fn call_over<R: Wait + Threads + Sync, N: Network + Drop>(
+fn call_over<R: Wait + Threads + OpensLedgers + Sync, N: Network + Drop>(
     asked: &Asked<R>,
     pass: &mut FedPass,
     routes: Seq<Route>,
@@ -200,7 +200,7 @@ fn call_over<R: Wait + Threads + Sync, N: Network + Drop>(
 }
 
 // One call over a link, by a pass that is alone.
-fn call_alone<R: Wait + Threads + Sync, L: Link>(
+fn call_alone<R: Wait + Threads + OpensLedgers + Sync, L: Link>(
     asked: &Asked<R>,
     pass: &mut FedPass,
     link: &mut L,
@@ -216,7 +216,7 @@ fn call_alone<R: Wait + Threads + Sync, L: Link>(
     ensures configs { IfOk result.result (HasConfigs (situation_of asked.now.request.now asked.now.signer.now asked.now.moment) asked.now.signer.now result.trace) }
 {
     let mut steps = Steps {
-        ledger: Plain::new(),
+        ledger: Plain::new(asked.rt),
     };
     let outcome = resolve(
         asked.commons,

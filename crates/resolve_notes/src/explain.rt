@@ -3,13 +3,15 @@
 use crate::pages::explain_pages;
 use crate::path::explain_path;
 use chain_climb::Bounds;
+use fed_base::OpensLedgers;
 use fed_resolver::{Outcome, Refusal, ResolveRequest};
 use plain_notes::{Notes, Sentence, explain_memory, explain_worn};
 use std::alloc::Global;
 
 /// Says why there is no reply: first the answer in words, then each page of the last round that wasn't good, and what failed on a path up
 /// to the trust anchor. Of a search that broke off, for want of memory or at a worn object, it says the answer alone.
-pub fn explain_outcome(
+pub fn explain_outcome<R: OpensLedgers>(
+    rt: &R,
     alloc: Global,
     request: &ResolveRequest,
     outcome: &Outcome,
@@ -25,7 +27,7 @@ pub fn explain_outcome(
     if let Some(search) = outcome.trace.searches.as_slice().last() {
         explain_pages(alloc, &outcome.trace, search, notes);
         if search.paths > 0 {
-            explain_path(alloc, request, &outcome.trace, search, notes);
+            explain_path(rt, alloc, request, &outcome.trace, search, notes);
         }
     }
 }

@@ -5,7 +5,7 @@ use chain_check::{Verdict, check_chain};
 use chain_notes::{Asked, explain_verdict};
 use entity_id::EntityId;
 use entity_statement::{SignedStatement, Statement};
-use fed_base::{Duplicate, Plain, Seq, Steps, Text};
+use fed_base::{Duplicate, OpensLedgers, Plain, Seq, Steps, Text};
 use plain_notes::{Notes, Sentence};
 use resolve_round::{Ask, ResolveRequest, Search, Trace};
 use std::alloc::Global;
@@ -15,7 +15,8 @@ const DEPTH: u64 = 8;
 
 // Says what failed on a path up to the trust anchor, that of the anchor's statement which was got last. It may be valid where the search
 // ended at its bound before this path was judged.
-pub(crate) fn explain_path(
+pub(crate) fn explain_path<R: OpensLedgers>(
+    rt: &R,
     alloc: Global,
     request: &ResolveRequest,
     trace: &Trace,
@@ -27,7 +28,7 @@ pub(crate) fn explain_path(
         return;
     };
     let mut steps = Steps {
-        ledger: Plain::new(),
+        ledger: Plain::new(rt),
     };
     let anchor = &request.anchor;
     let checked = check_chain(alloc, &chain, anchor, &trace.keys, trace.moment, &mut steps);

@@ -9,7 +9,7 @@ use crate::told::{outcome_told, rotated_told};
 use crate::words::{at, number};
 use chain_climb::Bounds;
 use entity_id::EntityId;
-use fed_base::{Duplicate, Ledger, Memory, Plain, Seq, Steps, Text};
+use fed_base::{Duplicate, Ledger, Memory, OpensLedgers, Plain, Seq, Steps, Text};
 use fed_json::read_tree;
 use fed_net::{MemoryLink, NamedPage};
 use fed_resolver::{AnchorBounds, Outcome, resolve};
@@ -271,7 +271,7 @@ fn call<R: Wait + Threads + Sync, G: Ledger>(
 }
 
 /// `resolve MOMENT SUB ANCHOR TYPES FAILING SHOWN`: what a resolver answers over the pages of a web.
-pub(crate) fn resolved<R: Wait + Threads + Sync>(
+pub(crate) fn resolved<R: Wait + Threads + OpensLedgers + Sync>(
     rt: &R,
     alloc: Global,
     shop: &mut Shop,
@@ -287,11 +287,11 @@ pub(crate) fn resolved<R: Wait + Threads + Sync>(
         return Text::of(alloc, b"no entity");
     };
     let mut steps = Steps {
-        ledger: Plain::new(),
+        ledger: Plain::new(rt),
     };
     let outcome = call(rt, alloc, commons, pass, &mut asked, &mut steps);
     let tests = steps.ledger.steps();
-    let told = outcome_told(alloc, &outcome, tests, &asked.signer, at(row, 6));
+    let told = outcome_told(rt, alloc, &outcome, tests, &asked.signer, at(row, 6));
     drop(outcome);
     drop(asked);
     told

@@ -17,7 +17,7 @@ mod words;
 
 ghost use Rattle.statement_shelf.specs.Passes.{IsPassOfAll};
 
-use fed_base::{Memory, Seq, Text};
+use fed_base::{Memory, OpensLedgers, Seq, Text};
 use fed_net::NamedPage;
 use pages::Shop;
 use statement_shelf::{Commons, FedPass};
@@ -51,7 +51,7 @@ fn make(alloc: Global, room: &mut Room, row: &str) -> Result<Text, Memory> {
 }
 
 // What is answered to a row.
-fn answer<R: Wait + Threads + Sync>(
+fn answer<R: Wait + Threads + OpensLedgers + Sync>(
     rt: &R,
     alloc: Global,
     room: &mut Room,
@@ -82,7 +82,7 @@ fn write<R: Print>(rt: &R, told: Result<Text, Memory>) -> io::Result<()> {
 }
 
 // Answers the row that a line is.
-fn step<R: Print + Wait + Threads + Sync>(
+fn step<R: Print + Wait + Threads + OpensLedgers + Sync>(
     rt: &R,
     alloc: Global,
     line: io::Result<String>,

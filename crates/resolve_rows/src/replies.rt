@@ -6,7 +6,7 @@ ghost use Rattle.jws_form.specs.Compact.{IsCompact};
 use crate::names::name_of;
 use crate::words::{add_number, add_word};
 use entity_statement::{SignedStatement, Statement};
-use fed_base::{MOMENT_LIMIT, Memory, Plain, Steps, Text};
+use fed_base::{MOMENT_LIMIT, Memory, OpensLedgers, Plain, Steps, Text};
 use fed_json::{
     Json, Member, count_below, find, is_whole, object_members, read_tree, text_at, write_tree,
 };
@@ -94,7 +94,8 @@ fn add_claims(alloc: Global, out: &mut Text, claims: &[Member], word: &str) -> R
 }
 
 // Adds the type of the text, and whether the resolver signed it.
-fn add_seal(
+fn add_seal<R: OpensLedgers>(
+    rt: &R,
     alloc: Global,
     out: &mut Text,
     compact: &Compact,
@@ -106,7 +107,7 @@ fn add_seal(
         add_word(out, typ.as_slice())?;
     }
     let mut steps = Steps {
-        ledger: Plain::new(),
+        ledger: Plain::new(rt),
     };
     match test_key(alloc, compact, public, &mut steps)? {
         Tested::Yes(_) => add_word(out, b"signed"),
@@ -140,7 +141,8 @@ fn add_claimed(alloc: Global, out: &mut Text, reply: &Reply) -> Result<(), Memor
 }
 
 /// Adds what a word asks for: `beside`, `claimed`, `chain`, `marks`, `times`, `seal`, or a claim by its name.
-pub(crate) fn add_reply(
+pub(crate) fn add_reply<R: OpensLedgers>(
+    rt: &R,
     alloc: Global,
     out: &mut Text,
     reply: &Reply,
@@ -158,7 +160,7 @@ pub(crate) fn add_reply(
         return add_word(out, b"no text");
     };
     if word == "seal" {
-        return add_seal(alloc, out, &compact, &signer.keys.public());
+        return add_seal(rt, alloc, out, &compact, &signer.keys.public());
     }
     match read_tree(alloc, compact.payload.as_slice()) {
         Ok(tree) => add_claims(alloc, out, object_members(&tree), word),

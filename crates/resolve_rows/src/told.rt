@@ -4,7 +4,7 @@ use crate::names::name_of;
 use crate::replies::add_reply;
 use crate::words::{add_number, add_word};
 use chain_climb::Bounds;
-use fed_base::{Duplicate, Memory, Text};
+use fed_base::{Duplicate, Memory, OpensLedgers, Text};
 use fed_resolver::{Outcome, Refusal};
 use resolve_reply::Signer;
 use resolve_round::{Event, Search, Trace};
@@ -132,7 +132,8 @@ pub(crate) fn rotated_told(alloc: Global, reply: &Result<BookReply, Worn>) -> Re
 }
 
 // Adds what one word of a row asks for.
-fn add_shown(
+fn add_shown<R: OpensLedgers>(
+    rt: &R,
     alloc: Global,
     out: &mut Text,
     outcome: &Outcome,
@@ -143,7 +144,7 @@ fn add_shown(
         ("", _) => Ok(()),
         ("events", _) => add_events(out, outcome.trace.events.as_slice()),
         ("bounds", _) => add_bounds(alloc, out, &outcome.trace.bounds),
-        (_, Ok(reply)) => add_reply(alloc, out, reply, signer, word),
+        (_, Ok(reply)) => add_reply(rt, alloc, out, reply, signer, word),
         (_, Err(_)) => Ok(()),
     }
 }
@@ -164,7 +165,8 @@ fn add_trace(alloc: Global, out: &mut Text, trace: &Trace) -> Result<(), Memory>
 }
 
 /// What a call answered: its result, its rounds, how many signatures were tested, and what the row's last part asks for.
-pub(crate) fn outcome_told(
+pub(crate) fn outcome_told<R: OpensLedgers>(
+    rt: &R,
     alloc: Global,
     outcome: &Outcome,
     tests: u64,
@@ -180,7 +182,7 @@ pub(crate) fn outcome_told(
     out.push(b';')?;
     add_count(alloc, &mut out, tests, b"tests")?;
     for word in shown.split(' ') {
-        add_shown(alloc, &mut out, outcome, signer, word)?;
+        add_shown(rt, alloc, &mut out, outcome, signer, word)?;
     }
     Ok(out)
 }

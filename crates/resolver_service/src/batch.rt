@@ -11,7 +11,7 @@ ghost use Rattle.resolver_service.specs.Steps.{EndInTurn, EndsDesk, IfWorn, IsDo
 use crate::desks::add_desks;
 use crate::server::Server;
 use crate::stop::Stop;
-use fed_base::Memory;
+use fed_base::{Memory, OpensLedgers};
 use fed_ports::{Clock, Failed, Ledger, Link, Network};
 use fed_serve::{Desk, ServeFault, serve_many};
 use statement_shelf::{FedPass, ShelfCall};
@@ -243,7 +243,11 @@ where
 
 /// Serves a batch of so many connections: reads the clock once, drops from the cache what is stale, makes the desks, and serves a
 /// connection at each.
-pub(crate) fn serve_batch<R: Threads + Wait + Sync, N: Network + Drop, C: Clock + Drop>(
+pub(crate) fn serve_batch<
+    R: Threads + Wait + OpensLedgers + Sync,
+    N: Network + Drop,
+    C: Clock + Drop,
+>(
     server: &Server<R>,
     net: &mut N,
     pass: &mut FedPass,

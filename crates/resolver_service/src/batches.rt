@@ -10,13 +10,17 @@ ghost use Rattle.resolver_service.specs.Steps.{StopsAfter, StopsBy};
 use crate::batch::serve_batch;
 use crate::server::Server;
 use crate::stop::Stop;
-use fed_ports::{Clock, Network};
+use fed_ports::{Clock, Network, OpensLedgers};
 use statement_shelf::FedPass;
 use std::sync::Wait;
 use std::thread::Threads;
 
 /// Serves so many connections, in batches of as many as there are workers, the last one of as many as are left.
-pub(crate) fn serve_batches<R: Threads + Wait + Sync, N: Network + Drop, C: Clock + Drop>(
+pub(crate) fn serve_batches<
+    R: Threads + Wait + OpensLedgers + Sync,
+    N: Network + Drop,
+    C: Clock + Drop,
+>(
     server: &Server<R>,
     net: &mut N,
     pass: &mut FedPass,

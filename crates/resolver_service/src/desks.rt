@@ -9,7 +9,7 @@ ghost use Rattle.resolver_service.specs.Ports.{views_by};
 ghost use Rattle.resolver_service.specs.Steps.{AreMade, IsReady};
 
 use crate::server::Server;
-use fed_base::{Duplicate, Memory, Plain, Seq, Steps};
+use fed_base::{Duplicate, Memory, OpensLedgers, Plain, Seq, Steps};
 use fed_ports::{Clock, Network};
 use fed_serve::Desk;
 use http_plain::{HttpLink, Route};
@@ -38,7 +38,7 @@ fn new_link<N: Network + Drop>(
 }
 
 // A desk with this link, this clock, and a pass that is split off.
-fn desk_with<R, N: Network + Drop, C: Clock + Drop>(
+fn desk_with<R: OpensLedgers, N: Network + Drop, C: Clock + Drop>(
     server: &Server<R>,
     pass: &mut FedPass,
     link: HttpLink<N>,
@@ -61,7 +61,7 @@ fn desk_with<R, N: Network + Drop, C: Clock + Drop>(
             link,
             clock,
             steps: Steps {
-                ledger: Plain::new(),
+                ledger: Plain::new(server.rt),
             },
             result: None,
         }),
@@ -74,7 +74,7 @@ fn desk_with<R, N: Network + Drop, C: Clock + Drop>(
 }
 
 // A desk with a link over another network and with another clock, and a pass that is split off.
-fn new_desk<R, N: Network + Drop, C: Clock + Drop>(
+fn new_desk<R: OpensLedgers, N: Network + Drop, C: Clock + Drop>(
     server: &Server<R>,
     pass: &mut FedPass,
     net: &N,
@@ -97,7 +97,7 @@ fn new_desk<R, N: Network + Drop, C: Clock + Drop>(
 }
 
 /// Adds so many desks, each with a link over another network and with another clock, and with a pass that is split off.
-pub(crate) fn add_desks<R, N: Network + Drop, C: Clock + Drop>(
+pub(crate) fn add_desks<R: OpensLedgers, N: Network + Drop, C: Clock + Drop>(
     server: &Server<R>,
     pass: &mut FedPass,
     net: &N,

@@ -17,7 +17,7 @@ use crate::node::open;
 use crate::server::Server;
 use crate::stop::Stop;
 use authority_core::Registry;
-use fed_ports::{Clock, Network, Store, Text};
+use fed_ports::{Clock, Network, OpensLedgers, Store, Text};
 use node_files::{Post, explain_accept, explain_port, open_resolver};
 use plain_notes::Notes;
 use statement_shelf::FedPass;
@@ -28,7 +28,12 @@ use std::thread::Threads;
 /// Answers so many connections on a port, as the resolver of a configuration file. The node is read from that file and the ring file that
 /// it names, once, before the port is taken. Connections are served in batches, those of a batch at once, over one cache and one book of
 /// trust anchors' keys. What becomes of one connection ends nothing, unless a shared object is worn.
-pub fn serve_resolver<R: Threads + Wait + Sync, D: Store, N: Network + Drop, C: Clock + Drop>(
+pub fn serve_resolver<
+    R: Threads + Wait + OpensLedgers + Sync,
+    D: Store,
+    N: Network + Drop,
+    C: Clock + Drop,
+>(
     rt: &R,
     alloc: Global,
     config: &Text,
@@ -55,7 +60,7 @@ where
 }
 
 // Makes what is served with, takes the port and answers the connections.
-fn serve_registry<R: Threads + Wait + Sync, N: Network + Drop, C: Clock + Drop>(
+fn serve_registry<R: Threads + Wait + OpensLedgers + Sync, N: Network + Drop, C: Clock + Drop>(
     registry: Registry,
     rt: &R,
     alloc: Global,
@@ -92,7 +97,7 @@ where
 }
 
 // Takes the port and answers the connections.
-fn serve_post<R: Threads + Wait + Sync, N: Network + Drop, C: Clock + Drop>(
+fn serve_post<R: Threads + Wait + OpensLedgers + Sync, N: Network + Drop, C: Clock + Drop>(
     server: &Server<R>,
     pass: FedPass,
     post: Post,
@@ -121,7 +126,7 @@ where
 }
 
 // Answers the connections on the port that is taken.
-fn serve_listening<R: Threads + Wait + Sync, N: Network + Drop, C: Clock + Drop>(
+fn serve_listening<R: Threads + Wait + OpensLedgers + Sync, N: Network + Drop, C: Clock + Drop>(
     server: &Server<R>,
     mut pass: FedPass,
     connections: u64,

@@ -5,7 +5,7 @@ ghost use Rattle.std.specs.Prelude.{◌≡◌, false, is_some};
 use crate::peers::Pieces;
 use crate::words::{add_number, add_word, bytes, cut, number};
 use crate::written::add_written;
-use fed_base::{Memory, Plain, Seq, Steps, Text};
+use fed_base::{Memory, OpensLedgers, Plain, Seq, Steps, Text};
 use fed_net::{MemoryLink, MemoryPeer};
 use fed_ports::{Clock, MemoryClock, Peer};
 use fed_serve::{Kind, Node, ServeFault, Served, serve_one};
@@ -75,7 +75,7 @@ fn serve_alone<R: Wait + Threads + Sync, P: Peer>(
 }
 
 // Serves a peer at a moment: what was answered, how often the clock was read, and how many signatures were tested.
-fn served<R: Wait + Threads + Sync, P: Peer>(
+fn served<R: Wait + Threads + OpensLedgers + Sync, P: Peer>(
     rt: &R,
     alloc: Global,
     node: &Node,
@@ -87,7 +87,7 @@ fn served<R: Wait + Threads + Sync, P: Peer>(
     }
     let mut clock = MemoryClock::new(alloc, &[t, 1, 2, 3])?;
     let mut steps = Steps {
-        ledger: Plain::new(),
+        ledger: Plain::new(rt),
     };
     let answer = serve_alone(rt, alloc, node, peer, &mut clock, &mut steps)?;
     let told = answered(alloc, &answer);
@@ -102,7 +102,7 @@ fn served<R: Wait + Threads + Sync, P: Peer>(
 }
 
 // The same, and what the peer was given.
-fn served_in_memory<R: Wait + Threads + Sync>(
+fn served_in_memory<R: Wait + Threads + OpensLedgers + Sync>(
     rt: &R,
     alloc: Global,
     node: &Node,
@@ -110,12 +110,12 @@ fn served_in_memory<R: Wait + Threads + Sync>(
     peer: &mut MemoryPeer,
 ) -> Result<Text, Memory> {
     let mut out = served(rt, alloc, node, t, peer)?;
-    add_written(alloc, &mut out, node, peer.as_slice())?;
+    add_written(rt, alloc, &mut out, node, peer.as_slice())?;
     Ok(out)
 }
 
 /// `ask MOMENT BYTES`: what is answered at a moment to these bytes, and written.
-pub(crate) fn ask<R: Wait + Threads + Sync>(
+pub(crate) fn ask<R: Wait + Threads + OpensLedgers + Sync>(
     rt: &R,
     alloc: Global,
     node: &Node,
@@ -128,7 +128,7 @@ pub(crate) fn ask<R: Wait + Threads + Sync>(
 }
 
 /// `pieces MOST BYTES`: the same where each reading gives, and each writing takes, at most so many bytes.
-pub(crate) fn pieces<R: Wait + Threads + Sync>(
+pub(crate) fn pieces<R: Wait + Threads + OpensLedgers + Sync>(
     rt: &R,
     alloc: Global,
     node: &Node,
@@ -139,12 +139,12 @@ pub(crate) fn pieces<R: Wait + Threads + Sync>(
     let most = number(most) as usize;
     let mut peer = Pieces::new(alloc, sent.as_slice(), most, ROOM, &[], &[])?;
     let mut out = served(rt, alloc, node, MOMENT, &mut peer)?;
-    add_written(alloc, &mut out, node, peer.as_slice())?;
+    add_written(rt, alloc, &mut out, node, peer.as_slice())?;
     Ok(out)
 }
 
 /// `reads NUMBER BYTES`: the same where the reading of that number fails.
-pub(crate) fn reads<R: Wait + Threads + Sync>(
+pub(crate) fn reads<R: Wait + Threads + OpensLedgers + Sync>(
     rt: &R,
     alloc: Global,
     node: &Node,
@@ -157,7 +157,7 @@ pub(crate) fn reads<R: Wait + Threads + Sync>(
 }
 
 /// `writes ROOM BYTES`: the same where the peer takes so many bytes and then fails.
-pub(crate) fn writes<R: Wait + Threads + Sync>(
+pub(crate) fn writes<R: Wait + Threads + OpensLedgers + Sync>(
     rt: &R,
     alloc: Global,
     node: &Node,
@@ -171,7 +171,7 @@ pub(crate) fn writes<R: Wait + Threads + Sync>(
 }
 
 // Whether these bytes are told as ended, with nothing written and no reading of the clock.
-fn is_ended<R: Wait + Threads + Sync>(
+fn is_ended<R: Wait + Threads + OpensLedgers + Sync>(
     rt: &R,
     alloc: Global,
     node: &Node,
@@ -184,7 +184,7 @@ fn is_ended<R: Wait + Threads + Sync>(
 
 /// `cut BYTES`: how often the bytes are told as ended, with nothing written and no reading of the clock, where they are cut before each of
 /// them in turn, and how many they are.
-pub(crate) fn cut_short<R: Wait + Threads + Sync>(
+pub(crate) fn cut_short<R: Wait + Threads + OpensLedgers + Sync>(
     rt: &R,
     alloc: Global,
     node: &Node,
@@ -211,7 +211,7 @@ fn counted(alloc: Global, word: &[u8], n: u64, all: usize) -> Result<Text, Memor
 }
 
 // Whether a reading that fails, behind so many that give one byte each, is told as that, with nothing written and no reading of the clock.
-fn reading_fails<R: Wait + Threads + Sync>(
+fn reading_fails<R: Wait + Threads + OpensLedgers + Sync>(
     rt: &R,
     alloc: Global,
     node: &Node,
@@ -225,7 +225,7 @@ fn reading_fails<R: Wait + Threads + Sync>(
 
 /// `each-reading BYTES`: how often a fault of reading is told, with nothing written and no reading of the clock, where the bytes are read
 /// one by one and the reading of each of them in turn fails, and how many they are.
-pub(crate) fn each_reading<R: Wait + Threads + Sync>(
+pub(crate) fn each_reading<R: Wait + Threads + OpensLedgers + Sync>(
     rt: &R,
     alloc: Global,
     node: &Node,
@@ -243,7 +243,7 @@ pub(crate) fn each_reading<R: Wait + Threads + Sync>(
 }
 
 // What is written where each writing takes one byte.
-fn answer_of<R: Wait + Threads + Sync>(
+fn answer_of<R: Wait + Threads + OpensLedgers + Sync>(
     rt: &R,
     alloc: Global,
     node: &Node,
@@ -255,7 +255,7 @@ fn answer_of<R: Wait + Threads + Sync>(
 }
 
 // Whether a writing that fails, behind those that take these first bytes of the answer one by one, is told as that, with these written.
-fn writing_fails<R: Wait + Threads + Sync>(
+fn writing_fails<R: Wait + Threads + OpensLedgers + Sync>(
     rt: &R,
     alloc: Global,
     node: &Node,
@@ -269,7 +269,7 @@ fn writing_fails<R: Wait + Threads + Sync>(
 
 /// `each-writing BYTES`: how often a fault of writing is told, with the answer's bytes before it written, where the answer is taken byte by
 /// byte and the writing of each of them in turn fails, and how many it has.
-pub(crate) fn each_writing<R: Wait + Threads + Sync>(
+pub(crate) fn each_writing<R: Wait + Threads + OpensLedgers + Sync>(
     rt: &R,
     alloc: Global,
     node: &Node,

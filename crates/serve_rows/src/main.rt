@@ -12,7 +12,7 @@ mod requests;
 mod words;
 mod written;
 
-use fed_base::{Memory, Text};
+use fed_base::{Memory, OpensLedgers, Text};
 use fed_serve::Node;
 use std::alloc::Global;
 use std::io::{self, Print};
@@ -21,7 +21,7 @@ use std::thread::Threads;
 use words::cut;
 
 // What the node answers to a row.
-fn ask<R: Wait + Threads + Sync>(
+fn ask<R: Wait + Threads + OpensLedgers + Sync>(
     rt: &R,
     alloc: Global,
     node: &Node,
@@ -41,7 +41,7 @@ fn ask<R: Wait + Threads + Sync>(
 }
 
 // What is answered to a row, which may keep a node for those behind it.
-fn answer<R: Wait + Threads + Sync>(
+fn answer<R: Wait + Threads + OpensLedgers + Sync>(
     rt: &R,
     alloc: Global,
     row: &str,
@@ -73,7 +73,7 @@ fn write<R: Print>(rt: &R, told: Result<Text, Memory>) -> io::Result<()> {
 }
 
 // Answers the row that a line is.
-fn step<R: Print + Wait + Threads + Sync>(
+fn step<R: Print + Wait + Threads + OpensLedgers + Sync>(
     rt: &R,
     alloc: Global,
     line: io::Result<String>,

@@ -4,7 +4,7 @@ ghost use Rattle.std.specs.Prelude.{IfOk};
 ghost use Rattle.jws_form.specs.Compact.{IsCompact};
 
 use crate::words::{add_number, add_word, show};
-use fed_base::{Memory, Plain, Steps, Text};
+use fed_base::{Memory, OpensLedgers, Plain, Steps, Text};
 use fed_serve::Node;
 use jws_form::{Compact, FormFault, split};
 use sealed::{Tested, test_key};
@@ -16,7 +16,8 @@ const MOST: usize = 1000;
 const FIRST: usize = 80;
 
 /// Adds what was written, where anything was: its head with its line ends made visible, and its body.
-pub(crate) fn add_written(
+pub(crate) fn add_written<R: OpensLedgers>(
+    rt: &R,
     alloc: Global,
     out: &mut Text,
     node: &Node,
@@ -27,24 +28,36 @@ pub(crate) fn add_written(
     }
     out.append(b" => ")?;
     match std::str::from_utf8(bytes) {
-        Ok(text) => add_message(alloc, out, node, text),
+        Ok(text) => add_message(rt, alloc, out, node, text),
         Err(_) => out.append(b"no UTF-8"),
     }
 }
 
-fn add_message(alloc: Global, out: &mut Text, node: &Node, text: &str) -> Result<(), Memory> {
+fn add_message<R: OpensLedgers>(
+    rt: &R,
+    alloc: Global,
+    out: &mut Text,
+    node: &Node,
+    text: &str,
+) -> Result<(), Memory> {
     let Some((head, body)) = text.split_once("\r\n\r\n") else {
         return show(out, text.as_bytes());
     };
     show(out, head.as_bytes())?;
     out.append(b"\\r\\n\\r\\n")?;
-    add_body(alloc, out, node, body.as_bytes())
+    add_body(rt, alloc, out, node, body.as_bytes())
 }
 
 // Adds a body: of a signed text its type, its key, its payload, and whether the node's signer signed it, and any other as it stands.
-fn add_body(alloc: Global, out: &mut Text, node: &Node, body: &[u8]) -> Result<(), Memory> {
+fn add_body<R: OpensLedgers>(
+    rt: &R,
+    alloc: Global,
+    out: &mut Text,
+    node: &Node,
+    body: &[u8],
+) -> Result<(), Memory> {
     match parts(alloc, body) {
-        Ok(compact) => add_signed(alloc, out, node, &compact),
+        Ok(compact) => add_signed(rt, alloc, out, node, &compact),
         Err(_) => add_word(out, body),
     }
 }
@@ -55,13 +68,19 @@ fn parts(alloc: Global, text: &[u8]) -> Result<Compact, FormFault>
     split(alloc, text)
 }
 
-fn add_signed(alloc: Global, out: &mut Text, node: &Node, compact: &Compact) -> Result<(), Memory>
+fn add_signed<R: OpensLedgers>(
+    rt: &R,
+    alloc: Global,
+    out: &mut Text,
+    node: &Node,
+    compact: &Compact,
+) -> Result<(), Memory>
     requires { IsCompact compact.now.whole compact.now }
 {
     add_some(out, &compact.typ)?;
     add_some(out, &compact.kid)?;
     add_payload(alloc, out, compact.payload.as_slice())?;
-    add_seal(alloc, out, node, compact)
+    add_seal(rt, alloc, out, node, compact)
 }
 
 fn add_some(out: &mut Text, text: &Option<Text>) -> Result<(), Memory> {
@@ -80,11 +99,17 @@ fn add_payload(alloc: Global, out: &mut Text, payload: &[u8]) -> Result<(), Memo
     add_number(alloc, out, payload.len() as u64)
 }
 
-fn add_seal(alloc: Global, out: &mut Text, node: &Node, compact: &Compact) -> Result<(), Memory>
+fn add_seal<R: OpensLedgers>(
+    rt: &R,
+    alloc: Global,
+    out: &mut Text,
+    node: &Node,
+    compact: &Compact,
+) -> Result<(), Memory>
     requires { IsCompact compact.now.whole compact.now }
 {
     let mut steps = Steps {
-        ledger: Plain::new(),
+        ledger: Plain::new(rt),
     };
     match test_key(alloc, compact, &node.registry.signer().public(), &mut steps)? {
         Tested::Yes(_) => add_word(out, b"signed"),

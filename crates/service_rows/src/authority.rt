@@ -1,7 +1,7 @@
 // The service of an authority over a network in memory.
 
 use crate::service::{Files, Served, add_held, authority_served};
-use fed_base::{Memory, Seq, Text};
+use fed_base::{Memory, OpensLedgers, Seq, Text};
 use fed_net::{MemoryNetwork, MemoryPeer};
 use std::alloc::Global;
 use std::sync::Wait;
@@ -37,7 +37,7 @@ const ROOM: usize = 1000;
 const CALLS: u64 = 1000;
 
 /// One caller asks for a statement: how the service ended, and what the caller holds that was settled.
-pub(crate) fn authority_in_memory<R: Wait + Threads + Sync>(
+pub(crate) fn authority_in_memory<R: Wait + Threads + OpensLedgers + Sync>(
     rt: &R,
     alloc: Global,
 ) -> Result<Text, Memory> {
@@ -45,7 +45,7 @@ pub(crate) fn authority_in_memory<R: Wait + Threads + Sync>(
 }
 
 /// One caller asks twice, and the connection isn't kept.
-pub(crate) fn authority_of_one<R: Wait + Threads + Sync>(
+pub(crate) fn authority_of_one<R: Wait + Threads + OpensLedgers + Sync>(
     rt: &R,
     alloc: Global,
 ) -> Result<Text, Memory> {
@@ -53,7 +53,7 @@ pub(crate) fn authority_of_one<R: Wait + Threads + Sync>(
 }
 
 /// Callers whose connections are kept: one asks twice, one closes behind its first request, one breaks off, and one sends a body.
-pub(crate) fn authority_of_streams<R: Wait + Threads + Sync>(
+pub(crate) fn authority_of_streams<R: Wait + Threads + OpensLedgers + Sync>(
     rt: &R,
     alloc: Global,
 ) -> Result<Text, Memory> {
@@ -70,7 +70,7 @@ fn callers(alloc: Global, requests: &[&[u8]]) -> Result<Seq<MemoryPeer>, Memory>
     Ok(callers)
 }
 
-fn served<R: Wait + Threads + Sync>(
+fn served<R: Wait + Threads + OpensLedgers + Sync>(
     rt: &R,
     alloc: Global,
     stream: bool,
@@ -89,7 +89,7 @@ fn served<R: Wait + Threads + Sync>(
 }
 
 // How the service ended, and what each caller holds that was settled.
-fn told<R: Wait + Threads + Sync>(
+fn told<R: Wait + Threads + OpensLedgers + Sync>(
     rt: &R,
     alloc: Global,
     asked: Served,

@@ -11,7 +11,7 @@ use crate::network::TwoCallers;
 use crate::peer::{Caller, TellingPeer};
 use crate::resolver::{Opened, open};
 use crate::words::{add_number, add_word};
-use fed_base::{Duplicate, Failed, Memory, Plain, Seq, Steps, Text};
+use fed_base::{Duplicate, Failed, Memory, OpensLedgers, Plain, Seq, Steps, Text};
 use fed_net::NamedPage;
 use fed_ports::MemoryClock;
 use fed_serve::{Desk, Node, serve_many};
@@ -71,7 +71,7 @@ fn seat_with<'a>(
 }
 
 /// Each desk's first call of its link waits until the other's link was called.
-pub(crate) fn two_desks_meet<R: Threads + Wait + Sync>(
+pub(crate) fn two_desks_meet<R: Threads + Wait + OpensLedgers + Sync>(
     rt: &R,
     alloc: Global,
     web: &Seq<NamedPage>,
@@ -88,7 +88,7 @@ pub(crate) fn two_desks_meet<R: Threads + Wait + Sync>(
 
 /// The first desk's call of its link waits until the second desk was answered, whose caller comes once that call is made. The URLs that
 /// both need belong to one part of the cache.
-pub(crate) fn link_waits_alone<R: Threads + Wait + Sync>(
+pub(crate) fn link_waits_alone<R: Threads + Wait + OpensLedgers + Sync>(
     rt: &R,
     alloc: Global,
     web: &Seq<NamedPage>,
@@ -104,7 +104,7 @@ pub(crate) fn link_waits_alone<R: Threads + Wait + Sync>(
 }
 
 /// The second caller comes once the first desk has got the anchor's page and asks its link for the next.
-pub(crate) fn shared_hit<R: Threads + Wait + Sync>(
+pub(crate) fn shared_hit<R: Threads + Wait + OpensLedgers + Sync>(
     rt: &R,
     alloc: Global,
     web: &Seq<NamedPage>,
@@ -120,7 +120,7 @@ pub(crate) fn shared_hit<R: Threads + Wait + Sync>(
 }
 
 // Serves the two callers, and tells of both desks.
-fn serve<'a, R: Threads + Wait + Sync>(
+fn serve<'a, R: Threads + Wait + OpensLedgers + Sync>(
     rt: &R,
     alloc: Global,
     web: &Seq<NamedPage>,
@@ -130,7 +130,7 @@ fn serve<'a, R: Threads + Wait + Sync>(
     serve_opened(rt, alloc, web, plan, opened)
 }
 
-fn serve_opened<'a, R: Threads + Wait + Sync>(
+fn serve_opened<'a, R: Threads + Wait + OpensLedgers + Sync>(
     rt: &R,
     alloc: Global,
     web: &Seq<NamedPage>,
@@ -146,7 +146,7 @@ fn serve_opened<'a, R: Threads + Wait + Sync>(
     told
 }
 
-fn serve_at<'a, R: Threads + Wait + Sync>(
+fn serve_at<'a, R: Threads + Wait + OpensLedgers + Sync>(
     node: &Node,
     rt: &R,
     alloc: Global,
@@ -163,7 +163,7 @@ fn serve_at<'a, R: Threads + Wait + Sync>(
 }
 
 // Adds the two desks, and serves them.
-fn serve_added<'a, R: Threads + Wait + Sync>(
+fn serve_added<'a, R: Threads + Wait + OpensLedgers + Sync>(
     node: &Node,
     rt: &R,
     alloc: Global,
@@ -181,7 +181,7 @@ fn serve_added<'a, R: Threads + Wait + Sync>(
 }
 
 // Adds a desk whose pass is split from this one.
-fn add_desk<'a, R>(
+fn add_desk<'a, R: OpensLedgers>(
     node: &Node,
     rt: &R,
     alloc: Global,
@@ -201,7 +201,7 @@ fn add_desk<'a, R>(
 }
 
 // A desk with a link over these pages and a pass that is split off.
-fn desk_at<'a, R>(
+fn desk_at<'a, R: OpensLedgers>(
     node: &Node,
     rt: &R,
     alloc: Global,
@@ -223,7 +223,7 @@ fn desk_at<'a, R>(
     }
 }
 
-fn desk_with<'a, R>(
+fn desk_with<'a, R: OpensLedgers>(
     node: &Node,
     rt: &R,
     alloc: Global,
@@ -242,7 +242,7 @@ fn desk_with<'a, R>(
             link,
             clock,
             steps: Steps {
-                ledger: Plain::new(),
+                ledger: Plain::new(rt),
             },
             result: None,
         }),
@@ -266,7 +266,7 @@ fn split<R>(node: &Node, rt: &R, alloc: Global, pass: &mut FedPass) -> Result<Fe
     }
 }
 
-fn serve_desks<'a, R: Threads + Wait + Sync>(
+fn serve_desks<'a, R: Threads + Wait + OpensLedgers + Sync>(
     node: &Node,
     rt: &R,
     alloc: Global,

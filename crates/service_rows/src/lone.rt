@@ -5,7 +5,7 @@ use crate::flag::Flag;
 use crate::network::TwoCallers;
 use crate::peer::Caller;
 use crate::service::{Files, add_held, resolver_served};
-use fed_base::{Memory, Text};
+use fed_base::{Memory, OpensLedgers, Text};
 use std::alloc::Global;
 use std::sync::Wait;
 use std::thread::Threads;
@@ -21,7 +21,10 @@ const LIST: &[u8] = b"GET /list HTTP/1.1\r\nHost: resolver.example\r\n\r\n";
 
 /// Two callers ask for the list, the second one once the first one was answered: how the service ended, and what the callers hold that
 /// were settled.
-pub(crate) fn lone_client<R: Threads + Wait + Sync>(rt: &R, alloc: Global) -> Result<Text, Memory> {
+pub(crate) fn lone_client<R: Threads + Wait + OpensLedgers + Sync>(
+    rt: &R,
+    alloc: Global,
+) -> Result<Text, Memory> {
     let one = Flag::new();
     let two = Flag::new();
     let first = Caller {
@@ -38,7 +41,7 @@ pub(crate) fn lone_client<R: Threads + Wait + Sync>(rt: &R, alloc: Global) -> Re
     told
 }
 
-fn served<R: Threads + Wait + Sync>(
+fn served<R: Threads + Wait + OpensLedgers + Sync>(
     rt: &R,
     alloc: Global,
     net: &mut TwoCallers<'_>,

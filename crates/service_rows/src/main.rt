@@ -17,7 +17,7 @@ mod resolver;
 mod service;
 mod words;
 
-use fed_base::{Memory, Seq, Text};
+use fed_base::{Memory, OpensLedgers, Seq, Text};
 use fed_net::NamedPage;
 use std::alloc::Global;
 use std::io::{self, Print};
@@ -25,7 +25,7 @@ use std::sync::Wait;
 use std::thread::Threads;
 
 // What came of the test of that name.
-fn answer<R: Threads + Wait + Sync>(
+fn answer<R: Threads + Wait + OpensLedgers + Sync>(
     rt: &R,
     alloc: Global,
     web: &Seq<NamedPage>,
@@ -55,7 +55,7 @@ fn write<R: Print>(rt: &R, name: &str, told: Result<Text, Memory>) -> io::Result
 }
 
 // Does the test that a line names.
-fn step<R: Print + Threads + Wait + Sync>(
+fn step<R: Print + Threads + Wait + OpensLedgers + Sync>(
     rt: &R,
     alloc: Global,
     web: &Seq<NamedPage>,

@@ -2,7 +2,7 @@
 
 use crate::federation::MOMENT;
 use crate::words::show;
-use fed_base::{Memory, Seq, Text};
+use fed_base::{Memory, OpensLedgers, Seq, Text};
 use fed_ports::{MemoryClock, MemoryStore, NamedFile, Network};
 use node_service::{ServiceEnd, serve_authority};
 use plain_notes::Notes;
@@ -53,7 +53,7 @@ pub(crate) struct Served {
 }
 
 /// Serves as the authority of the files, and tells how that ended.
-pub(crate) fn authority_served<R: Wait + Threads + Sync, N: Network + Drop>(
+pub(crate) fn authority_served<R: Wait + Threads + OpensLedgers + Sync, N: Network + Drop>(
     rt: &R,
     alloc: Global,
     asked: Served,
@@ -93,7 +93,7 @@ fn authority_end(end: ServiceEnd) -> &'static [u8] {
 }
 
 /// Serves so many connections as the resolver of the files, and tells how that ended.
-pub(crate) fn resolver_served<R: Threads + Wait + Sync, N: Network + Drop>(
+pub(crate) fn resolver_served<R: Threads + Wait + OpensLedgers + Sync, N: Network + Drop>(
     rt: &R,
     alloc: Global,
     files: Files,

@@ -12,7 +12,7 @@ mod part;
 mod passes;
 mod spelling;
 
-use fed_base::{Alg, Memory, Text};
+use fed_base::{Alg, Memory, OpensLedgers, Text};
 use statement_shelf::ShelfPart;
 use statement_shelf::laws::PlainPart;
 use std::alloc::Global;
@@ -20,9 +20,14 @@ use std::io;
 use std::sync::Wait;
 
 // The replies of both forms of a part.
-fn parts(alloc: Global, calls: &str, sealed: &Text) -> Result<Text, Memory> {
-    let mut replies = part::replies::<ShelfPart>(alloc, calls, sealed)?;
-    let plain = part::replies::<PlainPart>(alloc, calls, sealed)?;
+fn parts<R: OpensLedgers>(
+    rt: &R,
+    alloc: Global,
+    calls: &str,
+    sealed: &Text,
+) -> Result<Text, Memory> {
+    let mut replies = part::replies::<_, ShelfPart>(rt, alloc, calls, sealed)?;
+    let plain = part::replies::<_, PlainPart>(rt, alloc, calls, sealed)?;
     if plain.as_slice() != replies.as_slice() {
         replies.append(b" but as a plain list: ")?;
         replies.append(plain.as_slice())?;
@@ -30,10 +35,15 @@ fn parts(alloc: Global, calls: &str, sealed: &Text) -> Result<Text, Memory> {
     Ok(replies)
 }
 
-fn answer<R: Wait>(rt: &R, alloc: Global, line: &str, sealed: &Text) -> Result<Text, Memory> {
+fn answer<R: Wait + OpensLedgers>(
+    rt: &R,
+    alloc: Global,
+    line: &str,
+    sealed: &Text,
+) -> Result<Text, Memory> {
     let (word, calls) = line.split_once(' ').unwrap_or((line, ""));
     match word {
-        "part" => parts(alloc, calls, sealed),
+        "part" => parts(rt, alloc, calls, sealed),
         "book" => book::replies(alloc, calls),
         "passes" => passes::replies(rt, alloc, calls),
         "same" => numbers::compared(alloc, spelling::number(calls)),

@@ -1,6 +1,6 @@
 // Calls on a part of the cache.
 use crate::spelling::{at, letters, number, push_number};
-use fed_base::{Alg, Duplicate, Memory, Plain, Steps, Text};
+use fed_base::{Alg, Duplicate, Memory, OpensLedgers, Plain, Steps, Text};
 use sealed::{Sealed, Tested, test_key};
 use slh_dsa::KeyPair;
 use statement_shelf::{Proven, ShelfCall, ShelfReply};
@@ -20,13 +20,13 @@ pub fn sealed_text(alloc: Global, alg: Alg) -> Result<Text, Memory> {
 }
 
 // The text with its key, which it is tested under.
-fn seal_of(alloc: Global, text: &Text) -> Result<Option<Sealed>, Memory> {
+fn seal_of<R: OpensLedgers>(rt: &R, alloc: Global, text: &Text) -> Result<Option<Sealed>, Memory> {
     let Ok(compact) = jws_form::split(alloc, text.as_slice()) else {
         return Ok(None);
     };
     let public = KeyPair::from_seeds(compact.alg, &SEEDS).public();
     let mut steps = Steps {
-        ledger: Plain::new(),
+        ledger: Plain::new(rt),
     };
     match test_key(alloc, &compact, &public, &mut steps)? {
         Tested::Yes(seal) => Ok(Some(seal)),
@@ -44,7 +44,12 @@ fn text_of(alloc: Global, word: &str, sealed: &Text) -> Result<Text, Memory> {
 }
 
 // What a call asks.
-fn read(alloc: Global, call: &str, sealed: &Text) -> Result<Option<ShelfCall>, Memory> {
+fn read<R: OpensLedgers>(
+    rt: &R,
+    alloc: Global,
+    call: &str,
+    sealed: &Text,
+) -> Result<Option<ShelfCall>, Memory> {
     let url = Text::of(alloc, at(call, 1).as_bytes())?;
     Ok(match at(call, 0) {
         "look" => Some(ShelfCall::Look {
@@ -58,7 +63,7 @@ fn read(alloc: Global, call: &str, sealed: &Text) -> Result<Option<ShelfCall>, M
         }),
         "prove" => {
             let text = text_of(alloc, at(call, 2), sealed)?;
-            match seal_of(alloc, &text)? {
+            match seal_of(rt, alloc, &text)? {
                 Some(seal) => Some(ShelfCall::Prove { url, seal }),
                 None => None,
             }
@@ -121,7 +126,8 @@ fn put_many<P: Sequential<Call = ShelfCall, Reply = ShelfReply>>(
 }
 
 // Makes a call and appends its reply.
-fn make<P: Sequential<Call = ShelfCall, Reply = ShelfReply>>(
+fn make<R: OpensLedgers, P: Sequential<Call = ShelfCall, Reply = ShelfReply>>(
+    rt: &R,
     alloc: Global,
     part: &mut P,
     call: &str,
@@ -131,7 +137,7 @@ fn make<P: Sequential<Call = ShelfCall, Reply = ShelfReply>>(
     if at(call, 0) == "puts" {
         return put_many(alloc, part, number(at(call, 1)), number(at(call, 2)), out);
     }
-    match read(alloc, call, sealed)? {
+    match read(rt, alloc, call, sealed)? {
         Some(call) => {
             let added = make_copy(alloc, part, &call, out);
             drop(call);
@@ -162,7 +168,8 @@ fn push_copy(alloc: Global, out: &mut Text, reply: &ShelfReply) -> Result<(), Me
 }
 
 /// The replies to these calls, made on an empty part.
-pub fn replies<P: Opening + Sequential<Call = ShelfCall, Reply = ShelfReply>>(
+pub fn replies<R: OpensLedgers, P: Opening + Sequential<Call = ShelfCall, Reply = ShelfReply>>(
+    rt: &R,
     alloc: Global,
     calls: &str,
     sealed: &Text,
@@ -173,7 +180,7 @@ pub fn replies<P: Opening + Sequential<Call = ShelfCall, Reply = ShelfReply>>(
         if !out.is_empty() {
             out.append(b", ")?;
         }
-        make(alloc, &mut part, call, sealed, &mut out)?;
+        make(rt, alloc, &mut part, call, sealed, &mut out)?;
     }
     Ok(out)
 }

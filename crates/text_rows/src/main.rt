@@ -14,7 +14,7 @@ mod set_rows;
 mod spelling;
 mod store_rows;
 
-use fed_base::{Memory, Text};
+use fed_base::{Memory, OpensLedgers, Text};
 use spelling::{cut, spelled};
 use std::alloc::Global;
 use std::io::{self, Eprint, Print};
@@ -49,7 +49,7 @@ fn answer(alloc: Global, kind: &str, given: &str) -> Result<Text, Memory> {
 }
 
 // What is answered to a row.
-fn answer_row<R: Files + AllocGlobal + Eprint + Clock + Sync>(
+fn answer_row<R: Files + AllocGlobal + Eprint + Clock + OpensLedgers + Sync>(
     rt: &R,
     alloc: Global,
     row: &str,
@@ -60,9 +60,9 @@ fn answer_row<R: Files + AllocGlobal + Eprint + Clock + Sync>(
         "real_store" => store_rows::real(rt, alloc, given),
         "real_clock" => store_rows::clock(rt, alloc),
         "seal" => seal_rows::seal(alloc, given, sealed),
-        "test" => seal_rows::test(alloc, given, sealed),
-        "check" => seal_rows::check(alloc, given, sealed),
-        "check_text" => seal_rows::check_text(alloc, given),
+        "test" => seal_rows::test(rt, alloc, given, sealed),
+        "check" => seal_rows::check(rt, alloc, given, sealed),
+        "check_text" => seal_rows::check_text(rt, alloc, given),
         _ => answer(alloc, kind, given),
     }
 }

@@ -5,7 +5,7 @@ ghost use Rattle.jws_form.specs.Compact.{IsCompact};
 
 use crate::key_rows::set_of;
 use crate::spelling::{cut, told, word};
-use fed_base::{Alg, Duplicate, Memory, Plain, Steps, Text};
+use fed_base::{Alg, Duplicate, Memory, OpensLedgers, Plain, Steps, Text};
 use fed_json::{Json, is_whole, read_tree};
 use jwk_set::JwkSet;
 use jws_form::{Compact, FormFault, algorithm_of};
@@ -55,19 +55,29 @@ fn taken_apart(alloc: Global, text: &[u8]) -> Result<Compact, FormFault>
 }
 
 /// Whether the text verifies under a key, which is given in base64url, what pair is kept then, and how many signatures were checked.
-pub fn test(alloc: Global, given: &str, sealed: &Text) -> Result<Text, Memory> {
+pub fn test<R: OpensLedgers>(
+    rt: &R,
+    alloc: Global,
+    given: &str,
+    sealed: &Text,
+) -> Result<Text, Memory> {
     let public = base64url::decode_32(given.as_bytes()).unwrap_or([0; 32]);
     match taken_apart(alloc, sealed.as_slice()) {
-        Ok(compact) => tested(alloc, &compact, &public),
+        Ok(compact) => tested(rt, alloc, &compact, &public),
         Err(fault) => told(alloc, &fault),
     }
 }
 
-fn tested(alloc: Global, compact: &Compact, public: &[u8; 32]) -> Result<Text, Memory>
+fn tested<R: OpensLedgers>(
+    rt: &R,
+    alloc: Global,
+    compact: &Compact,
+    public: &[u8; 32],
+) -> Result<Text, Memory>
     requires { IsCompact compact.now.whole compact.now }
 {
     let mut steps = Steps {
-        ledger: Plain::new(),
+        ledger: Plain::new(rt),
     };
     let tested = test_key(alloc, compact, public, &mut steps)?;
     let copy = tested.copy(alloc);
@@ -106,20 +116,30 @@ fn pair(alloc: Global, tested: Tested, text: &[u8], public: &[u8; 32]) -> Result
 
 /// The key of a set under which the text verifies, or why it is sealed by none, and how many signatures were checked; then whether it is
 /// sealed, and how many were checked with that.
-pub fn check(alloc: Global, given: &str, sealed: &Text) -> Result<Text, Memory> {
-    check_bytes(alloc, sealed.as_slice(), given)
+pub fn check<R: OpensLedgers>(
+    rt: &R,
+    alloc: Global,
+    given: &str,
+    sealed: &Text,
+) -> Result<Text, Memory> {
+    check_bytes(rt, alloc, sealed.as_slice(), given)
 }
 
 /// The same of a text that is given.
-pub fn check_text(alloc: Global, given: &str) -> Result<Text, Memory> {
+pub fn check_text<R: OpensLedgers>(rt: &R, alloc: Global, given: &str) -> Result<Text, Memory> {
     let (text, set) = cut(given);
-    check_bytes(alloc, text.as_bytes(), set)
+    check_bytes(rt, alloc, text.as_bytes(), set)
 }
 
-fn check_bytes(alloc: Global, text: &[u8], set: &str) -> Result<Text, Memory> {
+fn check_bytes<R: OpensLedgers>(
+    rt: &R,
+    alloc: Global,
+    text: &[u8],
+    set: &str,
+) -> Result<Text, Memory> {
     match taken_apart(alloc, text) {
         Ok(compact) => {
-            let told = check_compact(alloc, &compact, set);
+            let told = check_compact(rt, alloc, &compact, set);
             drop(compact);
             told
         },
@@ -127,12 +147,17 @@ fn check_bytes(alloc: Global, text: &[u8], set: &str) -> Result<Text, Memory> {
     }
 }
 
-fn check_compact(alloc: Global, compact: &Compact, set: &str) -> Result<Text, Memory>
+fn check_compact<R: OpensLedgers>(
+    rt: &R,
+    alloc: Global,
+    compact: &Compact,
+    set: &str,
+) -> Result<Text, Memory>
     requires { IsCompact compact.now.whole compact.now }
 {
     match set_of(alloc, set.as_bytes()) {
         Ok(set) => {
-            let told = checked(alloc, compact, &set);
+            let told = checked(rt, alloc, compact, &set);
             drop(set);
             told
         },
@@ -156,11 +181,16 @@ fn add(answer: &mut Text, part: Text) -> Result<(), Memory> {
     answer.append(part.as_slice())
 }
 
-fn checked(alloc: Global, compact: &Compact, set: &JwkSet) -> Result<Text, Memory>
+fn checked<R: OpensLedgers>(
+    rt: &R,
+    alloc: Global,
+    compact: &Compact,
+    set: &JwkSet,
+) -> Result<Text, Memory>
     requires { IsCompact compact.now.whole compact.now }
 {
     let mut steps = Steps {
-        ledger: Plain::new(),
+        ledger: Plain::new(rt),
     };
     let mut answer = key_told(alloc, check_sealed(alloc, compact, set, &mut steps))?;
     add(&mut answer, told(alloc, &steps.ledger.steps())?)?;
