@@ -25,6 +25,14 @@ pub trait Sink {
         ensures err { OnErr result (held self.new ≡ held self.old) }
         ensures side { sink_side self.new ≡ sink_side self.old }
         ensures cause { HasCause (write_faults self.old) (write_faults self.new) result };
+
+    /// The last message was given whole: nothing comes behind it. A sink that the other end waits on can tell it so. Nothing that is told
+    /// changes, and where a method isn't written nothing is done.
+    fn end(&mut self)
+        ensures held { held self.new ≡ held self.old }
+        ensures side { sink_side self.new ≡ sink_side self.old }
+        ensures faults { write_faults self.new ≡ write_faults self.old }
+    {}
 }
 
 /// Gives all the bytes, in as many calls as it takes, or a beginning of them and then a fault.
