@@ -6,7 +6,7 @@ use Rattle.chunked_body.specs.declared.place.Place.{Place}
 use Rattle.chunked_body.specs.declared.place.Place.TheVariants.{Line, Size, Pad, Extension, LineFeed, Data, DataReturn, DataFeed, Done, Over, Bad}
 use Rattle.chunked_body.specs.declared.reader.Chunked.{Chunked}
 use Rattle.chunked_body.specs.declared.reader.Chunked.TheVariants.{Whole, TooLong, Broken}
-use Rattle.chunked_body.specs.Grammar.{IsBody, form_limit}
+use Rattle.chunked_body.specs.Grammar.{Begins, IsBody, form_limit}
 use Rattle.chunked_body.specs.Answers.{BeginsWithBody, HasLargeChunk, IsChunked, IsTooLong}
 use Rattle.chunked_body.specs.Readings.{is_final, is_bad, is_data, next, Chunking, start, step, run}
 use Rattle.chunked_body.proofs.Running.{room_case, run_append, run_final}
@@ -203,3 +203,34 @@ only_case x ended p room body Broken e h = broken_case x ended p room body e h
 -- what is so is what the reading answers
 pub only : (x : List ℕ) (ended : Bool) (a : Chunked) → IsChunked x ended a → a ≡ answer_of (run start x).place (run start x).body
 only x ended a h = only_case x ended (run start x).place (run start x).room (run start x).body a refl h
+
+not_bad : (p : Place) → is_final p ≡ false → is_bad p ≡ false
+not_bad Line f = refl
+not_bad (Size d n) f = refl
+not_bad (Pad n) f = refl
+not_bad (Extension n) f = refl
+not_bad (LineFeed n) f = refl
+not_bad (Data n) f = refl
+not_bad DataReturn f = refl
+not_bad DataFeed f = refl
+not_bad Done f = cc
+not_bad Over f = cc
+not_bad Bad f = cc
+
+-- bytes behind which the reading goes on begin the form
+goes_begins : (x : List ℕ) (c : Chunking) → is_final c.place ≡ false → Reading x c → Begins x
+goes_begins x c f r =
+    let all = r.bytes ∙ ap (λ y. r.used ++ y) (r.all f) ∙ append-nil r.used in
+    subst Begins (sym all) (begins r.used c.place c.body (going r.used c f r.meant) (not_bad c.place f) (λ o. let no : true ≡ false = sym (ap is_final o) ∙ f in cc))
+
+-- they are nothing yet, as long as more can come
+pub undecided : (x : List ℕ) (a : Chunked) → is_final (run start x).place ≡ false → IsChunked x false a → ⊥
+undecided x (Whole body) f h = elim (begins_read x body h.1) [
+  | inl o ↦ (let no : true ≡ false = sym (ap is_final o) ∙ f in cc)
+  | inr d ↦ (let no : true ≡ false = sym (ap is_final d.0) ∙ f in cc)
+]
+undecided x TooLong f h = let no : true ≡ false = sym (ap is_final (too_long_over x h)) ∙ f in cc
+undecided x Broken f h = elim h.1.cut [
+  | inl e ↦ (let no : false ≡ true = e in cc)
+  | inr none ↦ none (goes_begins x (run start x) f (read_all x))
+]

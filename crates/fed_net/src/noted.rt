@@ -9,13 +9,14 @@ const KEPT: usize = 256;
 // How many bytes of an answer there are up to the end of its status, as in `HTTP/1.1 200`.
 const STATUS_END: usize = 12;
 
-/// The beginning of the first line of the request that is to be answered, that of its answer, and how many bytes of it were given.
+/// The beginning of the first line of the request that is to be answered, that of its answer up to the status, and how many bytes of the
+/// answer were given.
 #[derive(Drop)]
 pub struct Noted {
     request: [u8; KEPT],
     kept: usize,
     ended: bool,
-    answer: [u8; KEPT],
+    answer: [u8; STATUS_END],
     given: u64,
     ends: RequestEnds,
     waiting: u64,
@@ -27,15 +28,6 @@ fn shown(byte: u8) -> u8 {
         byte
     } else {
         b'*'
-    }
-}
-
-// A byte as it is kept of an answer: as the log shows it, and the ends of lines as they are.
-fn kept_of(byte: u8) -> u8 {
-    if byte == b'\r' || byte == b'\n' {
-        byte
-    } else {
-        shown(byte)
     }
 }
 
@@ -56,7 +48,7 @@ impl Noted {
             request: [0; KEPT],
             kept: 0,
             ended: false,
-            answer: [b' '; KEPT],
+            answer: [b' '; STATUS_END],
             given: 0,
             ends: RequestEnds::new(),
             waiting: 0,
@@ -68,7 +60,7 @@ impl Noted {
         self.waiting = self.waiting.saturating_sub(1);
         self.kept = 0;
         self.ended = self.has_begun();
-        self.answer = [b' '; KEPT];
+        self.answer = [b' '; STATUS_END];
         self.given = 0;
     }
 
@@ -103,8 +95,8 @@ impl Noted {
     /// Notes what was given.
     pub fn given(&mut self, bytes: &[u8]) {
         for byte in bytes {
-            if self.given < KEPT as u64 {
-                self.answer[self.given as usize] = kept_of(*byte);
+            if self.given < STATUS_END as u64 {
+                self.answer[self.given as usize] = shown(*byte);
             }
             self.given = self.given.saturating_add(1);
         }
@@ -121,7 +113,7 @@ impl Noted {
 
     /// The status of the answer, or a dash.
     pub fn status(&self) -> &str {
-        let text = str::from_utf8(self.answer.get(..STATUS_END).unwrap_or(&[])).unwrap_or("");
+        let text = str::from_utf8(&self.answer).unwrap_or("");
         let (_, status) = cut(text, ' ');
         or_dash(status.trim_ascii())
     }
@@ -129,33 +121,5 @@ impl Noted {
     /// How many bytes were given.
     pub fn bytes(&self) -> u64 {
         self.given
-    }
-
-    /// Whether the answer was given whole, by the length that its head tells. Of one without a length, or with a longer head than is kept,
-    /// it isn't known.
-    pub fn is_answered(&self) -> bool {
-        self.answer_end().is_some_and(|end| self.given >= end)
-    }
-
-    /// Whether the answer says that the connection is closed behind it.
-    pub fn is_last(&self) -> bool {
-        self.head()
-            .is_some_and(|head| head.split_once("\r\nConnection: close").is_some())
-    }
-
-    // The head of the answer, without the empty line.
-    fn head(&self) -> Option<&str> {
-        let text = str::from_utf8(&self.answer).ok()?;
-        let (head, _) = text.split_once("\r\n\r\n")?;
-        Some(head)
-    }
-
-    // Where the answer ends: behind the empty line, and as many bytes further as its length says.
-    fn answer_end(&self) -> Option<u64> {
-        let head = self.head()?;
-        let (_, length) = head.split_once("\r\nContent-Length: ")?;
-        let (length, _) = cut(length, '\r');
-        let length: u64 = length.parse().ok()?;
-        length.checked_add(head.len() as u64 + 4)
     }
 }

@@ -26,10 +26,17 @@ const ANSWER: u64 = 30;
 // How many readings at most take away what a peer sent that nobody asked for.
 const READINGS: u32 = 64;
 
+// When an answer was given whole, and in what time since its request began.
+#[derive(Clone, Copy, Drop)]
+struct Whole {
+    at: Option<Instant>,
+    spent: Duration,
+}
+
 /// A caller over TCP. It fails where it is silent for 10 seconds, where it hasn't sent its request 30 seconds after it was accepted, and
-/// where it doesn't take its answer in 30 seconds. Once an answer that says `Connection: close` was given whole, by its `Content-Length`,
-/// it gets the end of it, though the connection is kept until it is settled. Behind any other answer these times begin anew with the first
-/// byte of the next request, and it fails where that doesn't come in a second.
+/// where it doesn't take its answer in 30 seconds. Once [`Sink::end`] says that its last answer was given it gets the end of it, though the
+/// connection is kept until it is settled. An answer is whole once the rest of it was taken by one call; where it isn't the last, these
+/// times begin anew with the first byte of the next request, and the peer fails where that doesn't come in a second.
 #[derive(Drop)]
 pub struct RealPeer<'a, R: SystemClock + Eprint> {
     rt: &'a R,
@@ -39,6 +46,7 @@ pub struct RealPeer<'a, R: SystemClock + Eprint> {
     began: Option<Instant>,
     is_idle: bool,
     answered: Option<Instant>,
+    whole: Option<Whole>,
     noted: Noted,
     reads: u64,
     writes: u64,
@@ -60,15 +68,24 @@ impl<'a, R: SystemClock + Eprint> RealPeer<'a, R> {
             began: Instant::now(rt).ok(),
             is_idle: false,
             answered: None,
+            whole: None,
             noted: Noted::new(),
             reads: 0,
             writes: 0,
         }
     }
 
+    // How long ago the peer was accepted, or its request began.
+    fn spent(&self) -> Duration {
+        match self.began {
+            Some(began) => began.elapsed(self.rt).unwrap_or(Duration::ZERO),
+            None => Duration::ZERO,
+        }
+    }
+
     // Writes the line of an answer: the moment in seconds since 1970, the peer's address, the method and the path, the status, the bytes of
     // the answer and the milliseconds since the peer was accepted or its request began.
-    fn log(&self) {
+    fn log(&self, spent: Duration) {
         if !self.logs {
             return;
         }
@@ -77,10 +94,6 @@ impl<'a, R: SystemClock + Eprint> RealPeer<'a, R> {
                 .duration_since(UNIX_EPOCH)
                 .map_or(0, |since| since.as_secs()),
             Err(_) => 0,
-        };
-        let spent = match self.began {
-            Some(began) => began.elapsed(self.rt).unwrap_or(Duration::ZERO),
-            None => Duration::ZERO,
         };
         let (method, path) = self.noted.request();
         let status = self.noted.status();
@@ -91,27 +104,27 @@ impl<'a, R: SystemClock + Eprint> RealPeer<'a, R> {
         let _ = eprintln!(self.rt; "{now} {from} {method} {path} {status} {bytes} {millis}");
     }
 
-    // What is done once an answer was given whole: the peer gets its end, or is waited for anew.
-    fn end_answer(&mut self)
+    // Begins anew behind an answer that was given whole and wasn't the last: it leaves its line, and the next request is waited for.
+    fn go_on(&mut self)
         ensures reads { self.new.reads ≡ self.old.reads }
         ensures writes { self.new.writes ≡ self.old.writes }
     {
-        if self.noted.is_last() {
-            let _ = self.stream.shutdown(Shutdown::Write);
+        let Some(whole) = self.whole else {
             return;
-        }
-        self.log();
+        };
+        self.log(whole.spent);
         self.noted.next();
         self.is_idle = !self.noted.has_begun();
-        self.began = Instant::now(self.rt).ok();
+        self.began = whole.at;
         self.answered = None;
+        self.whole = None;
     }
 
     /// Ends the connection, and leaves a line where it asked anything that has none yet, or nothing at all. What came that nobody asked for
     /// is taken away, so that the peer still gets the end of its answer.
     pub fn close(self) {
         if !self.is_idle {
-            self.log();
+            self.log(self.spent());
         }
         let mut stream = self.stream;
         let _ = stream.shutdown(Shutdown::Write);
@@ -136,6 +149,7 @@ impl<'a, R: SystemClock + Eprint> Source for RealPeer<'a, R> {
     ghost read_faults = { λ peer. peer.reads };
 
     fn take(&mut self, into: &mut [u8]) -> Result<usize, Failed> {
+        self.go_on();
         let wait = left(
             self.rt,
             self.began,
@@ -167,6 +181,7 @@ impl<'a, R: SystemClock + Eprint> Sink for RealPeer<'a, R> {
     ghost write_faults = { λ peer. peer.writes };
 
     fn give(&mut self, piece: &[u8]) -> Result<usize, Failed> {
+        self.go_on();
         if self.answered.is_none() {
             self.answered = Instant::now(self.rt).ok();
         }
@@ -174,8 +189,11 @@ impl<'a, R: SystemClock + Eprint> Sink for RealPeer<'a, R> {
         match write(&mut self.stream, wait, piece) {
             Some(n) => {
                 self.noted.given(&piece[..n]);
-                if self.noted.is_answered() {
-                    self.end_answer();
+                if n == piece.len() {
+                    self.whole = Some(Whole {
+                        at: Instant::now(self.rt).ok(),
+                        spent: self.spent(),
+                    });
                 }
                 Ok(n)
             }
@@ -184,6 +202,12 @@ impl<'a, R: SystemClock + Eprint> Sink for RealPeer<'a, R> {
                 Err(Failed)
             }
         }
+    }
+
+    fn end(&mut self) {
+        self.whole = None;
+        // Where it can't be shut now the peer gets its end when it is settled.
+        let _ = self.stream.shutdown(Shutdown::Write);
     }
 }
 

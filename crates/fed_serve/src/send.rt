@@ -21,7 +21,10 @@ fn send_out_of_memory<P: Sink>(peer: &mut P) -> Result<u16, ServeFault>
     ensures side { P.sink_side peer.new ≡ P.sink_side peer.old }
 {
     match write_all(peer, out_of_memory()) {
-        Ok(()) => Ok(507),
+        Ok(()) => {
+            peer.end();
+            Ok(507)
+        }
         Err(Failed) => Err(ServeFault::WriteFault),
     }
 }

@@ -1,20 +1,19 @@
 -- What stands at the front of a stream of requests.
-use Rattle.std.proofs.Common.{◌≡◌, ◌≤◌, ◌<◌, ◌⊎◌, inl, inr, ℕ, ◌+◌, Bool, true, false, List, [], ◌++◌, length, min, take, drop, Option, Some, None, if◌then◌else◌, IfOk, IfSome, Result, Ok, Err, refl, sym, ap, ap₂, ◌∙◌, subst, append_assoc, append-nil, arith, take_all, slice_range}
+use Rattle.std.proofs.Common.{◌≡◌, ◌≤◌, ◌<◌, inl, inr, ℕ, ◌+◌, Bool, true, false, List, [], ◌++◌, length, min, take, drop, Option, Some, None, if◌then◌else◌, IfOk, IfSome, Result, Ok, Err, refl, sym, ap, ap₂, ◌∙◌, subst, append_assoc, arith, take_all, slice_range}
 use Rattle.std.proofs.Math.Seq.{take-add}
 use Rattle.std.proofs.lemmas.List.{length-append, length-drop, length-take, length-take-le, take-append-drop, take-take}
-use Rattle.httparse.specs.Grammar.{RequestHead}
-use Rattle.http_messages.specs.declared.cut.Cut.{Cut}
-use Rattle.http_messages.specs.declared.cut.Cut.TheVariants.{Whole, More}
+use Rattle.http_messages.specs.declared.cut.Cut.TheVariants.{Whole}
 use Rattle.http_messages.specs.declared.inflow.Break.{Break}
+use Rattle.http_messages.specs.declared.inflow.Break.TheVariants.{Failed, Memory}
 use Rattle.http_messages.specs.declared.plan.Plan.{Plan}
 use Rattle.http_messages.specs.declared.request.Incoming.TheVariants.{Asked, NotARequest}
 use Rattle.http_messages.specs.declared.request.Request.{Request}
 use Rattle.http_messages.specs.Connections.{closes}
 use Rattle.http_messages.specs.Cuts.{BeginsStream, IsCut, IsNoStreamRequest, IsRefusedThere, Needs, is_stray, stream_size_by}
-use Rattle.http_messages.specs.Flows.{HeadComes, HeadComesOn}
-use Rattle.http_messages.specs.Heads.{BeginsWithHead, HasNoHead, IsHeadText, head_end, head_limit}
+use Rattle.http_messages.specs.Flows.{HeadBroken, HeadBrokenOn, HeadComes, HeadComesOn, OnFailed}
+use Rattle.http_messages.specs.Heads.{BeginsWithHead, IsHeadText, head_end, head_limit}
 use Rattle.http_messages.specs.Plans.{IsAsked, SaysPlan}
-use Rattle.http_messages.specs.Requests.{Begins, EndsEarly, EndsInBody, IsHead, IsNoRequest, IsRefused, pairs_of, path_of, query_of, size_by}
+use Rattle.http_messages.specs.Requests.{Begins, EndsEarly, IsHead, IsRefused, pairs_of, path_of, query_of, size_by}
 use Rattle.http_messages.proofs.Ends.{end_inside}
 use Rattle.http_messages.proofs.Sizes.{same_head}
 use Rattle.http_messages.proofs.Takings.{head_text}
@@ -157,6 +156,12 @@ pub head_all : (came : List ℕ → Bool → Type 0) (before after : List ℕ) (
 head_all came before after (Ok (Some len)) e h = (subst (λ t. came t false) (sym (h.0.adds ∙ ap (λ y. y ++ h.0.got) e)) h.0.came, h.1, h.2)
 head_all came before after (Ok None) e h = (h.0, subst (λ t. came t h.0) (sym (h.1.adds ∙ ap (λ y. y ++ h.1.got) e)) h.1.came, h.2, h.3, h.4)
 head_all came before after (Err fault) e h = tt
+
+-- the same where a call failed before a head was there
+pub broken_all : {T : Type 0} (broke : List ℕ → Type 0) (before after : List ℕ) (r : Result T Break) → before ≡ [] → OnFailed r (HeadBrokenOn broke before after) → OnFailed r (HeadBroken broke after)
+broken_all broke before after (Ok x) e h = tt
+broken_all broke before after (Err Failed) e h = (subst broke (sym (h.0.adds ∙ ap (λ y. y ++ h.0.got) e)) h.0.broke, h.1, h.2)
+broken_all broke before after (Err Memory) e h = tt
 
 -- ---- one cut
 

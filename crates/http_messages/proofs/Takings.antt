@@ -1,5 +1,5 @@
 -- From what was taken to what it shows.
-use Rattle.std.proofs.Common.{◌≡◌, ◌≤◌, ◌<◌, ◌⊎◌, inl, inr, ℕ, ◌+◌, Bool, true, false, List, [], ◌++◌, length, cond, nat_lt, take, drop, Option, Some, None, Result, Ok, Err, refl, sym, ap, ap₂, ◌∙◌, subst, append_assoc, append-nil, arith, take_all, slice_range}
+use Rattle.std.proofs.Common.{◌≡◌, ◌≤◌, ◌<◌, ◌⊎◌, inl, inr, ℕ, ◌+◌, ◌-◌, Bool, true, false, List, [], ◌++◌, length, cond, nat_lt, take, drop, Option, Some, None, Result, Ok, Err, refl, sym, ap, ap₂, ◌∙◌, subst, append_assoc, append-nil, arith, take_all, slice_range}
 use Rattle.std.proofs.Math.Seq.{take-add}
 use Rattle.std.proofs.lemmas.List.{length-append, length-drop, length-take-le, take-append-le, take-append-drop}
 use Rattle.std.proofs.lemmas.Bool.Decides.{nat_tests}
@@ -15,22 +15,36 @@ use Rattle.http_messages.specs.declared.request.Incoming.TheVariants.{Asked, Not
 use Rattle.http_messages.specs.declared.request.Method.{Method}
 use Rattle.http_messages.specs.declared.request.Request.{Request}
 use Rattle.http_messages.specs.FlowLaws.{few_given_on, given_on}
-use Rattle.http_messages.specs.Flows.{Given, HeadComes, TakenFew}
+use Rattle.http_messages.specs.Flows.{Broken, Given, HeadBroken, HeadComes, OnFailed, TakenFew}
 use Rattle.http_messages.specs.Heads.{head_end, head_limit, BeginsWithHead, IsHeadText}
 use Rattle.http_messages.specs.Plans.{IsAsked, SaysPlan, end_of, without_head}
 use Rattle.http_messages.specs.Readings.{Fits, IsTheAnswer, Reads, Taken}
-use Rattle.http_messages.specs.Requests.{IsRefused, path_of, pairs_of, query_of, request_limit}
+use Rattle.http_messages.specs.Requests.{EndsInBody, IsRefused, path_of, pairs_of, query_of, request_limit}
 use Rattle.http_messages.proofs.Ends.{end_inside, found_alone}
 use Rattle.http_messages.proofs.Texts.{one_answer}
 
--- reading broke off
-pub broke : (a b : Option (List ℕ)) (f : Break) (n : ℕ) → TakenFew a b n → n ≤ request_limit → Taken a b (Err (end_of f))
-broke a b Failed n t h = record { got = t.got; few = omega (arith, t.few); left = t.gave; shown = tt }
-broke a b Memory n t h = record { got = t.got; few = omega (arith, t.few); left = t.gave; shown = tt }
+-- reading broke off for want of memory
+broke : (a b : Option (List ℕ)) (n : ℕ) → TakenFew a b n → n ≤ request_limit → Taken a b (Err NoMemory)
+broke a b n t h = record { got = t.got; few = omega (arith, t.few); left = t.gave; shown = tt }
 
--- reading broke off behind what came before
-pub broke_later : (a b c : Option (List ℕ)) (t : List ℕ) (m : ℕ) (f : Break) → Given a b t false → TakenFew b c m → length t + m ≤ request_limit → Taken a c (Err (end_of f))
-broke_later a b c t m f p q h = broke a c f request_limit (few_given_on a b c t m request_limit p q h) (omega arith)
+-- without memory, behind what came before
+broke_later : (a b c : Option (List ℕ)) (t : List ℕ) (m : ℕ) → Given a b t false → TakenFew b c m → length t + m ≤ request_limit → Taken a c (Err NoMemory)
+broke_later a b c t m p q h = broke a c request_limit (few_given_on a b c t m request_limit p q h) (omega arith)
+
+-- what a source gave before a call failed, with its other side as it was
+abbrev pub Lost : Option (List ℕ) → Option (List ℕ) → Option (List ℕ) × ℕ → Option (List ℕ) × ℕ → List ℕ → Type 0
+Lost a b s t x = Given a b x false × (t ≡ s)
+
+-- reading broke off before a head was there
+pub broke_early : (T : Type 0) (a b : Option (List ℕ)) (s t : Option (List ℕ) × ℕ) (text : List ℕ) (f : Break) → OnFailed {T = T} (Err f) (HeadBroken (Lost a b s t) text) → TakenFew a b head_limit
+    → Taken a b (Err (end_of f))
+broke_early T a b s t text Failed h few = record {
+  got = text;
+  few = omega (arith, h.1);
+  left = h.0.0.gave;
+  shown = inl (ap head_end (take_all head_limit text (omega (arith, h.1))) ∙ h.2, h.1);
+}
+broke_early T a b s t text Memory h few = broke a b head_limit few (omega arith)
 
 -- memory was wanting
 pub wanting : (a c : Option (List ℕ)) (u : List ℕ) (e : Bool) → Given a c u e → length u ≤ request_limit → Taken a c (Err NoMemory)
@@ -101,6 +115,18 @@ refused a b t len g few e none = record {
   shown = inr (take len t, subst (λ y. BeginsWithHead y (take len t)) (append-nil t) (begins t [] len few e), none);
 }
 
+-- bytes that end inside the body
+in_body : (t u more : List ℕ) (len : ℕ) (p : Plan) → u ≡ t ++ more → length t ≤ head_limit → head_end t ≡ Some len → SaysPlan (take len t) p → length u < len + p.size → EndsInBody u
+in_body t u more len p whole few found says short = record {
+  head = take len t;
+  begins = subst (λ y. BeginsWithHead y (take len t)) (sym whole) (begins t more len few found);
+  parts = says.parts;
+  reads = says.reads;
+  size = p.size;
+  sized = says.sized;
+  short = omega (arith, short, length-take-le len t (end_inside t len found));
+}
+
 -- the bytes end inside the body
 pub cut_body : (a c : Option (List ℕ)) (t u more : List ℕ) (len : ℕ) (e : Bool) (p : Plan) → Given a c u e → u ≡ t ++ more → length t ≤ head_limit → head_end t ≡ Some len
     → SaysPlan (take len t) p → length u < len + p.size → e ≡ true → Taken a c (Err Ended)
@@ -108,19 +134,24 @@ cut_body a c t u more len e p g whole few found says short ended = record {
   got = u;
   few = omega (arith, short, says.small, few, end_inside t len found);
   left = g.gave;
-  shown = (
-    inr (record {
-      head = take len t;
-      begins = subst (λ y. BeginsWithHead y (take len t)) (sym whole) (begins t more len few found);
-      parts = says.parts;
-      reads = says.reads;
-      size = p.size;
-      sized = says.sized;
-      short = omega (arith, short, length-take-le len t (end_inside t len found));
-    }),
-    g.at_end ended,
-  );
+  shown = (inr (in_body t u more len p whole few found says short), g.at_end ended);
 }
+
+-- reading broke off inside the body
+pub broke_body : (T : Type 0) (a b c : Option (List ℕ)) (s v : Option (List ℕ) × ℕ) (t u : List ℕ) (len n : ℕ) (f : Break) (p : Plan) → Given a b t false → length t ≤ head_limit → head_end t ≡ Some len
+    → SaysPlan (take len t) p → n ≡ len + p.size → OnFailed {T = T} (Err f) (Broken (Lost b c s v) t u) → OnFailed {T = T} (Err f) (length u < n) → TakenFew b c (n - length t) → Taken a c (Err (end_of f))
+broke_body T a b c s v t u len n Failed p g few found says until h short taken =
+    let under : length u < len + p.size = omega (arith, until, short) in
+    let inside = end_inside t len found in
+    let all = given_on a b c t h.got false g h.broke.0 in
+    record {
+      got = u;
+      few = omega (arith, under, says.small, few, inside);
+      left = subst (λ y. Gave a y c) (sym h.adds) all.gave;
+      shown = inr (in_body t u h.got len p h.adds few found says under);
+    }
+broke_body T a b c s v t u len n Memory p g few found says until h short taken =
+    broke_later a b c t (n - length t) g taken (omega (arith, until, few, says.small, end_inside t len found))
 
 -- the whole request came
 pub whole_request : (a c : Option (List ℕ)) (t u more : List ℕ) (len : ℕ) (e : Bool) (p : Plan) (r : Request) → Given a c u e → u ≡ t ++ more → length t ≤ head_limit → head_end t ≡ Some len

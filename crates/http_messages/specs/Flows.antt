@@ -1,5 +1,5 @@
 -- What comes from the other side, over several calls.
-use Rattle.std.specs.Prelude.{◌≡◌, ◌≤◌, ◌⊎◌, ℕ, Bool, true, false, List, ◌++◌, length, Option, Some, None, Result, Ok, Err}
+use Rattle.std.specs.Prelude.{◌≡◌, ◌≤◌, ◌<◌, ◌⊎◌, ℕ, Bool, true, false, List, ◌++◌, length, Option, Some, None, Result, Ok, Err}
 use Rattle.fed_base.specs.Counts.{Rose}
 use Rattle.fed_ports.specs.Inputs.{AtEnd}
 use Rattle.fed_ports.specs.Lists.{Gave}
@@ -23,6 +23,26 @@ abbrev pub HeadComesOn : (List ℕ → Bool → Type 0) → List ℕ → List �
 HeadComesOn came before after (Some len) = Comes came before after false × (length after ≤ head_limit) × (head_end after ≡ Some len)
 HeadComesOn came before after None =
     (ended : Bool) × Comes came before after ended × (length after ≤ head_limit) × (head_end after ≡ None) × ((length after ≡ head_limit) ⊎ (ended ≡ true))
+
+-- this is said where a call failed
+abbrev pub OnFailed : {T : Type 0} → Result T Break → Type 0 → Type 0
+OnFailed (Ok x) P = Unit {0}
+OnFailed (Err Failed) P = P
+OnFailed (Err Memory) P = Unit {0}
+
+-- these bytes came and were added to a text, and then a call failed
+pub record Broken (flow : List ℕ → Type 0) (before after : List ℕ) : Type 0 where
+  pub got : List ℕ
+  pub broke : flow got
+  pub adds : after ≡ before ++ got
+
+-- a call failed before a head was there, where one could still come
+abbrev pub HeadBroken : (List ℕ → Type 0) → List ℕ → Type 0
+HeadBroken broke text = broke text × (length text < head_limit) × (head_end text ≡ None)
+
+-- the same behind what a text had before
+abbrev pub HeadBrokenOn : (List ℕ → Type 0) → List ℕ → List ℕ → Type 0
+HeadBrokenOn broke before after = Broken broke before after × (length after < head_limit) × (head_end after ≡ None)
 
 -- the count rose where a call failed, and else it is as before
 abbrev pub BreakCause : {T : Type 0} → ℕ → ℕ → Result T Break → Type 0

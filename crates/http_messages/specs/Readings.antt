@@ -29,11 +29,12 @@ Reads x (Err Ended) = IsTheAnswer x (Err Ended)
 Reads x (Err ReadFault) = Unit {0}
 Reads x (Err Memory) = Unit {0}
 
--- the bytes that were taken have the answer; where they end early, nothing is left
+-- the bytes that were taken have the answer; where they end early, nothing is left; and where reading failed they end early: no request
+-- stood there yet
 abbrev pub Shows : List ℕ → Option (List ℕ) → Result Incoming ReadEnd → Type 0
 Shows got new (Ok incoming) = Fits got (Ok incoming)
 Shows got new (Err Ended) = EndsEarly got × AtEnd new
-Shows got new (Err ReadFault) = Unit {0}
+Shows got new (Err ReadFault) = EndsEarly got
 Shows got new (Err Memory) = Unit {0}
 
 -- what was taken: no more than may be, and what is left stands behind it

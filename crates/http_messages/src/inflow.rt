@@ -3,7 +3,7 @@
 ghost use Rattle.std.specs.Prelude.{◌≡◌, ◌≤◌, ◌<◌, ◌+◌, ◌-◌, ◌++◌, ◌==◌, ℕ, Bool, true, false, List, [], Option, Some, None, length, max, take, IfOk, OnErr};
 ghost use Rattle.fed_ports.specs.Causes.{HasCause};
 ghost use Rattle.fed_ports.specs.Exchanges.{Exchange};
-ghost use Rattle.http_messages.specs.Flows.{BreakCause, Comes, HeadComes, HeadComesOn};
+ghost use Rattle.http_messages.specs.Flows.{BreakCause, Broken, Comes, HeadBroken, HeadBrokenOn, HeadComes, HeadComesOn, OnFailed};
 ghost use Rattle.http_messages.specs.Heads.{head_end, head_limit};
 ghost use Rattle.http_messages.specs.Asked.{asked_of};
 
@@ -15,6 +15,9 @@ use std::alloc::Global;
 pub trait Inflow<T> {
     /// From one state to another these bytes came, and the end came or didn't.
     ghost came: { T → T → List ℕ → Bool → Type 0 };
+
+    /// From one state to another these bytes came, and then a call failed.
+    ghost broke: { T → T → List ℕ → Type 0 };
 
     /// From one state to another at most so many bytes came.
     ghost few: { T → T → ℕ → Type 0 };
@@ -37,6 +40,8 @@ pub trait Inflow<T> {
 
     ghost came_on: { (a b c : T) (x y : List ℕ) (e : Bool) → came a b x false → came b c y e → came a c (x ++ y) e };
 
+    ghost broke_on: { (a b c : T) (x y : List ℕ) → came a b x false → broke b c y → broke a c (x ++ y) };
+
     ghost few_came: { (a b : T) (x : List ℕ) (e : Bool) (n : ℕ) → came a b x e → length x ≤ n → few a b n };
 
     ghost few_on: { (a b c : T) (x : List ℕ) (m n : ℕ) → came a b x false → few b c m → length x + m ≤ n → few a c n };
@@ -48,6 +53,7 @@ pub trait Inflow<T> {
         ensures ready { ready from.new }
         ensures within { IfOk result (λ n. n ≤ length into.old) }
         ensures came { IfOk result (λ n. came from.old from.new (take n into.new) (n == 0)) }
+        ensures broke { OnErr result (broke from.old from.new []) }
         ensures few { OnErr result (few from.old from.new 0) }
         ensures asked { asked_of (told from.new) ≡ asked_of (told from.old) }
         ensures still { fixed_of from.new ≡ fixed_of from.old }
@@ -76,6 +82,8 @@ pub fn pour<T, I: Inflow<T>>(
     ensures stays { IfOk result (λ e. e ≡ true → text.new.items ≡ text.old.items) }
     ensures count { IfOk result (λ e. length text.new.items ≤ length text.old.items + most) }
     ensures grows { IfOk result (λ e. e ≡ false → length text.old.items < length text.new.items) }
+    ensures broke { OnFailed result (Broken (I.broke from.old from.new) text.old.items text.new.items) }
+    ensures before { OnFailed result (text.new.items ≡ text.old.items) }
     ensures few { OnErr result (I.few from.old from.new most) }
     ensures asked { asked_of (I.told from.new) ≡ asked_of (I.told from.old) }
     ensures still { I.fixed_of from.new ≡ I.fixed_of from.old }
@@ -105,6 +113,8 @@ pub fn pour_to<T, I: Inflow<T>>(
     ensures comes { IfOk result (λ e. Comes (I.came from.old from.new) text.old.items text.new.items e) }
     ensures full { IfOk result (λ e. e ≡ false → until ≤ length text.new.items) }
     ensures count { IfOk result (λ e. length text.new.items ≤ max until (length text.old.items)) }
+    ensures broke { OnFailed result (Broken (I.broke from.old from.new) text.old.items text.new.items) }
+    ensures short { OnFailed result (length text.new.items < until) }
     ensures few { OnErr result (I.few from.old from.new (until - length text.old.items)) }
     ensures asked { asked_of (I.told from.new) ≡ asked_of (I.told from.old) }
     ensures still { I.fixed_of from.new ≡ I.fixed_of from.old }
@@ -131,6 +141,7 @@ pub fn pour_head_on<T, I: Inflow<T>>(
     requires ready { I.ready from.old }
     ensures ready { I.ready from.new }
     ensures comes { IfOk result (λ end. HeadComesOn (I.came from.old from.new) text.old.items text.new.items end) }
+    ensures broke { OnFailed result (HeadBrokenOn (I.broke from.old from.new) text.old.items text.new.items) }
     ensures few { OnErr result (I.few from.old from.new head_limit) }
     ensures asked { asked_of (I.told from.new) ≡ asked_of (I.told from.old) }
     ensures still { I.fixed_of from.new ≡ I.fixed_of from.old }
@@ -159,6 +170,7 @@ pub fn pour_head<T, I: Inflow<T>>(
     requires ready { I.ready from.old }
     ensures ready { I.ready from.new }
     ensures comes { IfOk result (λ end. HeadComes (I.came from.old from.new) text.new.items end) }
+    ensures broke { OnFailed result (HeadBroken (I.broke from.old from.new) text.new.items) }
     ensures few { OnErr result (I.few from.old from.new head_limit) }
     ensures asked { asked_of (I.told from.new) ≡ asked_of (I.told from.old) }
     ensures still { I.fixed_of from.new ≡ I.fixed_of from.old }

@@ -1,6 +1,6 @@
 // Bytes that a source gives.
 
-ghost use Rattle.std.specs.Prelude.{◌≡◌, ℕ, Bool, List, [], None, length};
+ghost use Rattle.std.specs.Prelude.{◌≡◌, ℕ, Bool, false, List, [], None, length};
 ghost use Rattle.http_messages.specs.Flows.{Given, TakenFew};
 
 use crate::inflow::Inflow;
@@ -14,6 +14,8 @@ impl<P: Source> Inflow<P> for Taking {
     ghost use Rattle.http_messages.specs.FlowLaws.{given_none, given_on, few_given, few_given_on};
 
     ghost came = { λ a b x e. Given (P.left a) (P.left b) x e × (P.source_side b ≡ P.source_side a) };
+
+    ghost broke = { λ a b x. Given (P.left a) (P.left b) x false × (P.source_side b ≡ P.source_side a) };
 
     ghost few = { λ a b n. TakenFew (P.left a) (P.left b) n × (P.source_side b ≡ P.source_side a) };
 
@@ -30,6 +32,8 @@ impl<P: Source> Inflow<P> for Taking {
     ghost came_none = { λ a. (given_none (P.left a), refl) };
 
     ghost came_on = { λ a b c x y e p q. (given_on (P.left a) (P.left b) (P.left c) x y e p.0 q.0, q.1 ∙ p.1) };
+
+    ghost broke_on = { λ a b c x y p q. (given_on (P.left a) (P.left b) (P.left c) x y false p.0 q.0, q.1 ∙ p.1) };
 
     ghost few_came = { λ a b x e n p h. (few_given (P.left a) (P.left b) x e n p.0 h, p.1) };
 

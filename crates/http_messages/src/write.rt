@@ -105,14 +105,16 @@ fn write_with<P: Sink>(
 }
 
 /// Writes a response, whose status has a reason, as a message that ends its connection (RFC 9112 section 9.6). Its text is made first and
-/// then given to the sink in one piece, where the sink takes it so.
+/// then given to the sink in one piece, where the sink takes it so; once it was given whole, the sink is told that it was the last.
 pub fn write_response<P: Sink>(alloc: Global, to: &mut P, answer: &Response) -> Result<(), WriteEnd>
     requires { HasReason answer.now.status }
     ensures written { Writes (P.held to.old) (P.held to.new) answer.now result }
     ensures cause { WriteCause (P.write_faults to.old) (P.write_faults to.new) result }
     ensures side { P.sink_side to.new ≡ P.sink_side to.old }
 {
-    write_with(alloc, to, "close", answer)
+    write_with(alloc, to, "close", answer)?;
+    to.end();
+    Ok(())
 }
 
 /// Writes a response, whose status has a reason, as a message behind which its connection goes on (RFC 9112 section 9.3). It differs from

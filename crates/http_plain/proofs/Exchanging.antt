@@ -1,20 +1,24 @@
 -- From what was sent and received to the exchange of a call.
-use Rattle.std.proofs.Common.{◌≡◌, ◌≤◌, inl, inr, ℕ, zero, suc, ◌+◌, Bool, true, false, List, [], ◌∷◌, ◌++◌, length, map, take, drop, Option, Some, None, option_map, Result, Ok, Err, IfOk, OnOk, OnErr, is_err, refl, sym, ap, ◌∙◌, subst, arith, append_assoc, append-nil, take_all}
+use Rattle.std.proofs.Common.{◌≡◌, ◌≤◌, inl, inr, ℕ, ◌+◌, Bool, true, false, List, [], ◌∷◌, ◌++◌, length, map, take, drop, Option, Some, None, option_map, Result, Ok, Err, IfOk, OnOk, OnErr, is_err, refl, sym, ap, ◌∙◌, subst, arith, append_assoc, append-nil, take_all}
 use Rattle.std.proofs.Math.Seq.{take-add}
-use Rattle.fed_ports.specs.Exchanges.{Exchange, Changed, change_last, fresh, with_failure, with_sent, with_received}
+use Rattle.fed_ports.specs.Exchanges.{AddedOrSilent, Exchange, Changed, change_last, fresh, with_failure, with_sent, with_received}
 use Rattle.fed_ports.specs.Lists.{Added}
 use Rattle.fed_ports.specs.declared.address.Address.{Address}
 use Rattle.fed_ports.specs.declared.link.LinkFault.{LinkFault}
 use Rattle.fed_ports.specs.declared.page.Page.{Page}
 use Rattle.url.specs.Parts.{Parts}
 use Rattle.http_messages.specs.declared.inflow.Break.{Break}
+use Rattle.http_messages.specs.declared.inflow.Break.TheVariants.{Failed, Memory}
 use Rattle.http_plain.specs.declared.route.Route.{Route}
 use Rattle.http_messages.specs.Asked.{AsksPart, SentPart, asked_of, asking}
-use Rattle.http_plain.specs.ExchangeLaws.{changed_same, changed_on}
-use Rattle.http_messages.specs.Flows.{BreakCause}
-use Rattle.http_plain.specs.Links.{AddsExchange, Answers, AnswersBy, GetsBy, LeavesBy}
-use Rattle.http_plain.specs.Plans.{SaysTarget}
-use Rattle.http_plain.specs.Shown.{Shows}
+use Rattle.http_plain.specs.ExchangeLaws.{changed_of, changed_on, changed_same, received_none, with_broken}
+use Rattle.http_messages.specs.Flows.{BreakCause, OnFailed}
+use Rattle.http_plain.specs.Links.{AddsBroken, AddsExchange, Answers, AnswersBy, GetsBy, LeavesBy}
+use Rattle.http_plain.specs.Plans.{SaysTarget, SentBroken}
+use Rattle.http_messages.specs.Heads.{head_end}
+use Rattle.http_plain.specs.Pages.{IsPage}
+use Rattle.http_plain.proofs.Pages.{early_none}
+use Rattle.http_plain.specs.Shown.{Lacks, Shows}
 
 abbrev with_bytes : Exchange → List ℕ → Exchange
 with_bytes x s = record { to = x.to; sent = s; received = x.received; ended = x.ended; failed = x.failed }
@@ -103,17 +107,24 @@ added_asks (Some l) b x p = ap asked_of p ∙ ap Some (asked_added l x)
 abbrev no_bytes : List ℕ
 no_bytes = []
 
-nothing : (n : ℕ) → take n no_bytes ≡ no_bytes
-nothing zero = refl
-nothing (suc n) = refl
+nothing : (x : List ℕ) → take 0 x ≡ no_bytes
+nothing [] = refl
+nothing (b ∷ x) = refl
 
-pub refused_part : (a b : Option (List Exchange)) (to : Address) (message : List ℕ) → AsksPart a b to [] → AsksPart a b to message
-refused_part a b to message (inl h) = inl (0, omega arith, subst (λ s. Added (asked_of a) ((to, s) ∷ []) (asked_of b)) (nothing h.0) h.2)
+pub refused_part : (a b : Option (List Exchange)) (to : Address) (message : List ℕ) → AddedOrSilent a (with_failure (fresh to)) b → AsksPart a b to message
+refused_part a b to message (inl h) =
+    inl (0, omega arith, subst (λ s. Added (asked_of a) ((to, s) ∷ []) (asked_of b)) (sym (nothing message)) (added_asks a b (with_failure (fresh to)) h))
 refused_part a b to message (inr h) = inr h
 
 -- a sending that failed
-pub sent_part : (a b c : Option (List Exchange)) (message : List ℕ) (n : ℕ) → n ≤ length message → Changed a (with_sent (take n message)) b → asked_of c ≡ asked_of b → SentPart a message c
-sent_part a b c message n few p e = (n, few, e ∙ ap asked_of p)
+pub sent_broken : (a b c : Option (List Exchange)) (message : List ℕ) (n : ℕ) → n ≤ length message → Changed a (with_sent (take n message)) b → Changed b with_failure c → SentBroken a message c
+sent_broken a b c message n few p q = (n, few, changed_on (with_sent (take n message)) with_failure (λ x. with_failure (with_sent (take n message) x)) (λ x. refl) a b c p q)
+
+sent_part : (a c : Option (List Exchange)) (message : List ℕ) → SentBroken a message c → SentPart a message c
+sent_part a c message h =
+    let part = option_map (change_last (with_sent (take h.0 message))) a in
+    let fails = changed_of (with_sent (take h.0 message)) with_failure a c h.2 in
+    (h.0, h.1, asked_same with_failure (λ x. refl) part c fails)
 
 pub part_asks : (a b c : Option (List Exchange)) (to : Address) (message : List ℕ) → Added a (fresh to ∷ []) b → SentPart b message c → AsksPart a c to message
 part_asks a b c to message opens part =
@@ -144,8 +155,8 @@ left_if (Ok x) p = tt
 left_if (Err x) p = p
 
 -- a sending that failed, after the connection was shut
-pub part_left : (a b c d : Option (List Exchange)) (to : Address) (message : List ℕ) → Added a (fresh to ∷ []) b → SentPart b message c → d ≡ c → AsksPart a d to message
-part_left a b c d to message opens part same = subst (λ o. AsksPart a o to message) (sym same) (part_asks a b c to message opens part)
+pub part_left : (a b c d : Option (List Exchange)) (to : Address) (message : List ℕ) → Added a (fresh to ∷ []) b → SentBroken b message c → d ≡ c → AsksPart a d to message
+part_left a b c d to message opens part same = subst (λ o. AsksPart a o to message) (sym same) (part_asks a b c to message opens (sent_part b c message part))
 
 -- a reading that broke off, after the connection was shut
 pub whole_left : (a b c d e : Option (List Exchange)) (to : Address) (message : List ℕ) → Added a (fresh to ∷ []) b → Changed b (with_sent message) c → e ≡ d → asked_of d ≡ asked_of c → AsksPart a e to message
@@ -163,3 +174,36 @@ pub answers_by : (message_for : Parts → List ℕ) (routes : List Route) (text 
     → IfOk result (GetsBy message_for routes text old new) → OnErr result (LeavesBy message_for routes text old new) → AnswersBy message_for routes text old new result
 answers_by message_for routes text old new (Ok p) got left = got
 answers_by message_for routes text old new (Err fault) got left = left
+
+-- ---- no page had come where a call failed
+
+empty_none : (p : Page) → IsPage [] false p → ⊥
+unfolding head_end
+empty_none p h = early_none [] refl (omega arith) p h
+
+pub refused_broke : (a b : Option (List Exchange)) (to : Address) → AddedOrSilent a (with_failure (fresh to)) b → AddsBroken a b
+refused_broke a b to (inl h) = inl (with_failure (fresh to), h, record { failed = refl; none = empty_none })
+refused_broke a b to (inr h) = inr h
+
+pub part_broke : (a b c d : Option (List Exchange)) (to : Address) (message : List ℕ) → Added a (fresh to ∷ []) b → SentBroken b message c → d ≡ c → AddsBroken a d
+part_broke a b c d to message opens h same =
+    let f : Exchange → Exchange = λ x. with_failure (with_sent (take h.0 message) x) in
+    subst (AddsBroken a) (sym same) (inl (f (fresh to), added_on f (fresh to) a b c opens h.2, record { failed = refl; none = empty_none }))
+
+page_broke : (a b c d : Option (List Exchange)) (to : Address) (message : List ℕ) → Added a (fresh to ∷ []) b → Changed b (with_sent message) c → Lacks (λ x. Changed c (with_broken x) d) → AddsBroken a d
+page_broke a b c d to message opens sends lacks = inl (
+  with_broken lacks.got (with_sent message (fresh to)),
+  added_on (with_broken lacks.got) (with_sent message (fresh to)) a c d (added_on (with_sent message) (fresh to) a b c opens sends) lacks.came,
+  record { failed = refl; none = lacks.none },
+)
+
+pub page_broke_if : (broke : List ℕ → Type 0) (a b c d e : Option (List Exchange)) (to : Address) (message : List ℕ) (r : Result Page Break) → Added a (fresh to ∷ []) b → Changed b (with_sent message) c → e ≡ d
+    → ((x : List ℕ) → broke x → Changed c (with_broken x) d) → OnFailed r (Lacks broke) → OnFailed r (AddsBroken a e)
+page_broke_if broke a b c d e to message (Ok p) opens sends same told h = tt
+page_broke_if broke a b c d e to message (Err Failed) opens sends same told h =
+    subst (AddsBroken a) (sym same) (page_broke a b c d to message opens sends (record { got = h.got; came = told h.got h.came; none = h.none }))
+page_broke_if broke a b c d e to message (Err Memory) opens sends same told h = tt
+
+pub none_came : {E : Type 0} (r : Result ℕ E) (a b : Option (List Exchange)) → OnErr r (Changed a with_failure b) → OnErr r (Changed a (with_broken []) b)
+none_came (Ok n) a b h = tt
+none_came (Err e) a b h = changed_on (with_received [] false) with_failure (with_broken []) (λ x. refl) a a b (received_none a) h

@@ -1,5 +1,5 @@
 -- Bytes show one page, and so does an exchange.
-use Rattle.std.proofs.Common.{◌≡◌, inl, inr, ℕ, Bool, List, [], length, drop, sym, ap, ◌∙◌, subst, arith}
+use Rattle.std.proofs.Common.{◌≡◌, ◌<◌, inl, inr, ℕ, Bool, true, false, List, [], length, drop, None, sym, ap, ◌∙◌, subst, arith, take_all}
 use Rattle.chunked_body.specs.declared.reader.Chunked.{Chunked}
 use Rattle.chunked_body.specs.Answers.{IsChunked}
 use Rattle.chunked_body.proofs.Decided.{only}
@@ -11,7 +11,7 @@ use Rattle.http_plain.specs.declared.form.Form.{Form}
 use Rattle.http_plain.specs.declared.form.Form.TheVariants.{Bad, Refused, Sized, Chunked as InChunks, ToEnd}
 use Rattle.http_plain.specs.declared.route.Route.{Route}
 use Rattle.http_plain.specs.Clients.{ClientPage}
-use Rattle.http_messages.specs.Heads.{BeginsWithHead}
+use Rattle.http_messages.specs.Heads.{BeginsWithHead, head_end, head_limit}
 use Rattle.http_plain.specs.Pages.{IsAnswerHead, IsForm, IsBodyPage, IsPage, chunked_page, form_by}
 use Rattle.http_messages.proofs.Texts.{back_of, no_head, one_head}
 
@@ -66,6 +66,20 @@ one_page x ended a b (inr p) (inr q) =
     let head = one_head x p.head q.head p.begins q.begins in
     let form = one_form q.head p.form q.form (subst (λ t. IsForm t p.form) head p.is_form) q.is_form in
     same_page p.form q.form p.begins.rest q.begins.rest ended a b form (one_rest x p.head q.head p.begins q.begins head) p.page q.page
+
+-- bytes without a head are no page yet
+pub early_none : (x : List ℕ) → head_end x ≡ None → length x < head_limit → (p : Page) → IsPage x false p → ⊥
+early_none x none short p (inl h) = elim h.1 [ inl full ↦ omega (arith, short, full) | inr e ↦ (let no : false ≡ true = e in cc) ]
+early_none x none short p (inr h) = no_head x h.head h.begins (ap head_end (take_all head_limit x (omega (arith, short))) ∙ none)
+
+-- nor are those with a head behind which nothing is one
+pub behind_none : (x head : List ℕ) (b : BeginsWithHead x head) (form : Form) → IsForm head form → ((p : Page) → IsBodyPage form b.rest false p → ⊥) → (p : Page) → IsPage x false p → ⊥
+behind_none x head b form is none p (inl h) = no_head x head b h.0
+behind_none x head b form is none p (inr h) =
+    let heads = one_head x head h.head b h.begins in
+    let forms = one_form h.head form h.form (subst (λ t. IsForm t form) heads is) h.is_form in
+    let rests = one_rest x head h.head b h.begins heads in
+    none p (subst (λ f. IsBodyPage f b.rest false p) (sym forms) (subst (λ y. IsBodyPage h.form y false p) (sym rests) h.page))
 
 -- for a URL, by the routes, an exchange shows one page
 pub one_client_page : (text : List ℕ) (routes : List Route) (x : Exchange) (a b : Page)

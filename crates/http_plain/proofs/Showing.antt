@@ -1,23 +1,26 @@
 -- From what came of an answer to its page.
-use Rattle.std.proofs.Common.{◌≡◌, ◌≤◌, ◌⊎◌, inl, inr, ℕ, ◌+◌, Bool, true, false, List, [], ◌++◌, length, take, drop, Some, None, Result, Ok, Err, refl, sym, ap, ◌∙◌, subst, arith, take_all, IfOk}
+use Rattle.std.proofs.Common.{◌≡◌, ◌≤◌, ◌<◌, ◌⊎◌, inl, inr, ℕ, ◌+◌, Bool, true, false, List, [], ◌++◌, length, take, drop, Some, None, Result, Ok, Err, refl, sym, ap, ◌∙◌, subst, arith, take_all, IfOk, MatchResult}
 use Rattle.chunked_body.specs.declared.reader.Chunked.{Chunked}
 use Rattle.chunked_body.specs.declared.reader.ChunkReader.{ChunkReader}
 use Rattle.chunked_body.specs.Answers.{IsChunked}
-use Rattle.chunked_body.specs.Grammar.{form_limit}
-use Rattle.chunked_body.specs.Readings.{run}
+use Rattle.chunked_body.specs.Grammar.{body_limit, form_limit}
+use Rattle.chunked_body.specs.Readings.{is_final, run}
+use Rattle.chunked_body.proofs.Decided.{undecided}
 use Rattle.chunked_body.specs.Readers.{HasRead, is_over, room_of}
 use Rattle.std.proofs.lemmas.List.{drop-append-le, length-append, length-drop}
 use Rattle.fed_ports.specs.declared.page.Page.{Page}
 use Rattle.fed_ports.specs.declared.page.Page.TheVariants.{Garbled}
 use Rattle.http_plain.specs.declared.form.Form.{Form}
-use Rattle.http_plain.specs.declared.form.Form.TheVariants.{Chunked as InChunks}
+use Rattle.http_plain.specs.declared.form.Form.TheVariants.{Chunked as InChunks, Sized, ToEnd}
 use Rattle.http_messages.specs.declared.inflow.Break.{Break}
+use Rattle.http_messages.specs.declared.inflow.Break.TheVariants.{Memory}
 use Rattle.http_messages.specs.Heads.{head_end, head_limit}
-use Rattle.http_messages.specs.Flows.{HeadComes}
+use Rattle.http_messages.specs.Flows.{Broken, HeadBroken, HeadComes, OnFailed}
 use Rattle.http_plain.specs.Pages.{IsForm, IsBodyPage, chunked_page, chunks_limit, piece_limit}
-use Rattle.http_plain.specs.Shown.{Shows, ShowsBody, ShowsRest}
+use Rattle.http_plain.specs.Shown.{Lacks, LacksBody, LacksRest, Shows, ShowsBody, ShowsRest}
 use Rattle.http_messages.proofs.Ends.{end_inside}
 use Rattle.http_messages.proofs.Takings.{begins}
+use Rattle.http_plain.proofs.Pages.{behind_none, early_none}
 
 pub no_head : (flow : List ℕ → Bool → Type 0) (text : List ℕ) → HeadComes flow text None → Shows flow Garbled
 no_head flow text h = record {
@@ -93,3 +96,69 @@ body_shown flow text len (Ok p) inside small h = record {
   page = subst (λ y. IsBodyPage InChunks y h.ended p) (sym (drop-append-le len text h.got inside)) h.page;
 }
 body_shown flow text len (Err e) inside small h = tt
+
+-- ---- where a call failed
+
+-- bytes that end before their head does
+pub lacks_head : (broke : List ℕ → Type 0) (text : List ℕ) → HeadBroken broke text → Lacks broke
+lacks_head broke text h = record { got = text; came = h.0; none = early_none text h.2 h.1 }
+
+-- what the body lacks the whole lacks
+pub lacks : (flow : List ℕ → Bool → Type 0) (more both : List ℕ → Type 0) (text : List ℕ) (len : ℕ) (form : Form) → ((x y : List ℕ) → flow x false → more y → both (x ++ y))
+    → HeadComes flow text (Some len) → IsForm (take len text) form → LacksBody more text len form → Lacks both
+unfolding begins
+lacks flow more both text len form on h is b = record {
+  got = text ++ b.got;
+  came = on text b.got h.0 b.came;
+  none = behind_none (text ++ b.got) (take len text) (begins text b.got len h.1 h.2) form is
+      (λ p page. b.none p (subst (λ y. IsBodyPage form y false p) (sym (drop-append-le len text b.got (end_inside text len h.2))) page));
+}
+
+behind : (text got : List ℕ) (len n : ℕ) → len ≤ length text → length (text ++ got) < len + n → length (drop len (text ++ got)) < n
+behind text got len n inside short = omega (arith, short, inside, length-drop len (text ++ got), length-append text got)
+
+sized_none : (n : ℕ) (y : List ℕ) → n ≤ body_limit → length y < n → (p : Page) → IsBodyPage (Sized n) y false p → ⊥
+sized_none n y small short p (inl h) = omega (arith, small, h.0)
+sized_none n y small short p (inr (inl h)) = omega (arith, short, h.1)
+sized_none n y small short p (inr (inr h)) = let no : false ≡ true = h.2 in cc
+
+-- a body that ends before the length that is stated
+pub lacks_sized : (broke : List ℕ → Type 0) (text after : List ℕ) (len n until : ℕ) → len ≤ length text → n ≤ body_limit → until ≡ len + n → Broken broke text after → length after < until → LacksBody broke text len (Sized n)
+lacks_sized broke text after len n until inside small is h short = record {
+  got = h.got;
+  came = h.broke;
+  none = sized_none n (drop len (text ++ h.got)) small (behind text h.got len n inside (omega (arith, short, is, ap length h.adds)));
+}
+
+open_none : (y : List ℕ) → length y < body_limit + 1 → (p : Page) → IsBodyPage ToEnd y false p → ⊥
+open_none y short p (inl h) = omega (arith, short, h.0)
+open_none y short p (inr h) = let no : false ≡ true = h.1 in cc
+
+-- one that goes to the end, and isn't too long so far
+pub lacks_end : (broke : List ℕ → Type 0) (text after : List ℕ) (len until : ℕ) → len ≤ length text → until ≡ len + (body_limit + 1) → Broken broke text after → length after < until → LacksBody broke text len ToEnd
+lacks_end broke text after len until inside is h short = record {
+  got = h.got;
+  came = h.broke;
+  none = open_none (drop len (text ++ h.got)) (behind text h.got len (body_limit + 1) inside (omega (arith, short, is, ap length h.adds)));
+}
+
+-- chunks whose reading goes on
+pub lacks_rest : (broke : List ℕ → Type 0) (rest got : List ℕ) (chunks : ChunkReader) → broke got → HasRead chunks (rest ++ got) → is_over chunks ≡ false → LacksRest broke rest
+lacks_rest broke rest got chunks came reads goes = record {
+  got = got;
+  came = came;
+  none = λ p h. undecided (rest ++ got) h.0 (sym (ap (λ c. is_final c.place) reads) ∙ goes) h.1;
+}
+
+-- what is behind a head is so of the whole text
+pub lacks_chunks : (broke : List ℕ → Type 0) (text : List ℕ) (len : ℕ) → len ≤ length text → LacksRest broke (drop len text) → LacksBody broke text len InChunks
+lacks_chunks broke text len inside h = record {
+  got = h.got;
+  came = h.came;
+  none = λ p page. h.none p (subst (λ y. IsBodyPage InChunks y false p) (drop-append-le len text h.got inside) page);
+}
+
+-- a document isn't made for want of memory alone
+pub memory_only : (P : Page → Type 0) (Q : Type 0) (r : Result Page Break) → MatchResult r P (λ fault. fault ≡ Memory) → OnFailed r Q
+memory_only P Q (Ok p) h = tt
+memory_only P Q (Err f) h = subst (λ e. OnFailed {T = Page} (Err e) Q) (sym h) tt

@@ -1,6 +1,6 @@
 -- What is sent and received on one connection adds up.
-use Rattle.std.proofs.Common.{◌≡◌, ℕ, ◌||◌, Bool, true, false, List, [], ◌∷◌, ◌++◌, Option, Some, None, refl, sym, ap, ap₂, ◌∙◌, append_assoc, append-nil}
-use Rattle.fed_ports.specs.Exchanges.{Exchange, Changed, change_last, with_received}
+use Rattle.std.proofs.Common.{◌≡◌, ℕ, ◌||◌, Bool, true, false, List, [], ◌∷◌, ◌++◌, Option, Some, None, option_map, refl, sym, ap, ap₂, ◌∙◌, append_assoc, append-nil}
+use Rattle.fed_ports.specs.Exchanges.{Exchange, Changed, change_last, with_failure, with_received}
 
 change_same : (f : Exchange → Exchange) → ((x : Exchange) → x ≡ f x) → (l : List Exchange) → l ≡ change_last f l
 unfolding change_last
@@ -28,6 +28,11 @@ pub changed_on : (f g h : Exchange → Exchange) → ((x : Exchange) → g (f x)
 changed_on f g h e None b c p q = rw (q, p) refl
 changed_on f g h e (Some l) b c p q = rw (q, p) (ap Some (change_twice f g h e l))
 
+-- a change of what was changed
+pub changed_of : (f g : Exchange → Exchange) (a c : Option (List Exchange)) → Changed a (λ x. g (f x)) c → Changed (option_map (change_last f) a) g c
+changed_of f g None c p = p
+changed_of f g (Some l) c p = p ∙ ap Some (sym (change_twice f g (λ x. g (f x)) (λ x. refl) l))
+
 or_false : (b : Bool) → b ≡ (b || false)
 or_false true = refl
 or_false false = refl
@@ -50,3 +55,10 @@ received_none a = changed_same (with_received [] false) received_nothing a
 
 pub received_on : (a b c : Option (List Exchange)) (r s : List ℕ) (e : Bool) → Changed a (with_received r false) b → Changed b (with_received s e) c → Changed a (with_received (r ++ s) e) c
 received_on a b c r s e p q = changed_on (with_received r false) (with_received s e) (with_received (r ++ s) e) (received_twice r s e) a b c p q
+
+-- so many bytes were received, and then a call failed
+abbrev pub with_broken : List ℕ → Exchange → Exchange
+with_broken r x = with_failure (with_received r false x)
+
+pub broken_on : (a b c : Option (List Exchange)) (r s : List ℕ) → Changed a (with_received r false) b → Changed b (with_broken s) c → Changed a (with_broken (r ++ s)) c
+broken_on a b c r s p q = changed_on (with_received r false) (with_broken s) (with_broken (r ++ s)) (λ x. ap with_failure (received_twice r s false x)) a b c p q

@@ -1,7 +1,8 @@
 -- What a link over a network answers and leaves.
-use Rattle.std.specs.Prelude.{◌≡◌, ◌≤◌, ◌⊎◌, ℕ, false, List, [], ◌∷◌, length, Option, Some, Result, Ok, Err}
+use Rattle.std.specs.Prelude.{◌≡◌, ◌≤◌, ◌⊎◌, ℕ, false, true, List, [], ◌∷◌, length, Option, Some, None, Result, Ok, Err}
 use Rattle.fed_ports.specs.declared.address.Address.{Address}
 use Rattle.fed_ports.specs.declared.link.LinkFault.{LinkFault}
+use Rattle.fed_ports.specs.declared.link.LinkFault.TheVariants.{Failed, Memory}
 use Rattle.fed_ports.specs.declared.page.Page.{Page}
 use Rattle.fed_ports.specs.declared.page.Page.TheVariants.{NoRoute}
 use Rattle.fed_ports.specs.Exchanges.{Exchange}
@@ -24,6 +25,21 @@ pub record Answers (x : Exchange) (to : Address) (message : List ℕ) (p : Page)
   pub steady : x.failed ≡ false
   pub few : length x.received ≤ answer_limit
   pub page : IsPage x.received x.ended p
+
+-- the exchange of a call that failed: it failed, and what was received by then is no page
+pub record Broke (x : Exchange) : Type 0 where
+  pub failed : x.failed ≡ true
+  pub none : (p : Page) → IsPage x.received x.ended p → ⊥
+
+-- one that failed was added, in which no page had come, or exchanges are told no longer
+abbrev pub AddsBroken : Option (List Exchange) → Option (List Exchange) → Type 0
+AddsBroken old new = AddsExchange old new Broke ⊎ (new ≡ None)
+
+-- the network failed only where no page had come by then
+abbrev pub FailsBy : Option (List Exchange) → Option (List Exchange) → Result Page LinkFault → Type 0
+FailsBy old new (Ok p) = Unit {0}
+FailsBy old new (Err Failed) = AddsBroken old new
+FailsBy old new (Err Memory) = Unit {0}
 
 -- the page: without a route none is opened, and else one exchange was added, by which the page is the one with which that message for the
 -- URL is answered

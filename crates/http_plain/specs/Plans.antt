@@ -1,6 +1,7 @@
 -- What the parts of the client know of an answer's head and of a URL.
-use Rattle.std.specs.Prelude.{◌≡◌, ℕ, List, length, Option, Some, None}
+use Rattle.std.specs.Prelude.{◌≡◌, ◌≤◌, ℕ, List, length, take, Option, Some, None}
 use Rattle.fed_ports.specs.declared.address.Address.{Address}
+use Rattle.fed_ports.specs.Exchanges.{Changed, Exchange, with_failure, with_sent}
 use Rattle.url.specs.Parts.{Parts}
 use Rattle.httparse.specs.Grammar.{ResponseHead}
 use Rattle.httparse.specs.Spans.{IsResponseAt, IsResponseWithin}
@@ -25,3 +26,7 @@ pub record SaysTarget (routes : List Route) (text : List ℕ) (url : Parts) (to 
 abbrev pub IsTarget : List Route → List ℕ → Option Target → Type 0
 IsTarget routes text None = HasNoRoute routes text
 IsTarget routes text (Some t) = SaysTarget routes text t.url t.to
+
+-- so many bytes of the message were sent, and then a call failed
+abbrev pub SentBroken : Option (List Exchange) → List ℕ → Option (List Exchange) → Type 0
+SentBroken old message new = (n : ℕ) × (n ≤ length message) × Changed old (λ x. with_failure (with_sent (take n message) x)) new

@@ -32,6 +32,24 @@ pub record ShowsRest (flow : List ℕ → Bool → Type 0) (rest : List ℕ) (p 
   pub few : length (rest ++ got) ≤ chunks_limit
   pub page : IsBodyPage Chunked (rest ++ got) ended p
 
+-- what came before a call failed is no page: what it is was still open
+pub record Lacks (broke : List ℕ → Type 0) : Type 0 where
+  pub got : List ℕ
+  pub came : broke got
+  pub none : (p : Page) → IsPage got false p → ⊥
+
+-- with what came behind a text before a call failed, the body behind its first bytes is no page
+pub record LacksBody (broke : List ℕ → Type 0) (text : List ℕ) (len : ℕ) (form : Form) : Type 0 where
+  pub got : List ℕ
+  pub came : broke got
+  pub none : (p : Page) → IsBodyPage form (drop len (text ++ got)) false p → ⊥
+
+-- with what came behind these bytes before a call failed, the body in chunks that they begin is no page
+pub record LacksRest (broke : List ℕ → Type 0) (rest : List ℕ) : Type 0 where
+  pub got : List ℕ
+  pub came : broke got
+  pub none : (p : Page) → IsBodyPage Chunked (rest ++ got) false p → ⊥
+
 -- what came, at most so many bytes, was given to a reading of chunks; while it goes on, each has taken one of those that may come
 pub record Reaches (flow : List ℕ → Bool → Type 0) (most : ℕ) (old new : ChunkReader) (ended : Bool) : Type 0 where
   pub got : List ℕ

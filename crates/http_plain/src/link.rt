@@ -4,7 +4,7 @@ ghost use Rattle.std.specs.Prelude.{◌≡◌, ◌⊎◌, None, IfOk, OnErr};
 ghost use Rattle.fed_base.specs.Counts.{next_count};
 ghost use Rattle.fed_ports.specs.Webs.{HasLinkCause, Serves};
 ghost use Rattle.http_plain.specs.Clients.{post_of};
-ghost use Rattle.http_plain.specs.Links.{AnswersBy, GotOrLeft, Gets, Leaves, LeavesPost, Posts, link_calls, link_network, link_routes, listening};
+ghost use Rattle.http_plain.specs.Links.{AnswersBy, FailsBy, GotOrLeft, Gets, Leaves, LeavesPost, Posts, link_calls, link_network, link_routes, listening};
 
 use crate::exchange::exchange;
 use crate::networks::Connection;
@@ -50,6 +50,8 @@ impl<N: Network> HttpLink<N> {
         ensures page { IfOk result (λ page. Posts body.now (link_routes self.old) url.now (N.exchanges (link_network self.old)) (N.exchanges (link_network self.new)) page) }
         // After a fault at most one exchange was added: of the URL's address, in which a part of its message, and nothing else, was sent.
         ensures left { OnErr result (LeavesPost body.now (link_routes self.old) url.now (N.exchanges (link_network self.old)) (N.exchanges (link_network self.new))) }
+        // Where it failed, no page had come by then: an answer that is there is read, whatever comes of the bytes behind it.
+        ensures broke { FailsBy (N.exchanges (link_network self.old)) (N.exchanges (link_network self.new)) result }
         // The network listens as before, and nobody was accepted or settled.
         ensures still { listening (N.port (link_network self.new)) (N.callers (link_network self.new)) (N.settled (link_network self.new))
             ≡ listening (N.port (link_network self.old)) (N.callers (link_network self.old)) (N.settled (link_network self.old)) }
@@ -89,6 +91,8 @@ impl<N: Network> Link for HttpLink<N> {
         ensures page { IfOk result (λ page. Gets (link_routes self.old) url.now (N.exchanges (link_network self.old)) (N.exchanges (link_network self.new)) page) }
         // After a fault at most one exchange was added: of the URL's address, in which a part of its message, and nothing else, was sent.
         ensures left { OnErr result (Leaves (link_routes self.old) url.now (N.exchanges (link_network self.old)) (N.exchanges (link_network self.new))) }
+        // Where it failed, no page had come by then: an answer that is there is read, whatever comes of the bytes behind it.
+        ensures broke { FailsBy (N.exchanges (link_network self.old)) (N.exchanges (link_network self.new)) result }
         // The network listens as before, and nobody was accepted or settled.
         ensures still { listening (N.port (link_network self.new)) (N.callers (link_network self.new)) (N.settled (link_network self.new))
             ≡ listening (N.port (link_network self.old)) (N.callers (link_network self.old)) (N.settled (link_network self.old)) }

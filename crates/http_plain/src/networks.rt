@@ -2,9 +2,9 @@
 
 ghost use Rattle.std.specs.Prelude.{◌≡◌, ◌≤◌, ◌<◌, ◌∷◌, ℕ, Bool, List, [], Option, length, take, IfOk, OnOk, OnErr};
 ghost use Rattle.fed_ports.specs.Causes.{HasCause};
-ghost use Rattle.fed_ports.specs.Exchanges.{Exchange, Changed, fresh, with_received, with_sent};
+ghost use Rattle.fed_ports.specs.Exchanges.{AddedOrSilent, Exchange, Changed, fresh, with_failure, with_received, with_sent};
 ghost use Rattle.fed_ports.specs.Lists.{Added};
-ghost use Rattle.http_messages.specs.Asked.{asked_of, AsksPart};
+ghost use Rattle.http_plain.specs.ExchangeLaws.{with_broken};
 ghost use Rattle.http_plain.specs.Links.{Listening, listening};
 
 use fed_ports::{Address, Failed, Network};
@@ -16,7 +16,7 @@ pub(crate) trait Wire<T>: Inflow<T> {
         ensures open { OnOk result (Self.ready net.new) }
         ensures none { OnErr result (Self.ready net.new → ⊥) }
         ensures added { OnOk result (Added (Self.told net.old) (fresh to.now ∷ []) (Self.told net.new)) }
-        ensures refused { OnErr result (AsksPart (Self.told net.old) (Self.told net.new) to.now []) }
+        ensures refused { OnErr result (AddedOrSilent (Self.told net.old) (with_failure (fresh to.now)) (Self.told net.new)) }
         ensures still { Self.fixed_of net.new ≡ Self.fixed_of net.old }
         ensures cause { HasCause (Self.in_faults net.old) (Self.in_faults net.new) result };
 
@@ -26,7 +26,7 @@ pub(crate) trait Wire<T>: Inflow<T> {
         ensures open { Self.ready net.new }
         ensures within { IfOk result (λ n. (1 ≤ n) × (n ≤ length piece.now)) }
         ensures sent { IfOk result (λ n. Changed (Self.told net.old) (with_sent (take n piece.now)) (Self.told net.new)) }
-        ensures none { OnErr result (asked_of (Self.told net.new) ≡ asked_of (Self.told net.old)) }
+        ensures none { OnErr result (Changed (Self.told net.old) with_failure (Self.told net.new)) }
         ensures still { Self.fixed_of net.new ≡ Self.fixed_of net.old }
         ensures cause { HasCause (Self.in_faults net.old) (Self.in_faults net.new) result };
 
@@ -39,15 +39,20 @@ pub(crate) trait Wire<T>: Inflow<T> {
 
     // What comes is received.
     ghost shows: { (a b : T) (x : List ℕ) (e : Bool) → Self.Inflow.came a b x e → Changed (Self.Inflow.told a) (with_received x e) (Self.Inflow.told b) };
+
+    // What came before a call failed is received, and the exchange failed.
+    ghost loses: { (a b : T) (x : List ℕ) → Self.Inflow.broke a b x → Changed (Self.Inflow.told a) (with_broken x) (Self.Inflow.told b) };
 }
 
 // The connection of a network.
 pub(crate) struct Connection;
 
 impl<N: Network> Inflow<N> for Connection {
-    ghost use Rattle.http_plain.specs.ExchangeLaws.{received_none, received_on};
+    ghost use Rattle.http_plain.specs.ExchangeLaws.{broken_on, received_none, received_on};
 
     ghost came = { λ a b x e. Changed (N.exchanges a) (with_received x e) (N.exchanges b) };
+
+    ghost broke = { λ a b x. Changed (N.exchanges a) (with_broken x) (N.exchanges b) };
 
     ghost few = { λ _ _ _. Unit {0} };
 
@@ -65,6 +70,8 @@ impl<N: Network> Inflow<N> for Connection {
 
     ghost came_on = { λ a b c x y e p q. received_on (N.exchanges a) (N.exchanges b) (N.exchanges c) x y e p q };
 
+    ghost broke_on = { λ a b c x y p q. broken_on (N.exchanges a) (N.exchanges b) (N.exchanges c) x y p q };
+
     ghost few_came = { λ _ _ _ _ _ _ _. tt };
 
     ghost few_on = { λ _ _ _ _ _ _ _ _ _. tt };
@@ -76,6 +83,8 @@ impl<N: Network> Inflow<N> for Connection {
 
 impl<N: Network> Wire<N> for Connection {
     ghost shows = { λ _ _ _ _ changed. changed };
+
+    ghost loses = { λ _ _ _ changed. changed };
 
     fn open(net: &mut N, to: &Address) -> Result<(), Failed> {
         net.open(to)

@@ -1,11 +1,11 @@
 // Reading the page of an answer.
 
-ghost use Rattle.std.specs.Prelude.{◌≡◌, ◌<◌, ◌≤◌, ℕ, false, length, IfOk, MatchResult};
-ghost use Rattle.http_messages.specs.Flows.{BreakCause};
+ghost use Rattle.std.specs.Prelude.{◌≡◌, ◌<◌, ◌≤◌, ℕ, false, [], length, IfOk, MatchResult};
+ghost use Rattle.http_messages.specs.Flows.{BreakCause, OnFailed};
 ghost use Rattle.http_messages.specs.Asked.{asked_of};
 ghost use Rattle.http_plain.specs.Pages.{chunked_page, piece_limit};
 ghost use Rattle.http_messages.specs.Heads.{head_limit};
-ghost use Rattle.http_plain.specs.Shown.{HasHead, Reaches, Shows, ShowsBody, ShowsRest, TakesRoom};
+ghost use Rattle.http_plain.specs.Shown.{HasHead, Lacks, LacksBody, LacksRest, Reaches, Shows, ShowsBody, ShowsRest, TakesRoom};
 
 use crate::form::{Form, form_of};
 use chunked_body::{ChunkReader, Chunked};
@@ -20,6 +20,7 @@ pub(crate) fn read_page<T, I: Inflow<T>>(alloc: Global, from: &mut T) -> Result<
     requires { I.ready from.old }
     ensures ready { I.ready from.new }
     ensures page { IfOk result (λ page. Shows (I.came from.old from.new) page) }
+    ensures broke { OnFailed result (Lacks (I.broke from.old from.new)) }
     ensures asked { asked_of (I.told from.new) ≡ asked_of (I.told from.old) }
     ensures still { I.fixed_of from.new ≡ I.fixed_of from.old }
     ensures cause { BreakCause (I.in_faults from.old) (I.in_faults from.new) result }
@@ -47,6 +48,7 @@ fn read_body<T, I: Inflow<T>>(
     requires ready { I.ready from.old }
     ensures ready { I.ready from.new }
     ensures page { IfOk result (λ page. ShowsBody (I.came from.old from.new) text.old.items len form page) }
+    ensures broke { OnFailed result (LacksBody (I.broke from.old from.new) text.old.items len form) }
     ensures asked { asked_of (I.told from.new) ≡ asked_of (I.told from.old) }
     ensures still { I.fixed_of from.new ≡ I.fixed_of from.old }
     ensures cause { BreakCause (I.in_faults from.old) (I.in_faults from.new) result }
@@ -83,6 +85,7 @@ fn read_sized<T, I: Inflow<T>>(
     requires ready { I.ready from.old }
     ensures ready { I.ready from.new }
     ensures page { IfOk result (λ page. ShowsBody (I.came from.old from.new) text.old.items len (Form.Sized n) page) }
+    ensures broke { OnFailed result (LacksBody (I.broke from.old from.new) text.old.items len (Form.Sized n)) }
     ensures asked { asked_of (I.told from.new) ≡ asked_of (I.told from.old) }
     ensures still { I.fixed_of from.new ≡ I.fixed_of from.old }
     ensures cause { BreakCause (I.in_faults from.old) (I.in_faults from.new) result }
@@ -110,6 +113,7 @@ fn read_to_end<T, I: Inflow<T>>(
     requires ready { I.ready from.old }
     ensures ready { I.ready from.new }
     ensures page { IfOk result (λ page. ShowsBody (I.came from.old from.new) text.old.items len Form.ToEnd page) }
+    ensures broke { OnFailed result (LacksBody (I.broke from.old from.new) text.old.items len Form.ToEnd) }
     ensures asked { asked_of (I.told from.new) ≡ asked_of (I.told from.old) }
     ensures still { I.fixed_of from.new ≡ I.fixed_of from.old }
     ensures cause { BreakCause (I.in_faults from.old) (I.in_faults from.new) result }
@@ -144,6 +148,7 @@ fn pour_chunks<T, I: Inflow<T>>(
     ensures ready { I.ready from.new }
     ensures comes { IfOk result (λ e. Reaches (I.came from.old from.new) (length buffer.old) chunks.old chunks.new e) }
     ensures turns { IfOk result (λ e. e ≡ false → TakesRoom chunks.old chunks.new) }
+    ensures broke { OnFailed result (I.broke from.old from.new []) }
     ensures buffer { length buffer.new ≡ length buffer.old }
     ensures asked { asked_of (I.told from.new) ≡ asked_of (I.told from.old) }
     ensures still { I.fixed_of from.new ≡ I.fixed_of from.old }
@@ -172,6 +177,7 @@ fn read_chunks<T, I: Inflow<T>>(
     requires ready { I.ready from.old }
     ensures ready { I.ready from.new }
     ensures page { IfOk result (λ page. ShowsRest (I.came from.old from.new) text.now page) }
+    ensures broke { OnFailed result (LacksRest (I.broke from.old from.new) text.now) }
     ensures asked { asked_of (I.told from.new) ≡ asked_of (I.told from.old) }
     ensures still { I.fixed_of from.new ≡ I.fixed_of from.old }
     ensures cause { BreakCause (I.in_faults from.old) (I.in_faults from.new) result }

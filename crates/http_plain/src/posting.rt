@@ -2,7 +2,7 @@
 
 ghost use Rattle.std.specs.Prelude.{◌≡◌, ◌⊎◌, IfOk, OnErr};
 ghost use Rattle.fed_ports.specs.Webs.{HasLinkCause};
-ghost use Rattle.http_plain.specs.Links.{LeavesPost, Posts};
+ghost use Rattle.http_plain.specs.Links.{FailsBy, LeavesPost, Posts};
 
 use crate::exchange::exchange;
 use crate::networks::Wire;
@@ -22,6 +22,7 @@ pub(crate) fn post_form<T, W: Wire<T>>(
 ) -> Result<Page, LinkFault>
     ensures page { IfOk result (λ page. Posts body.now routes.now url.now (W.told net.old) (W.told net.new) page) }
     ensures left { OnErr result (LeavesPost body.now routes.now url.now (W.told net.old) (W.told net.new)) }
+    ensures broke { FailsBy (W.told net.old) (W.told net.new) result }
     ensures shut { (W.ready net.new → ⊥) ⊎ (net.new ≡ net.old) }
     ensures still { W.fixed_of net.new ≡ W.fixed_of net.old }
     ensures cause { HasLinkCause (W.in_faults net.old) (W.in_faults net.new) result }

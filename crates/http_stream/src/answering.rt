@@ -47,7 +47,10 @@ pub(crate) fn answer_one<P: Sink, A: Answerer>(
 {
     let Ok(response) = answerer.answer(alloc, asked) else {
         return match write_all(to, out_of_memory()) {
-            Ok(()) => Err(StreamFault::Memory),
+            Ok(()) => {
+                to.end();
+                Err(StreamFault::Memory)
+            }
             Err(Failed) => Err(StreamFault::WriteFault),
         };
     };

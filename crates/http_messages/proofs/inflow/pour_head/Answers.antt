@@ -1,5 +1,5 @@
 use Rattle.std.proofs.Common.{arith, ap, length}
-use Rattle.http_messages.proofs.Cutting.{head_all}
+use Rattle.http_messages.proofs.Cutting.{broken_all, head_all}
 use Rattle.http_messages.proofs.Ends.{short_end}
 use Rattle.http_messages.proofs.inflow.pour_head.Goals as goal
 
@@ -12,3 +12,7 @@ pour_head_on-requires-clause-small g c = omega (arith, ap length c.requires.empt
 pub returns-clause-comes : goal.returns-clause-comes
 returns-clause-comes g c =
     head_all (g.I.Inflow.came c.args.from.now c.pour_head_on.new.from) c.args.text.now.items c.pour_head_on.new.text.items c.pour_head_on.result c.requires.empty c.pour_head_on.ensures.comes
+
+pub returns-clause-broke : goal.returns-clause-broke
+returns-clause-broke g c =
+    broken_all (g.I.Inflow.broke c.args.from.now c.pour_head_on.new.from) c.args.text.now.items c.pour_head_on.new.text.items c.pour_head_on.result c.requires.empty c.pour_head_on.ensures.broke

@@ -1,10 +1,10 @@
-use Rattle.std.proofs.Common.{◌≡◌, ◌≤◌, ◌<◌, ◌+◌, ◌-◌, ◌∙◌, ap, ap₂, sym, subst, arith, rules, Err, length, take, drop, slice_range}
+use Rattle.std.proofs.Common.{◌≡◌, ◌≤◌, ◌<◌, ◌+◌, ◌-◌, ◌∙◌, ap, ap₂, refl, sym, subst, arith, rules, ℕ, Bool, Option, Err, length, take, drop, slice_range}
 use Rattle.std.proofs.lemmas.List.{length-take-le}
 use Rattle.http_messages.specs.Plans.{SaysPlan}
 use Rattle.http_messages.specs.Readings.{Taken}
 use Rattle.http_messages.specs.Requests.{IsRefused}
 use Rattle.http_messages.proofs.Ends.{end_inside}
-use Rattle.http_messages.proofs.Takings.{asked_as, broke_later, came_on, cut_body, none_came, not_false, one_came, refused, wanting, whole_request}
+use Rattle.http_messages.proofs.Takings.{asked_as, broke_body, broke_early, came_on, cut_body, none_came, not_false, one_came, refused, wanting, whole_request}
 use Rattle.http_messages.proofs.read.take_request.Goals as goal
 
 pub returns-in_default-clause-taken : goal.returns-in_default-clause-taken
@@ -36,14 +36,23 @@ overflow_add-until g c =
     let inside = end_inside c.pour_head.new.text.items c.in-Some.len h.2 in
     omega (arith, inside, h.1, c.in-Some-read_plan.ensures.small)
 
+pub returns-in-Err-clause-taken : goal.returns-in-Err-clause-taken
+returns-in-Err-clause-taken g c =
+    let source = g.P.Source in
+    let a = c.args.from.now in
+    let b = c.pour_head.new.from in
+    subst (λ e. Taken (source.left a) (source.left b) (Err e)) (sym c.end_of.ensures)
+    (broke_early (Option ℕ) (source.left a) (source.left b) (source.source_side a) (source.source_side b) c.pour_head.new.text.items c.in-Err.fault c.in-Err.ensures.broke c.in-Err.ensures.few.0)
+
 pub returns-in-Err-pour_to-clause-taken : goal.returns-in-Err-pour_to-clause-taken
 returns-in-Err-pour_to-clause-taken g c =
     let source = g.P.Source in
     let h = one_came (source.left c.args.from.now) (source.left c.pour_head.new.from) (source.source_side c.args.from.now) (source.source_side c.pour_head.new.from) c.pour_head.new.text.items c.in-Ok.end c.in-Some.len c.in-Some.is c.in-Ok.ensures.comes in
     let t = c.pour_head.new.text.items in
-    let inside = end_inside t c.in-Some.len h.2 in
-    subst (λ e. Taken (g.P.Source.left c.args.from.now) (g.P.Source.left c.pour_to.new.from) (Err e)) (sym c.end_of-in-Err-pour_to.ensures)
-    (broke_later _ _ _ t _ c.in-Err-pour_to.fault h.0 c.in-Err-pour_to.ensures.few.0 (omega (arith, inside, h.1, c.in-Some-read_plan.ensures.small)))
+    let says = subst (λ y. SaysPlan (take c.in-Some.len y) c.in-Some-read_plan.plan) c.deref.ensures.value c.in-Some-read_plan.ensures in
+    subst (λ e. Taken (source.left c.args.from.now) (source.left c.pour_to.new.from) (Err e)) (sym c.end_of-in-Err-pour_to.ensures)
+    (broke_body Bool _ _ _ (source.source_side c.pour_head.new.from) (source.source_side c.pour_to.new.from) t c.pour_to.new.text.items c.in-Some.len (c.in-Some.len + c.in-Some-read_plan.plan.size) c.in-Err-pour_to.fault c.in-Some-read_plan.plan
+    h.0 h.1 h.2 says refl c.in-Err-pour_to.ensures.broke c.in-Err-pour_to.ensures.short c.in-Err-pour_to.ensures.few.0)
 
 pub returns-then-len-until-clause-taken : goal.returns-then-len-until-clause-taken
 returns-then-len-until-clause-taken g c =

@@ -1,5 +1,5 @@
 use Rattle.std.proofs.Common.{◌∙◌, sym}
-use Rattle.http_plain.proofs.Exchanging.{answered_if, cause_on, err_part, left_if, ok_part, part_left, refused_part, shown_as, whole_left}
+use Rattle.http_plain.proofs.Exchanging.{answered_if, cause_on, err_part, left_if, ok_part, page_broke_if, part_broke, part_left, refused_broke, refused_part, shown_as, whole_left}
 use Rattle.http_plain.proofs.exchange.exchange.Goals as goal
 
 pub returns-clause-page : goal.returns-clause-page
@@ -26,3 +26,17 @@ pub returns-clause-left : goal.returns-clause-left
 returns-clause-left g c =
     left_if c.read_page-page.result (whole_left _ _ _ _ _ c.args.to.now c.args.message.now (ok_part c.open.result (sym c.if-is_err.ensures.value) c.open.ensures.added)
     (ok_part c.send_all.result (sym c.if-is_err-2.ensures.value) c.send_all.ensures.told) c.shut-2.ensures.told c.read_page-page.ensures.asked)
+
+pub returns-then-is_err-clause-broke : goal.returns-then-is_err-clause-broke
+returns-then-is_err-clause-broke g c = refused_broke _ _ c.args.to.now (err_part c.open.result (sym c.if-is_err.ensures.value) c.open.ensures.refused)
+
+pub returns-then-is_err-2-clause-broke : goal.returns-then-is_err-2-clause-broke
+returns-then-is_err-2-clause-broke g c =
+    part_broke _ _ _ _ c.args.to.now c.args.message.now (ok_part c.open.result (sym c.if-is_err.ensures.value) c.open.ensures.added) (err_part c.send_all.result (sym c.if-is_err-2.ensures.value) c.send_all.ensures.part) c.shut.ensures.told
+
+pub returns-clause-broke : goal.returns-clause-broke
+returns-clause-broke g c =
+    page_broke_if (g.W.Inflow.broke c.send_all.new.net c.read_page-page.new.from) _ _ _ _ _ c.args.to.now c.args.message.now c.read_page-page.result
+    (ok_part c.open.result (sym c.if-is_err.ensures.value) c.open.ensures.added)
+    (ok_part c.send_all.result (sym c.if-is_err-2.ensures.value) c.send_all.ensures.told)
+    c.shut-2.ensures.told (λ x. g.met.W.Wire.loses c.send_all.new.net c.read_page-page.new.from x) c.read_page-page.ensures.broke

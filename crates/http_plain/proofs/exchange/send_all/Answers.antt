@@ -1,6 +1,6 @@
 use Rattle.std.proofs.Common.{◌≡◌, ap, rules, arith, length, take, drop, ◌-◌, take_all, refl, List, ℕ}
 use Rattle.std.proofs.lemmas.List.{length-drop}
-use Rattle.http_plain.proofs.Exchanging.{sent_none, sent_on}
+use Rattle.http_plain.proofs.Exchanging.{left_if, sent_broken, sent_none, sent_on}
 use Rattle.http_plain.proofs.exchange.send_all.Goals as goal
 
 whole : (x : List ℕ) (i : ℕ) → take (length x - i) (drop i x) ≡ drop i x
@@ -23,3 +23,7 @@ loop-at-preserved g c = record {
   count = search rules;
   still = search rules;
 }
+
+pub returns-in_err-at-clause-part : goal.returns-in_err-at-clause-part
+returns-in_err-at-clause-part g c =
+    left_if c.from_residual.result (sent_broken _ _ _ c.args.message.now c.loop-at.at c.loop-at.invariant.at c.loop-at.invariant.sent c.in_err-at.ensures.none)

@@ -1,9 +1,11 @@
-use Rattle.std.proofs.Common.{◌≡◌, ◌≤◌, ◌⊎◌, inl, inr, true, false, [], ◌++◌, length, append_assoc, append-nil, arith, refl, rules, sym, subst}
+use Rattle.std.proofs.Common.{◌≡◌, ◌≤◌, ◌⊎◌, ◌∙◌, Err, ap, inl, inr, Bool, true, false, [], ◌++◌, length, append_assoc, append-nil, arith, refl, rules, sym, subst}
+use Rattle.std.proofs.lemmas.Result.{err_from_is_err_and}
+use Rattle.http_messages.specs.FlowLaws.{failed_as}
 use Rattle.chunked_body.specs.Readers.{HasRead, is_over}
 use Rattle.http_plain.specs.Pages.{piece_limit}
 use Rattle.http_plain.specs.Shown.{ShowsRest}
 use Rattle.http_plain.proofs.Exchanging.{ok_part}
-use Rattle.http_plain.proofs.Showing.{begun, rest_shown, spent_on}
+use Rattle.http_plain.proofs.Showing.{begun, lacks_rest, rest_shown, spent_on}
 use Rattle.http_plain.proofs.page.read_chunks.Goals.{then-loop-ended-test+else-not-is_over, else-loop-ended-test}
 use Rattle.http_plain.proofs.page.read_chunks.Goals as goal
 
@@ -60,3 +62,18 @@ loop-ended-preserved g c =
       still = search rules;
       faults = search rules;
     }
+
+pub returns-in_err-ended-clause-broke : goal.returns-in_err-ended-clause-broke
+returns-in_err-ended-clause-broke g c =
+    let flow = g.I.Inflow in
+    let text = c.args.text.now in
+    let so_far = c.loop-ended.invariant.came in
+    let goes : c.loop-ended.ended ≡ false = search rules in
+    let unended : is_over c.loop-ended.chunks ≡ false = search rules in
+    let broke = flow.broke c.args.from.now c.pour_chunks.new.from in
+    let before = subst (flow.came c.args.from.now c.loop-ended.from so_far.0) goes so_far.1 in
+    let p = err_from_is_err_and c.from_residual.result c.from_residual.ensures.1 in
+    failed_as Bool c.from_residual.result _ (p.1 ∙ ap Err p.2)
+    (λ h. lacks_rest broke text so_far.0 c.loop-ended.chunks
+    (subst broke (append-nil so_far.0) (flow.broke_on c.args.from.now c.loop-ended.from c.pour_chunks.new.from so_far.0 [] before h)) so_far.2 unended)
+    c.in_err-ended.ensures.broke
