@@ -1,13 +1,16 @@
 // Codes of trees.
 
-ghost use Rattle.std.specs.Prelude.{◌≡◌, ◌++◌, ◌∷◌, [], map, IfOk, OnOk};
+ghost use Rattle.std.specs.Prelude.{◌≡◌, ◌++◌, ◌∷◌, [], fold, map, IfOk, OnOk};
 ghost use Rattle.std.specs.Fmt.{signed_decimal};
 ghost use Rattle.std.specs.List.{concat};
-ghost use Rattle.fed_json.specs.Codes.{code_of as code_in, counted, member_code};
+ghost use Rattle.fed_json.specs.Codes.{code_of as code_in, counted, hash_of as hash_in, hash_step, member_code};
 
 use crate::tree::{Json, Member};
 use fed_base::{Memory, Text};
 use std::alloc::Global;
+
+// By what a hash is multiplied at each byte.
+const PRIME: u32 = 16_777_619;
 
 /// The code of the tree: bytes of its own for each value, as bencode has them, with `n`, `t`, `f` and `o` for null, true, false and `Odd`.
 pub(crate) fn code_of(alloc: Global, tree: &Json) -> Result<Vec<u8>, Memory>
@@ -16,6 +19,29 @@ pub(crate) fn code_of(alloc: Global, tree: &Json) -> Result<Vec<u8>, Memory>
     let mut code = Text::new(alloc);
     add_code(alloc, &mut code, tree)?;
     code.into_vec()
+}
+
+/// The hash of the tree: that of the bytes of a text, and of any other tree that of its code. Values that differ may have one hash.
+#[tactic(auto, unfolding(crate::specs::Codes::hash_of))]
+pub(crate) fn hash_of(alloc: Global, tree: &Json) -> Result<u32, Memory>
+    ensures { IfOk result (λ hash. hash ≡ hash_in tree.now) }
+{
+    match tree {
+        Json::Text(text) => Ok(hash_bytes(text.as_slice())),
+        _ => {
+            let code = code_of(alloc, tree)?;
+            Ok(hash_bytes(code.as_slice()))
+        }
+    }
+}
+
+fn hash_bytes(bytes: &[u8]) -> u32
+    ensures { result ≡ fold hash_step 0 bytes.now }
+{
+    bytes.iter().fold(
+        0u32,
+        |hash, byte| hash.wrapping_mul(PRIME).wrapping_add(u32::from(*byte)),
+    )
 }
 
 #[cycle(code)]

@@ -38,7 +38,7 @@ pub fn includes_each(alloc: Global, list: &Seq<Json>, part: &Seq<Json>) -> Resul
     ensures members { IfOk result (λ all. IsTrue all ↔ All (Contains list.now) part.now) }
     ensures test { IfOk result (λ all. all ≡ are_among list.now part.now) }
 {
-    let mut places = Places::new(alloc, list, part);
+    let mut places = Places::new(alloc, list, part)?;
     places.put_all(alloc, list)?;
     holds_all(alloc, &places, list, part.as_slice())
 }
@@ -53,7 +53,7 @@ pub fn union(alloc: Global, a: &Seq<Json>, b: &Seq<Json>) -> Result<Seq<Json>, M
         → IfOk result (All IsWellFormed) }
 {
     let mut list = Seq::new(alloc);
-    let mut places = Places::new(alloc, a, b);
+    let mut places = Places::new(alloc, a, b)?;
     add_all(alloc, &mut list, &mut places, a.as_slice())?;
     add_all(alloc, &mut list, &mut places, b.as_slice())?;
     Ok(list)
@@ -67,10 +67,10 @@ pub fn intersect(alloc: Global, a: &Seq<Json>, b: &Seq<Json>) -> Result<Seq<Json
     ensures distinct { IfOk result (AllPairs (λ x y. x ≢ y)) }
     ensures well_formed { All IsWellFormed a.now → IfOk result (All IsWellFormed) }
 {
-    let mut within = Places::new(alloc, a, b);
+    let mut within = Places::new(alloc, a, b)?;
     within.put_all(alloc, b)?;
     let mut list = Seq::new(alloc);
-    let mut places = Places::new(alloc, a, b);
+    let mut places = Places::new(alloc, a, b)?;
     add_common(alloc, &mut list, &mut places, a.as_slice(), b, &within)?;
     Ok(list)
 }

@@ -5,7 +5,7 @@ use Rattle.fed_json.specs.Sets.{is_among, intersection_of}
 use Rattle.fed_json.proofs.Onces.{Contains-intersection_of, AllPairs-once, All-once}
 use Rattle.fed_json.proofs.sets.intersect.Goals as goal
 
-list_is : (c : goal.After-drop-within-2) → c.add_common.new.list ≡ intersection_of c.args.a.now c.args.b.now
+list_is : (c : goal.After-drop-within-3) → c.add_common.new.list ≡ intersection_of c.args.a.now c.args.b.now
 list_is c = c.in_ok-add_common.ensures c.new-list.ensures ∙ ap (λ a. intersection_of a c.args.b.now) c.as_slice.ensures
 
 pub returns-clause-members : goal.returns-clause-members

@@ -5,7 +5,7 @@ use Rattle.fed_json.specs.Sets.{once, union_of}
 use Rattle.fed_json.proofs.Onces.{Contains-union_of, AllPairs-once, All-once}
 use Rattle.fed_json.proofs.sets.union.Goals as goal
 
-list_is : (c : goal.After-drop-places-2) → c.add_all-2.new.list ≡ union_of c.args.a.now c.args.b.now
+list_is : (c : goal.After-drop-places-3) → c.add_all-2.new.list ≡ union_of c.args.a.now c.args.b.now
 list_is c =
     c.in_ok-add_all-2.ensures.list c.args.a.now (c.in_ok-add_all.ensures.list [] c.new-list.ensures ∙ ap once c.as_slice.ensures) ∙ ap (λ b. once (c.args.a.now ++ b)) c.as_slice-2.ensures
 
