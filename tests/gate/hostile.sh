@@ -100,6 +100,20 @@ got=0
 got=$(cat pipe-status 2>/dev/null || echo 0)
 case $got in 0 | 4) as_it_should ;; *) differs "verify into a closed pipe: status $got" ;; esac
 
+# Of a configuration whose members are out of form and whose ring can't be read, the ring is told: it is read first.
+printf '{"entity_id":1,"ring":"folder"}' >faulty-both
+printf '{"entity_id":1,"ring":"kept"}' >faulty-member
+served=(--port 65535 --connections 1)
+asked=(--sub https://rp.example --anchor https://ta.example)
+ends 6 "" empty-list authority --config faulty-both "${served[@]}"
+ends 6 "" empty-list resolver --config faulty-both "${served[@]}"
+ends 6 "" empty-list resolve --config faulty-both "${asked[@]}"
+ends 6 "" empty-list register --config faulty-both --anchor https://ta.example
+ends 2 input empty-list authority --config faulty-member "${served[@]}"
+ends 2 input empty-list resolver --config faulty-member "${served[@]}"
+ends 2 input empty-list resolve --config faulty-member "${asked[@]}"
+ends 2 input empty-list register --config faulty-member --anchor https://ta.example
+
 # Inputs at their limits.
 head -c 4194304 /dev/zero | tr '\0' ' ' >blank
 ends 2 input blank check "${anchor[@]}" --keys no-keys --at 1800000000

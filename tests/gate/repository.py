@@ -14,11 +14,11 @@ KIT = set("sha2 base64 serde_json url form_urlencoded hex httparse lru atomic_ta
 # the parts of a crate's page, in their order
 MOST_CHAIN, MOST_PATHS, MOST_LINES = 12, 250_000, 1420
 PARTS = ["One call", "Definitions", "What is proved", "What is tested"]
-# the crates that may make a ledger of their own: what they count of it is theirs to say
-LEDGERS = {"fed_base", "fed_commands", "heeded_reply", "node_service", "register_once", "rehearsal", "resolve_call", "resolve_notes", "resolver_service"}
 # how often a crate may make another network or clock: what is done over it no clause sees. In the last two one stands in the place of the
 # network while a link has that, and nothing is done over it
 OTHERS = {"fed": 1, "heeded_reply": 1, "resolve_call": 1, "resolver_service": 2}
+# the crates that make sentences of whatever they are handed, and what they don't stand on, since it opens rings or holds their seeds
+NOTES, SEEDED = {"plain_notes", "statement_notes", "chain_notes", "word_notes", "fed_notes", "resolve_notes"}, {"key_ring", "slh_dsa", "sign_many"}
 faults = []
 
 
@@ -61,6 +61,8 @@ def check_layers(crates):
                     fault(f"crates.txt: {name} stands on {other}, which is above it")
             elif other not in KIT:
                 fault(f"crates.txt: {name} names the library {other}")
+        if name in NOTES and SEEDED & set(below):
+            fault(f"crates.txt: {name} makes sentences, and stands on {' and '.join(sorted(SEEDED & set(below)))}, which may hold seeds")
 
 
 def check_ladder(crates):
@@ -100,8 +102,8 @@ def check_crate(name, layer, files):
         if path.startswith(f"crates/{name}/src/"):
             source = text_of(path)
             lines += source.count("\n")
-            if "Plain::new()" in source and root.endswith("lib.rt") and name not in LEDGERS:
-                fault(f"{path} makes a ledger of its own, so that its counts say nothing")
+            if "OpensLedgers" in source and layer[0] < 7 and name not in ("fed_base", "fed_ports"):
+                fault(f"{path} names the runtimes that let ledgers be made, below the program")
             others += source.count(".another(")
     if root.endswith("lib.rt") and others != OTHERS.get(name, 0):
         fault(f"crates/{name}/src makes {others} other networks and clocks, and not {OTHERS.get(name, 0)}")

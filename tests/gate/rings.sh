@@ -1,6 +1,6 @@
 #!/usr/bin/env bash
-# What the built program does with a ring's file on a disk: twenty commands that change one file at once, locks that stay, links, and files that
-# others can read. It prints what differs and fails where anything does.
+# What the built program does with a ring's file on a disk: twenty commands that change one file at once, locks that stay, links, files that
+# others can read, and in which order it calls the system. It prints what differs and fails where anything does.
 # shellcheck source=tests/lib/rows.sh
 source "$(dirname "$0")/../lib/rows.sh"
 at_once=20
@@ -106,5 +106,31 @@ status=0
 "$fed" rotate --ring "$ring" --act retire --kid x </dev/null >"$place/out" 2>"$place/err" || status=$?
 holds "$status $(cat "$place/out")" = "1 refused Unknown"
 holds "$(grep -c "chmod" "$place/err")" = 0
+
+# traced NUMBER WORDS..: changes the ring keys/r, with the seeds of that number, and compares what the system was called for from the lock on
+traced() {
+    local number=$1 status=0 order
+    shift
+    seeds "$number" | strace -f -y -o "$place/calls" -e trace=openat,write,fsync,rename,unlink "$fed" "$@" --ring "$place/keys/r" >"$place/out" 2>"$place/err" || status=$?
+    holds "$status" = 0
+    order=$(sed -nE "
+        s#^[0-9]+ +##
+        s#^openat\([^\"]*\"$place/(keys[^\"]*)\".*#open \1#p
+        s#^(write|fsync)\([0-9]+<$place/(keys[^>]*)>.* = [0-9]+#\1 \2#p
+        s#^rename\(\"$place/(keys[^\"]*)\", \"$place/(keys[^\"]*)\"\) += 0#rename \1 \2#p
+        s#^unlink\(\"$place/(keys[^\"]*)\"\) += 0#unlink \1#p
+        s#^write\([0-9]+<$place/out>.* = [1-9][0-9]*#answer#p
+    " "$place/calls" | sed -n '/lock/,$p' | uniq | tr '\n' ';')
+    holds "$order" = "open keys/r.lock;open keys/r;open keys;open keys/r.new-a;write keys/r.new-a;fsync keys/r.new-a;rename keys/r.new-a keys/r;fsync keys;unlink keys/r.lock;answer;"
+}
+
+# a change is on the disk before its status is told: the new file before it is renamed, and the folder behind that
+if strace -f -y -o "$place/calls" -e trace=openat true 2>/dev/null; then
+    mkdir "$place/keys"
+    traced 204 keygen --at 1 --exp 2
+    traced 205 rotate --act add --at 1 --exp 2
+else
+    echo "$test_name: the order of the calls isn't tried, since strace can't be used here" >&2
+fi
 
 told

@@ -24,9 +24,8 @@ mod top;
 
 use build::{is_version, tell_of_build};
 use fed_net::RealNetwork;
-use fed_ports::{
-    Memory, RealClock, RealSink, RealSource, RealStore, Seq, Sink, Text, listen_address,
-};
+use fed_ports::{Memory, RealClock, RealSink, RealSource, Seq, Sink, Text, listen_address};
+use fed_store::RealStore;
 use fed_words::{Call, Service, read_call};
 use named_file::{explain_fault, value_of, warn_of_open_file};
 use plain_notes::{Notes, Sentence, explain_sink};

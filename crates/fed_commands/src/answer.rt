@@ -10,11 +10,12 @@ ghost use Rattle.fed_commands.specs.Streams.{without_line_end};
 ghost use Rattle.ring_commands.specs.RingFiles.{IsFileOf};
 
 use crate::operation::{Prepared, perform, prepare};
-use fed_notes::{explain_migration, is_old_ring};
+use fed_notes::explain_migration;
 use fed_ports::{Failed, Memory, OpensLedgers, ReadEnd, Source, Store, StoreFault, Text, read_all};
 use fed_words::Command;
 use plain_notes::{Notes, explain_source, explain_unkept_file, explain_unread_file};
 use ring_commands::{File, Reply};
+use ring_faults::is_old_ring;
 use std::alloc::Global;
 use std::thread::Threads;
 

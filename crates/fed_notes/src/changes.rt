@@ -1,7 +1,7 @@
 // Changes of a ring that are refused.
 
-use key_ring::{OrderFault, RingFault};
 use plain_notes::{Notes, Sentence};
+use ring_faults::{OrderFault, RingFault};
 use std::alloc::Global;
 
 /// Says why the ring isn't changed. Of a file that isn't a ring's, of the store and of memory nothing is said here.

@@ -1,9 +1,10 @@
 // Files that are named.
 
-use crate::ring_files::explain_ring;
+use crate::ring_files::ring_sentence;
 use fed_base::Text;
 use fed_json::{TreeFault, read_tree};
 use plain_notes::{Notes, Sentence};
+use ring_faults::{FileFault, TextFault, text_fault};
 use statement_notes::explain_key_set;
 use std::alloc::Global;
 
@@ -41,24 +42,25 @@ pub fn explain_keys_file(alloc: Global, name: &Text, file: &[u8], notes: &mut No
     }
 }
 
-/// Says why the file isn't that of a ring. No seeds are told.
-pub fn explain_ring_file(alloc: Global, name: &Text, file: &[u8], notes: &mut Notes) {
-    match read_tree(alloc, file) {
-        Ok(tree) => explain_ring(alloc, named(alloc, name), &tree, notes),
-        Err(TreeFault::Syntax) => notes.say(named(alloc, name).and(syntax_fault(file))),
-        Err(TreeFault::Memory) => {},
+/// Says why the file isn't that of a ring.
+pub fn explain_ring_file(alloc: Global, name: &Text, fault: &FileFault, notes: &mut Notes) {
+    match fault {
+        FileFault::Memory => {},
+        FileFault::Text(kind) => notes.say(named(alloc, name).and(text_words(*kind))),
+        _ => notes.say(ring_sentence(alloc, named(alloc, name), fault)),
     }
 }
 
 /// What is wrong with bytes that aren't JSON.
 pub(crate) fn syntax_fault(bytes: &[u8]) -> &'static [u8] {
-    if bytes.is_empty() {
-        b" is empty"
-    } else if bytes.starts_with(b"eyJ") {
-        b" is a signed text and not JSON"
-    } else if bytes.starts_with(b"\xef\xbb\xbf") {
-        b" isn't JSON: it begins with a byte order mark"
-    } else {
-        b" isn't JSON"
+    text_words(text_fault(bytes))
+}
+
+fn text_words(kind: TextFault) -> &'static [u8] {
+    match kind {
+        TextFault::Empty => b" is empty",
+        TextFault::SignedText => b" is a signed text and not JSON",
+        TextFault::Marked => b" isn't JSON: it begins with a byte order mark",
+        TextFault::Syntax => b" isn't JSON",
     }
 }

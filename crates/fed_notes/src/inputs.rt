@@ -3,6 +3,7 @@
 use crate::files::syntax_fault;
 use fed_json::{Json, TreeFault, is_whole, object_members};
 use plain_notes::{Notes, Sentence};
+use ring_faults::SeedsFault;
 use statement_notes::kind_of;
 use std::alloc::Global;
 
@@ -11,18 +12,17 @@ pub fn explain_long_input(alloc: Global, notes: &mut Notes) {
     notes.say(Sentence::of(alloc, b"standard input has more than 4,194,304 bytes"));
 }
 
-/// Says why the input isn't the seeds of a key. No digit of it is told.
-pub fn explain_seeds(alloc: Global, input: &[u8], notes: &mut Notes) {
-    let wrong = input.iter().position(|byte| !byte.is_ascii_hexdigit());
+/// Says why the input isn't the seeds of a key.
+pub fn explain_seeds(alloc: Global, fault: SeedsFault, notes: &mut Notes) {
     let about = Sentence::of(alloc, b"standard input: ");
-    notes.say(match wrong {
-        Some(place) => about
+    notes.say(match fault {
+        SeedsFault::Digit(place) => about
             .and(b"byte ")
-            .and_number(alloc, place as u64)
+            .and_number(alloc, place)
             .and(b" isn't a hexadecimal digit; the seeds of a key are 96"),
-        None => about
+        SeedsFault::Length(digits) => about
             .and(b"it has ")
-            .and_number(alloc, input.len() as u64)
+            .and_number(alloc, digits)
             .and(b" hexadecimal digits; the seeds of a key are 96"),
     });
 }

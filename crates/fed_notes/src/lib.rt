@@ -4,6 +4,8 @@
 //! The calls `explain_..` find the cause of an answer again in what their caller has at hand, and say it in [`Notes`]; the calls `warn_..`
 //! say what looks wrong in what was accepted. None of them can fail: where memory is wanting, less is said. The crate above calls them
 //! beside its answers, which they don't change.
+//!
+//! Of a ring's file and of seeds they are handed what `ring_faults` found, which holds none, and of a ring the terms of its keys.
 #![tactic(auto)]
 
 mod changes;
@@ -23,6 +25,6 @@ pub use inputs::{
     explain_unless_list, explain_unless_object,
 };
 pub use marks::explain_mark_claims;
-pub use ring_files::{explain_migration, is_old_ring, warn_of_ended_key, warn_of_ended_signer};
+pub use ring_files::{explain_migration, warn_of_ended_signer};
 pub use statement_notes::{explain_claims, explain_verify, warn_of_statement};
 pub use warnings::warn_of_claims;

@@ -1,8 +1,8 @@
 // Moments that look wrong in what is accepted.
 
 use fed_json::{Json, object_members};
-use key_ring::moment_at;
 use plain_notes::{Notes, Sentence, warn_of_moment};
+use ring_faults::moment_at;
 use std::alloc::Global;
 
 /// Says which moments look wrong in claims that are sealed.

@@ -4,7 +4,8 @@
 //! files are in a [`Store`], and a [`Clock`] gives the moment. A [`Network`] connects to others and accepts their connections, each of
 //! which is a [`Peer`], and a [`Link`] gives the pages of URLs. Each trait states what a call does to the bytes where the object tells
 //! them, and that an answer `Failed` comes only where the object's own count of faults rose. The versions in memory tell what they hold;
-//! the real ones are a few lines over the standard library and tell nothing. Those of the network stand in `fed_net`.
+//! the real ones are a few lines over the standard library and tell nothing. Those of the network stand in `fed_net`, and that of files in
+//! `fed_store`.
 //!
 //! The texts, lists, errors and ledgers of the base are given again here under their names.
 #![tactic(auto)]
@@ -24,7 +25,6 @@ mod page;
 mod peer;
 mod real;
 mod real_clock;
-mod real_store;
 mod sink;
 mod source;
 mod store;
@@ -47,7 +47,6 @@ pub use page::Page;
 pub use peer::Peer;
 pub use real::{RealSink, RealSource};
 pub use real_clock::RealClock;
-pub use real_store::RealStore;
 pub use sink::{Sink, write_all};
 pub use source::Source;
 pub use store::{FILE_LIMIT, Store, StoreFault};

@@ -2,6 +2,7 @@ mod ChangeLaws
 mod FirstFaults
 mod FoundAgain
 mod Gathering
+mod KeptOpens
 mod MemberLaws
 mod OpenLaws
 mod RingForms

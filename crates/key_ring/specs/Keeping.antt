@@ -1,5 +1,5 @@
 -- A change is kept in the store before the ring changes.
-use Rattle.std.specs.Prelude.{◌≡◌, ◌≤◌, ℕ, List, Option, Result, Ok, Err}
+use Rattle.std.specs.Prelude.{◌≡◌, ◌≤◌, ℕ, List, Option, Some, Result, Ok, Err}
 use Rattle.fed_base.specs.Counts.{Rose}
 use Rattle.fed_base.specs.declared.faults.Failed.{Failed}
 use Rattle.fed_ports.specs.Stores.{Files, Keeps}
@@ -64,3 +64,11 @@ pub record Migrates (before : Standing) (change : Change) (name : List ℕ) (now
   pub files : Keeps {E = Failed} before.files now.files name text (Ok tt)
   pub opens : Opens text (Ok (after before.ring change))
   pub newer : (ring : Ring) → ¬ IsOldFile text ring
+
+-- the files are told, and that of this name opens as that ring
+pub record OpensAs (files : Option Files) (name : List ℕ) (ring : Ring) : Type 0 where
+  pub all : Files
+  pub told : files ≡ Some all
+  pub text : List ℕ
+  pub stands : all name ≡ Some text
+  pub opens : Opens text (Ok ring)

@@ -25,7 +25,7 @@ mod writing;
 pub use fault::{OrderFault, RingFault};
 pub use first::first_file;
 pub use key::{KeyState, RevokeReason, RingKey};
-pub use laws::{changes, files, migrates};
+pub use laws::{changes, files, migrates, opens};
 pub use reading::{alg_at, moment_at, version_in};
 pub use ring::KeyRing;
 pub use term::KeyTerm;

@@ -16,6 +16,7 @@ use fed_ports::{Memory, Store, StoreFault, Text};
 use key_ring::{KeyRing, RingFault};
 use node_config::{ConfigFault, NodeConfig};
 use plain_notes::{Notes, explain_unread_file};
+use ring_faults::ring_fault;
 use std::alloc::Global;
 
 // The bytes of the file of that name.
@@ -96,7 +97,7 @@ fn explain_ring_fault(
     notes: &mut Notes,
 ) {
     if matches!(fault, RingFault::Shape | RingFault::Known(_)) {
-        explain_ring_file(alloc, name, bytes, notes);
+        explain_ring_file(alloc, name, &ring_fault(alloc, bytes), notes);
     }
 }
 

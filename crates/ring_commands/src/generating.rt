@@ -12,6 +12,7 @@ use hex::FromHex;
 use jwk_set::{Jwk, thumbprint, write_key};
 use key_ring::{RingFault, first_file};
 use plain_notes::Notes;
+use ring_faults::seeds_fault;
 use slh_dsa::KeyPair;
 use std::alloc::Global;
 
@@ -28,7 +29,7 @@ pub fn keygen(
     ensures { IfOk result (λ reply. reply ≡ keygen_reply alg at exp input.now) }
 {
     let Ok(seeds) = <[u8; 48]>::from_hex(input) else {
-        explain_seeds(alloc, input, notes);
+        explain_seeds(alloc, seeds_fault(input), notes);
         return plain(alloc, 2, b"input\n");
     };
     match first_file(alloc, alg, &seeds, at.seconds(), exp.seconds()) {

@@ -7,6 +7,7 @@ use fed_notes::{explain_absent_file, explain_long_file, explain_ring_file};
 use fed_ports::{Memory, Text};
 use key_ring::{KeyRing, RingFault};
 use plain_notes::Notes;
+use ring_faults::ring_fault;
 use std::alloc::Global;
 
 /// The file that a command names.
@@ -40,6 +41,11 @@ pub fn explain_no_ring(alloc: Global, name: &Text, file: &File, notes: &mut Note
     match file {
         File::Absent => explain_absent_file(alloc, name, notes),
         File::TooLong => explain_long_file(alloc, name, notes),
-        File::Whole(bytes) => explain_ring_file(alloc, name, bytes.as_slice(), notes),
+        File::Whole(bytes) => explain_ring_file(
+            alloc,
+            name,
+            &ring_fault(alloc, bytes.as_slice()),
+            notes,
+        ),
     }
 }

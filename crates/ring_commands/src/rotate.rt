@@ -12,6 +12,7 @@ use fed_words::Moment;
 use hex::FromHex;
 use key_ring::{KeyRing, RevokeReason, RingFault};
 use plain_notes::Notes;
+use ring_faults::seeds_fault;
 use std::alloc::Global;
 
 // The room for a ring's file, in bytes: 16 keys have less than half of it.
@@ -38,7 +39,7 @@ pub fn add(
     match <[u8; 48]>::from_hex(input) {
         Ok(seeds) => add_key(alloc, ring, alg, &seeds, at, exp, notes),
         Err(_) => {
-            explain_seeds(alloc, input, notes);
+            explain_seeds(alloc, seeds_fault(input), notes);
             plain(alloc, 2, b"input\n")
         }
     }

@@ -2,7 +2,8 @@
 
 use crate::spelling::{cut, number, numbers, word};
 use fed_base::{Memory, Seq, Text};
-use fed_ports::{Clock, MemoryStore, NamedFile, RealClock, RealStore, Store, StoreFault};
+use fed_ports::{Clock, MemoryStore, NamedFile, RealClock, Store, StoreFault};
+use fed_store::RealStore;
 use std::alloc::Global;
 use std::io::Eprint;
 use std::rt::Files;

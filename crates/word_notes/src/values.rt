@@ -3,8 +3,8 @@
 use entity_id::{EntityId, IdFault};
 use fed_help::{Form, OptionName};
 use fed_words::{CONNECTIONS, PORTS, TextType, WORKERS, alg_of, count_of, moment_of, params_of};
-use key_ring::RevokeReason;
 use plain_notes::{Notes, Sentence};
+use ring_faults::RevokeReason;
 use std::alloc::Global;
 
 /// Says what the option takes where the value isn't one of its. It answers whether it isn't.

@@ -3,10 +3,8 @@
 ghost use Rattle.std.specs.Prelude.{◌≡◌, None};
 ghost use Rattle.fed_ports.specs.Stores.{Loads};
 
-use crate::input::{ReadEnd, read_all};
-use crate::real::RealSource;
-use crate::store::{Store, StoreFault};
 use fed_base::{Duplicate, Failed, Memory, Text};
+use fed_ports::{ReadEnd, RealSource, Store, StoreFault, read_all};
 use std::alloc::Global;
 use std::fs::{OpenFile, OpenOptions};
 use std::io::{Eprint, ErrorKind, Write};
@@ -130,10 +128,43 @@ fn still_stands<R: Files + Eprint>(
 // How many names for the new file are tried, where files of these names are there already.
 const NAMES: u8 = 16;
 
-// Writes the bytes into a new file beside that name, readable by its owner alone, and names it so once they are on the disk. A file that
-// is there under another name stays as it is.
-fn keep_file<R: Files>(rt: &R, alloc: Global, name: &Text, bytes: &[u8]) -> Option<()> {
+// Writes the bytes into a new file beside that name, readable by its owner alone, names it so once they are on the disk, and then brings
+// the name there too: its folder is opened before anything is written. A file that is there under another name stays as it is.
+fn keep_file<R: Files + Eprint>(rt: &R, alloc: Global, name: &Text, bytes: &[u8]) -> Option<()> {
     let path = str::from_utf8(name.as_slice()).ok()?;
+    let Ok(folder) = fs::open(rt, folder_of(path)) else {
+        let _ = eprintln!(rt;
+            "fed: the folder of {path} can't be read, so that what is kept there can't be brought to the disk; nothing was changed"
+        );
+        return None;
+    };
+    put_in_place(rt, alloc, name, path, bytes)?;
+    if folder.sync_all().is_err() {
+        let _ = eprintln!(rt;
+            "fed: {path} was changed, but its folder could not be brought to the disk; look which file stands there before the change is tried again"
+        );
+        return None;
+    }
+    Some(())
+}
+
+// The folder that a path leads into.
+fn folder_of(path: &str) -> &str {
+    match path.rsplit_once('/') {
+        Some(("", _)) => "/",
+        Some((folder, _)) => folder,
+        None => ".",
+    }
+}
+
+// Writes the bytes into a new file, under the first of its names that is free, and puts it in the place of the other.
+fn put_in_place<R: Files>(
+    rt: &R,
+    alloc: Global,
+    name: &Text,
+    path: &str,
+    bytes: &[u8],
+) -> Option<()> {
     for letter in 0..NAMES {
         let mut beside = name.copy(alloc).ok()?;
         beside.append(b".new-").ok()?;
