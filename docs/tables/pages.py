@@ -73,7 +73,8 @@ class Page:
                 parts[name] = []
                 line = " " * BEGIN + line[BEGIN:]
             parts[name].append(line)
-        self.words = [] if parts["words"] == [" " * BEGIN + "none"] else rows_of(parts["words"])
+        arguments = parts["argument" if "argument" in parts else "options"]
+        self.arguments = [] if arguments == [" " * BEGIN + "none"] else rows_of(arguments)
         self.input = self.joined(parts["input"])
         self.output = rows_of(parts["output"]) if len(parts["output"]) > 1 and parts["output"][0][BEGIN:] != "the page" else [("", self.joined(parts["output"]))]
         if self.verb == "show":
@@ -146,7 +147,7 @@ def commands(top):
     """The commands of fed(1), each with its arguments, its input and what it writes."""
     parts = []
     for page in pages(top).values():
-        rows = [f".It {words_of(name)}\n{sentences(said)}" for name, said in page.words]
+        rows = [f".It {words_of(name)}\n{sentences(said)}" for name, said in page.arguments]
         if page.input != "none is read":
             rows.append(f".It Input\n{sentences(page.input)}")
         rows += [f"{named(name)}{sentences(said)}" for name, said in page.output if name or len(page.output) == 1 or page.output[0][0] == ""]
@@ -180,8 +181,8 @@ def heads(top):
     for page in pages(top).values():
         calls = [f"`fed {call}`\n" for call in page.calls]
         parts = [calls[0] if len(calls) == 1 else "".join(f"- {call}" for call in calls), wrapped(page.does) + "\n"]
-        if page.words:
-            rows = (f"| `{name}` | {said.replace('man 5 fed-config', '[CONFIG.md](CONFIG.md)')} |\n" for name, said in page.words)
+        if page.arguments:
+            rows = (f"| `{name}` | {said.replace('man 5 fed-config', '[CONFIG.md](CONFIG.md)')} |\n" for name, said in page.arguments)
             parts.append("| Argument | What it is |\n|---|---|\n" + "".join(rows))
         parts.append(wrapped(f"**Input**: {page.input}.") + "\n")
         found[page.verb] = "\n".join(parts)

@@ -444,7 +444,7 @@ def check_help():
         compare(f"help {command}: status and faults", (status, err), (0, ""))
         called = [usage for usage in usages if usage.split()[1] == command]
         compare(f"help {command}: how it is called", page.split("\n")[:len(called) + 1], [*called, ""])
-        compare(f"help {command}: its parts", re.findall(r"^(\w+) {2,}", page, re.M), ["words", "input", "output", "status", "example"])
+        compare(f"help {command}: its parts", re.findall(r"^(\w+) +", page.split("\n\n", 2)[2], re.M), ["argument" if command in ("verify", "help") else "options", "input", "output", "status", "example"])
         compare(f"help {command}: its longest line", max(map(len, page.split("\n"))) <= 80 and page.isascii(), True)
         text = page[page.index("\nexample  ") + 10:]
         if "examples/" in text:

@@ -7,7 +7,7 @@ Checks one entity configuration under a public key, by the algorithm that its
 header names, SLH-DSA-SHA2-128s or SLH-DSA-SHA2-128f. The text's own keys, its
 kid and its moments aren't looked at.
 
-words    PUB          the public key, PK.seed and PK.root (FIPS 205): 43
+argument PUB          the public key, PK.seed and PK.root (FIPS 205): 43
                       base64url characters
 input    the configuration, a text in JWS compact serialization of at most
          262,144 bytes
@@ -26,7 +26,7 @@ pub(crate) const CHECK: &[u8] = b"fed check --anchor ID --keys FILE [--at T] < C
 
 Checks a trust chain for a trust anchor, under the keys that it is known by.
 
-words    --anchor ID  the anchor's identifier, a URL
+options  --anchor ID  the anchor's identifier, a URL
          --keys FILE  a file with the anchor's keys, a JWK Set
          --at T       the moment for which it is checked, in seconds since 1970;
                       without it, now
@@ -37,7 +37,7 @@ output   valid <leaf> <exp> the chain is valid until exp; a second line has the
          refused <place> R  the first place, from the leaf's 0 on, that fails,
                             and why: R is Form, Names, Times, Signature,
                             PathLength, Name, Conflict .. or Policy ..
-         input              the file or the input isn't of its form
+         input              the file or the input is malformed
 status   0 valid, 1 refused, 2 words or input, 3 the input can't be read, 4 the
          output can't be written, 5 memory was wanting, 6 the file can't be read
 example  fed check --anchor https://ta.example --keys examples/ta.keys.json \\
@@ -50,7 +50,7 @@ pub(crate) const SHOW: &[u8] = b"fed show < TEXT
 Shows what a signed text, a chain or a key set says: header and claims indented,
 moments with their dates, keys by their thumbprints. Nothing is verified.
 
-words    none
+options  none
 input    a text in JWS compact serialization; a chain, a JSON list of such
          texts; or a JWK Set
 output   the parts, and then what they are: an entity's configuration, a
@@ -70,7 +70,7 @@ pub(crate) const HELP_PAGE: &[u8] = b"fed help COMMAND
 Shows how a command is called: its words, its input, what it writes, its
 statuses, and an example.
 
-words    COMMAND      verify, keygen, issue, rotate, public, check, show,
+argument COMMAND      verify, keygen, issue, rotate, public, check, show,
                       check-config, authority, resolver, resolve, register,
                       rehearse or help
 input    none is read

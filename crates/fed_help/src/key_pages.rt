@@ -5,7 +5,7 @@ pub(crate) const KEYGEN: &[u8] = b"fed keygen --ring FILE --at T --exp T [--alg 
 
 Makes a ring file of one key, and writes its public key.
 
-words    --ring FILE  the ring file to make; no file may have this name
+options  --ring FILE  the ring file to make; no file may have this name
          --at T       from when the key is for, in seconds since 1970
          --exp T      until when
          --alg ALG    128s, the default, for SLH-DSA-SHA2-128s, or 128f for
@@ -30,7 +30,7 @@ pub(crate) const ISSUE: &[u8] = b"fed issue --ring FILE --typ TYP [--workers W] 
 
 Signs claims by the newest live key of a ring file, which isn't changed.
 
-words    --ring FILE  the ring file
+options  --ring FILE  the ring file
          --typ TYP    entity-statement+jwt, trust-mark+jwt or
                       trust-mark-delegation+jwt; it says which claims there
                       must be
@@ -42,7 +42,7 @@ output   a line          the text in JWS compact serialization
          refused Form    the claims aren't those of such a text, or a number of
                          them has a fraction, an exponent or too many digits
          refused TooLong they have more than 179,000 bytes as compact JSON
-         input           the ring file isn't there or isn't of its form, or the
+         input           the ring file isn't there or is malformed, or the
                          input is no JSON object
 status   0 signed, 1 refused, 2 words or input, 3 the input can't be read, 4 the
          output can't be written, 5 memory was wanting, 6 the file can't be read
@@ -59,7 +59,7 @@ Makes one change of the ring of a ring file: a new live key stands first and
 signs from then on; a live key signs no more, and what it signed stays good; or
 a key isn't to be trusted any more.
 
-words    --ring FILE  the ring file
+options  --ring FILE  the ring file
          --act ACT    what is changed: add, retire or revoke
          --at T       from when the new key is for, or since when the key is
                       revoked, in seconds since 1970
@@ -76,7 +76,7 @@ output   a line          of add the name of the new key
                          key would stay
          refused Known   the key is in the ring already
          refused Unknown no key of the ring has this name
-         input           the ring file isn't there or isn't of its form, or the
+         input           the ring file isn't there or is malformed, or the
                          input isn't 96 hexadecimal digits
 status   0 changed, 1 refused, 2 words or input, 3 the input can't be read, 4
          the output can't be written (the change stands), 5 memory was wanting,
@@ -90,14 +90,14 @@ pub(crate) const PUBLIC: &[u8] = b"fed public --ring FILE [--kid KID]
 Shows the public keys of a ring file, so that none is lost with the line that
 keygen or rotate wrote.
 
-words    --ring FILE  the ring file
+options  --ring FILE  the ring file
          --kid KID    the name of one key, its thumbprint
 input    none is read
 output   {\"keys\":[..]}   without --kid: the live keys as a JWK Set, newest first
          {\"alg\":..}      with --kid: that key, a JWK; one that is retired or
                          revoked has its end (exp) and its revocation (revoked)
          refused Unknown no key of the ring has this name
-         input           the ring file isn't there or isn't of its form
+         input           the ring file isn't there or is malformed
 status   0 shown, 1 refused, 2 words or input, 4 the output can't be written, 5
          memory was wanting, 6 the file can't be read
 example  fed public --ring ta.ring > ta.keys.json

@@ -6,7 +6,7 @@ pub(crate) const CHECK_CONFIG: &[u8] = b"fed check-config --config FILE [--at T]
 Reads a node's configuration, its ring and its trust marks, and says the first
 fault, or what the node is.
 
-words    --config FILE the configuration, a JSON object; man 5 fed-config
+options  --config FILE the configuration, a JSON object; man 5 fed-config
          --at T        the moment for which it is told, in seconds since 1970;
                        without it, now
 input    none is read
@@ -18,7 +18,7 @@ output   lines         the entity, its keys, each with its algorithm and its
                        ring Absent, TooLong, Shape or Known, or of the trust
                        mark at a place the reason why it is none of the node's
          input         the configuration isn't there, is too long or isn't JSON
-status   0 all is of its form, 1 refused, 2 words or input, 4 the output can't
+status   0 it is well formed, 1 refused, 2 words or input, 4 the output can't
          be written, 5 memory was wanting, 6 a file can't be read
 example  fed check-config --config node.json
 ";
@@ -31,7 +31,7 @@ Answers connections over HTTP as the authority of a configuration: its entity
 configuration, statements about its subordinates, their list, its historical
 keys, and the status of its trust marks.
 
-words    --config FILE   the configuration; man 5 fed-config
+options  --config FILE   the configuration; man 5 fed-config
          --port P        the port, 1 to 65535, of 127.0.0.1, or of the address
                          in the environment variable FED_LISTEN
          --connections N how many connections are answered, 1 to 1000000, one
@@ -41,8 +41,8 @@ words    --config FILE   the configuration; man 5 fed-config
                          without it each is answered once
 input    none is read
 output   served N        all were answered
-         input           the configuration or its ring isn't there or isn't of
-                         its form, or it has the member resolver
+         input           the configuration or its ring isn't there or is
+                         malformed, or it has the member resolver
          Each connection leaves a line on standard error, unless FED_LOG=off.
 status   0 served, 2 words or input, 4 the output can't be written, 5 memory was
          wanting, 6 a file can't be read, 7 the port can't be listened on, or
@@ -57,7 +57,7 @@ Answers connections over HTTP as the resolver of a configuration: what authority
 answers for such a node, the metadata of entities, and other keys for its trust
 anchors.
 
-words    --config FILE   the configuration, with the member resolver; man 5
+options  --config FILE   the configuration, with the member resolver; man 5
                          fed-config
          --port P        the port, 1 to 65535, of 127.0.0.1, or of the address
                          in the environment variable FED_LISTEN
@@ -65,12 +65,12 @@ words    --config FILE   the configuration, with the member resolver; man 5
                          many at once as the configuration has workers
 input    none is read
 output   served N        all were answered
-         input           the configuration or its ring isn't there or isn't of
-                         its form, or it lacks the member resolver
+         input           the configuration or its ring isn't there or is
+                         malformed, or it lacks the member resolver
          Each connection leaves a line on standard error, unless FED_LOG=off.
 status   0 served, 2 words or input, 4 the output can't be written, 5 memory was
          wanting, 6 a file can't be read, 7 the port can't be listened on, or
-         nobody can be accepted, 8 a counter is worn
+         nobody can be accepted, 8 a counter is at its end
 example  fed resolver --config node.json --port 8301 --connections 1000000
 ";
 
@@ -80,7 +80,7 @@ pub(crate) const RESOLVE: &[u8] = b"fed resolve --config FILE --sub ID --anchor 
 Resolves an entity up to a trust anchor, as the resolver of a configuration: it
 asks the authorities over HTTP, and writes a signed reply.
 
-words    --config FILE the configuration, with the member resolver
+options  --config FILE the configuration, with the member resolver
          --sub ID      the entity, a URL
          --anchor ID   one of the configuration's trust anchors
          --heed yes    the issuers of the reply's trust marks that name a status
@@ -94,12 +94,12 @@ output   a line        the reply in JWS compact serialization
                        or can't be asked (fault), and the status stays 0
          {\"error\":..}  why there is none: invalid_trust_anchor, not_found,
                        invalid_metadata or invalid_trust_chain
-         input         the configuration or its ring isn't there or isn't of
-                       its form, or it lacks the member resolver
+         input         the configuration or its ring isn't there or is
+                       malformed, or it lacks the member resolver
 status   0 resolved, 1 refused, 2 words or input, 4 the output can't be written,
          5 memory was wanting, 6 a file can't be read, 7 no valid chain was
-         found and a fetch failed, 8 a counter is worn, 9 no valid chain was
-         found before a bound of the search
+         found and a fetch failed, 8 a counter is at its end, 9 no valid
+         chain was found before a bound of the search
 example  fed resolve --config node.json --sub https://rp.example \\
              --anchor https://ta.example
 ";
@@ -111,7 +111,7 @@ Registers a relying party, as the node of a configuration: a posted chain is
 checked, the chain of a posted configuration is first looked for over HTTP, and
 a signed registration is written.
 
-words    --config FILE the configuration, with the member resolver
+options  --config FILE the configuration, with the member resolver
          --anchor ID   one of the configuration's trust anchors
 input    what the relying party posts: its entity configuration, a text in JWS
          compact serialization, or its chain, a JSON list of such texts as
@@ -123,13 +123,13 @@ output   a line             the registration in JWS compact serialization
                             openid_relying_party
          refused <place> R  the first place of the chain that fails, and why, as
                             check says it
-         input              the configuration or its ring isn't there or isn't
-                            of its form, it lacks the member resolver, or the
+         input              the configuration or its ring isn't there or is
+                            malformed, it lacks the member resolver, or the
                             input is too long
 status   0 registered, 1 refused, 2 words or input, 3 the input can't be read, 4
          the output can't be written, 5 memory was wanting, 6 a file can't be
-         read, 7 no chain was found and a fetch failed, 8 a counter is worn, 9
-         no chain was found before a bound of the search
+         read, 7 no chain was found and a fetch failed, 8 a counter is at its
+         end, 9 no chain was found before a bound of the search
 example  fed register --config resolver.json --anchor https://ta.example \\
              < rp.jwt
 ";
@@ -140,7 +140,7 @@ pub(crate) const REHEARSE: &[u8] = b"fed rehearse --params N
 Makes a federation in memory, resolves its leaf twice, and checks the chain of
 the second reply: all that a resolver does, without a file or a network.
 
-words    --params N    how many parameters the leaf's metadata has, 0 to 200
+options  --params N    how many parameters the leaf's metadata has, 0 to 200
 input    none is read
 output   params N      as asked for
          chain C       how many statements the chain of the second reply has
@@ -151,6 +151,6 @@ output   params N      as asked for
                        is 0
          valid         the chain was checked by itself, and is valid
 status   0 done, 2 words, 4 the output can't be written, 5 memory was wanting,
-         8 a counter is worn
+         8 a counter is at its end
 example  fed rehearse --params 3
 ";

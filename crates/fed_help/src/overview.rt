@@ -41,13 +41,13 @@ Options stand in any order. T is a moment in seconds since 1970, below 2^62. An
 input or a file has at most 4,194,304 bytes; one LF or CR LF may end an input.
 
 status  0  the work is done              1  refused
-        2  the words (`words`), or the input or a file (`input`), aren't of
-           their form                    3  reading the input failed
+        2  the arguments (`words`), or the input or a file (`input`), are
+           malformed                     3  reading the input failed
         4  writing the output failed     5  memory was wanting
         6  reading or keeping a file failed
         7  the network failed: the port is taken, nobody can be accepted, or
            what was asked for couldn't be fetched
-        8  a counter is worn             9  the search's budget ended
+        8  a counter is at its end       9  the search's budget ended
 ";
 
 /// What `--version` writes.
