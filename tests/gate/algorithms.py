@@ -87,7 +87,7 @@ def check_chains(leaf, anchor):
     strange = issued(about(TA, IM, under(KEYS[IM], SMALL)))
     compare("a subordinate's key under the other", checked([*chain[:2], strange, chain[3]], anchor), given(
         1, "refused 1 Signature\n",
-        f"place 1 ({IM} about {RP}): there is no {FAST} key {KEYS[IM]['kid']} in the jwks of the next text; the key of that name there is of {SMALL}"))
+        f"place 1 ({IM} about {RP}): the {FAST} key {KEYS[IM]['kid']} isn't among the keys that {TA} states of {IM}; the key of that name there is of {SMALL}"))
     unlike = sealed_by(Signer(FAST, bytes.fromhex(SEEDS[RP])), {"alg": FAST, "kid": KEYS[RP]["kid"], "typ": STATEMENT}, own(RP, under(KEYS[RP], SMALL)))
     compare("the leaf's own key under the other", checked([unlike, *chain[1:]], anchor)[:2], (1, "refused 0 Signature\n"))
     nameless = {name: value for name, value in under(anchor, FAST).items() if name != "kid"}

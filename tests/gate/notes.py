@@ -145,13 +145,10 @@ def check_free_words():
 
 def check_words():
     faulty([], "no command is given", *USAGE)
-    faulty("-h", *USAGE)
-    faulty("help", *USAGE)
     faulty("help cehck", "there is no command cehck; did you mean check?")
     faulty("help frob", "there is no command frob; see fed --help")
     faulty("help verify check", "help takes one word, a command; check is one too many")
     faulty("hepl verify", "there is no command hepl; did you mean help?")
-    faulty("--help verify", "--help stands alone; verify is one word too many")
     faulty("--version 1", "--version stands alone; 1 is one word too many")
     faulty("sign", "there is no command sign; see fed --help")
     faulty("verfy", "there is no command verfy; did you mean verify?")
@@ -174,7 +171,7 @@ def check_words():
            "--anchor takes a URL without query, fragment and user, and not https://a.example/?q")
     faulty(["check", "--keys", "k", "--anchor", "https://a example"],
            "--anchor takes a URL of at most 2,048 bytes, without spaces and backslashes, and not https://a example")
-    for value in ["now", "01", "-1", "1.5", str(1 << 62)]:
+    for value in ["01", "-1", "1.5", str(1 << 62)]:
         faulty(f"check --keys k --anchor https://a.example --at {value}", f"--at takes {MOMENT}, and not {value}")
     faulty("issue --ring r --typ JWT",
            "--typ takes entity-statement+jwt, trust-mark+jwt or trust-mark-delegation+jwt, and not JWT")
@@ -273,7 +270,7 @@ def check_rings(key):
     words = ["rotate", "--ring", "old.ring", "--act", "add", "--at", "1", "--exp", "2", "--alg", "128f"]
     added = run(words, seeds(3))
     compare(words, (added[0], len(added[1]), added[2]),
-            (0, 44, said(["the change writes old.ring in version 2, which programs before this one don't read"])))
+            (0, 44, said([f"warning: the key ended at {moment(2)}", "the change writes old.ring in version 2, which programs before this one don't read"])))
     row(f"rotate --ring old.ring --act retire --kid {added[1].strip()}", "", 0, "done\n")
     row("keygen --ring no/such/ring --at 1 --exp 2", seeds(3), 6, "", "no/such/ring can't be kept", "no such folder: no/such")
 
@@ -402,7 +399,8 @@ def check_chains(key, other):
             " both of its own jwks and of the jwks of the next text")
     signed = [sealed("ring", claims[0]), sealed("other", claims[1]), sealed("other", claims[2])]
     refused([signed[0], texts[1], signed[2]], "1 Signature",
-            "place 1 (https://e1.example about https://e0.example): there is no SLH-DSA-SHA2-128s key k in the jwks of the next text")
+            "place 1 (https://e1.example about https://e0.example): the SLH-DSA-SHA2-128s key k isn't among the keys that https://e1.example states of itself;"
+            " is a rotation half done?")
     make("none.json", {"keys": []})
     refused(signed, "2 Signature", f"place 2 (https://e1.example about itself): there is no SLH-DSA-SHA2-128s key {other['kid']} among the anchor's keys",
             keys="none.json")

@@ -57,7 +57,7 @@ def refused(row, posted, pages, status, text, calls, *sentences, anchor=TA, rout
     """What isn't registered: the whole of what is done."""
     with Web(pages) as web:
         got = call(posted, {**hosts_in(pages, web), **(routes or {})}, anchor=anchor, anchors=anchors)
-    wanted = status, text, said(sentences)
+    wanted = status, text, said(sentences).replace("PORT", str(web.port))
     tell(f"{row}: {got[:3]}, not {wanted}"[:2000], got[:3] == wanted)
     tell(f"{row}: asked for {web.calls}, not {calls}"[:2000], web.calls == calls)
 
@@ -125,7 +125,8 @@ def searches():
     refused("a policy", RP_OWN, {**USUAL, fetch_of(IM, RP): bad}, 1, "refused NoChain\n", CALLS,
             "a chain up to the trust anchor is valid but for its metadata policies", f"a path up to the trust anchor is refused: {RP} {IM} {TA}",
             f"place 0 ({RP} about itself): its metadata openid_relying_party client_name doesn't pass the operator one_of of the merged policy")
-    refused("a reset", RP_OWN, {**USUAL, page_of(IM): "reset"}, 7, "", CALLS[:2], FAILED, f"{url(IM)} couldn't be fetched", NO_PATH)
+    refused("a reset", RP_OWN, {**USUAL, page_of(IM): "reset"}, 7, "", CALLS[:2], FAILED, f"{url(IM)} couldn't be fetched", NO_PATH,
+            "127.0.0.1:PORT: the connection was reset")
     refused("nobody at the route", RP_OWN, USUAL, 7, "", [], FAILED, f"{url(RP)} couldn't be fetched", routes={"rp.example": free_port()})
     refused("a bound", RP_OWN, USUAL, 9, "", CALLS[:4],
             "the search ended at its bound: 4 pages of at most 4, 2 paths of at most 4,096; see depth, calls and paths of the anchor in the configuration", NO_PATH,

@@ -56,7 +56,7 @@ def refused(row, pages, status, written_text, calls, *sentences, sub=RP, routes=
     with Web(pages) as web:
         found = {**hosts_in(pages, web), **(routes or {})}
         got = call({host: port for host, port in found.items() if port}, sub=sub, anchors=anchors)
-    wanted = (status, written_text, said(sentences))
+    wanted = (status, written_text, said(sentences).replace("PORT", str(web.port)))
     tell(f"{row}: {got[:3]}, not {wanted}"[:2000], got[:3] == wanted)
     tell(f"{row}: asked for {web.calls}, not {calls}"[:2000], web.calls == calls)
 
@@ -119,7 +119,7 @@ def heeded(row, ta, marks, posts, words, kept, exp, *sentences):
     with Web({**pages, **posts}) as web:
         status, out, told, moments = call(hosts_in(pages, web), heed=True)
     text, _, lines = out.partition("\n")
-    wanted = 0, "".join(f"mark {at} {word}\n" for at, word in enumerate(words)), said(sentences)
+    wanted = 0, "".join(f"mark {at} {word}\n" for at, word in enumerate(words)), said(sentences).replace("PORT", str(web.port))
     tell(f"{row}: {(status, lines, told)}, not {wanted}"[:2000], (status, lines, told) == wanted)
     tell(f"{row}: asked for {web.calls}"[:2000], web.calls == [*CALLS, *posts])
     differs = status or differs_in(f"{text}\n", moments, RP, chain, exp, RESOLVED, [marks[at] for at in kept])
@@ -159,7 +159,7 @@ def asked():
     heeded("both are active", own_ta, marks, {one: active[0], two: active[1]}, ["active", "active", "unasked"], [0, 1, 2], NOW + 300)
     heeded("one was taken back", own_ta, marks, {one: revoked, two: active[1]}, ["refused", "active", "unasked"], [1, 2], NOW + 600, taken_back)
     heeded("the second post fails", own_ta, marks, {one: active[0], two: "reset"}, ["active", "fault", "unasked"], [0, 2], NOW + 300,
-           f"{failed_at}couldn't be asked")
+           f"{failed_at}couldn't be asked", RESET)
     heeded("a status of HTTP", own_ta, marks, {one: 403, two: active[1]}, ["useless", "active", "unasked"], [1, 2], NOW + 600,
            f"{useless}is answered with status 403")
     heeded("not HTTP", own_ta, marks, {one: b"?", two: active[1]}, ["useless", "active", "unasked"], [1, 2], NOW + 600,
@@ -190,7 +190,7 @@ def listed():
             done = subprocess.run(words, stdout=full, stderr=subprocess.PIPE, timeout=PATIENCE, cwd=place, env=ENVIRONMENT)
         tell(f"a full disk: {done}", done.returncode == 4 and b"standard output can't be written" in done.stderr)
         tell(f"a call for an anchor that isn't listed asked for {web.calls}", web.calls == [])
-    refused("no route to the entity", USUAL, 1, ERRORS["entity"], [], *lost("entity", no_route(RP)), routes={"rp.example": None})
+    refused("no route to the entity", USUAL, 1, ERRORS["entity"], [], no_route(RP), routes={"rp.example": None})
     refused("no route to the superior", USUAL, 1, ERRORS["chain"], CALLS[:1], *lost("chain", no_route(IM), NO_PATH), routes={"im.example": None})
     refused("nobody at the route", USUAL, 7, "", CALLS[:1], *lost("fault", failed(IM), NO_PATH), routes={"im.example": free_port()})
     refused("nobody at the entity", USUAL, 7, "", [], *lost("fault", failed(RP)), routes={"rp.example": free_port()})
@@ -213,10 +213,12 @@ def failed(entity):
 
 
 def no_route(entity):
-    return f"{url(entity)} has a host to which the configuration has no route"
+    return f"there is no route to {entity.removeprefix('https://')}; add one to resolver.routes"
 
 
 NO_PATH = f"no path came up to {TA}"
+RESET = "127.0.0.1:PORT: the connection was reset"
+SILENT = "127.0.0.1:PORT: not answered within 10 seconds"
 UNJUDGED = f"the search ended before it judged a path that is valid: {RP} {IM} {TA}"
 
 
@@ -240,7 +242,7 @@ def entity_pages():
         ("262,144 bytes of no statement", head + b"\r\n" + b"a" * 262144, bad, "place 0: the text isn't three parts with full stops between them"),
         ("JSON", json.dumps(own_rp), bad, "place 0: the text begins as JSON does, and is no signed text"),
         ("another algorithm", unsealed(own_rp, alg="ES256"), bad, "place 0: this text is signed with ES256; fed checks SLH-DSA-SHA2-128s or SLH-DSA-SHA2-128f"),
-        ("another entity's", IM_OWN, f"has another text, by {IM} about {IM}"),
+        ("another entity's", IM_OWN, f"is the configuration of {IM}; asked was {RP}"),
         ("a statement", IM_RP, f"has another text, by {IM} about {RP}"),
         ("expired", unsealed({**own_rp, "exp": expired}), f"expired at {moment(expired)}"),
         ("no kid", unsealed(own_rp, kid=None), "has no kid in its header, the name of the key that signed"),
@@ -264,10 +266,10 @@ def superior_pages():
     short = b"HTTP/1.1 200 OK\r\nContent-Length: %d\r\n\r\n" % (len(IM_OWN) + 1) + IM_OWN.encode()
     long = b"HTTP/1.1 200 OK\r\n\r\n" + b"a" * 262145
     rows = [
-        ("another entity's configuration", {page_of(IM): TA_OWN}, 2, f"{url(IM)} has another text, by {TA} about {TA}"),
+        ("another entity's configuration", {page_of(IM): TA_OWN}, 2, f"{url(IM)} is the configuration of {TA}; the hint of {RP} is {IM}"),
         ("an end in the middle", {page_of(IM): short}, 2, f"{url(IM)} isn't answered as HTTP is"),
         ("262,145 bytes", {fetch_of(IM, RP): long}, 3, f"{fetched} has more than 262,144 bytes"),
-        ("no statement", {fetch_of(IM, RP): 404}, 3, f"{fetched} is answered with status 404"),
+        ("no statement", {fetch_of(IM, RP): 404}, 3, f"{IM} doesn't state {RP} (404): it isn't its subordinate"),
         ("a statement about another", {fetch_of(IM, RP): unsealed(about(IM, JM))}, 3, f"{fetched} has another text, by {IM} about {JM}"),
         ("another's statement", {fetch_of(IM, RP): unsealed(about(JM, RP))}, 3, f"{fetched} has another text, by {JM} about {RP}"),
         ("no configuration of the anchor", {page_of(TA): 404}, 4, f"{url(TA)} is answered with status 404"),
@@ -275,7 +277,7 @@ def superior_pages():
     for row, pages, count, sentence in rows:
         refused(f"the superior: {row}", {**USUAL, **pages}, 1, ERRORS["chain"], CALLS[:count], *lost("chain", sentence, NO_PATH))
     alone = sealed(own(RP, metadata=METADATA), RP)
-    refused("no hints", {**USUAL, page_of(RP): alone}, 1, ERRORS["chain"], CALLS[:1], *lost("chain", NO_PATH))
+    refused("no hints", {**USUAL, page_of(RP): alone}, 1, ERRORS["chain"], CALLS[:1], *lost("chain", f"{NO_PATH}: {RP} states no authority_hints"))
     fenced = sealed(own(IM, authority_hints=[TA]), IM)
     refused("no endpoint", {**USUAL, page_of(IM): fenced}, 1, ERRORS["chain"], CALLS[:2],
             *lost("chain", f"{url(IM)} names no federation_fetch_endpoint, where statements are asked for", NO_PATH))
@@ -288,7 +290,7 @@ def chains():
     both = own(TA, metadata=endpoint(TA), jwks={"keys": [KEYS["other"], KEYS[TA]]})
     name = {"openid_relying_party": {"client_name": {"value": "B"}}}
     rows = [
-        ("another key", "chain", {fetch_of(IM, RP): sealed(about(IM, RP), "other")}, f"{im_rp}: there is no SLH-DSA-SHA2-128s key {kid} in the jwks of the next text"),
+        ("another key", "chain", {fetch_of(IM, RP): sealed(about(IM, RP), "other")}, f"{im_rp}: the SLH-DSA-SHA2-128s key {kid} isn't among the keys that {TA} states of {IM}; is a rotation half done?"),
         ("another signature", "chain", {fetch_of(IM, RP): unsealed(about(IM, RP), kid=KEYS[IM]["kid"])},
          f"{im_rp}: the signature doesn't verify under the SLH-DSA-SHA2-128s key {KEYS[IM]['kid']} in the jwks of the next text"),
         ("expired", "chain", {fetch_of(TA, IM): unsealed(about(TA, IM, exp=NOW - 5))}, f"{ta_im} expired at {moment(NOW - 5)}"),
@@ -339,7 +341,7 @@ def searches():
     jm = sealed(own(JM, authority_hints=[IM, RP, JM], metadata=endpoint(JM)), JM)
     im = sealed(own(IM, authority_hints=[JM, RP], metadata=endpoint(IM)), IM)
     circle = {page_of(RP): RP_OWN, page_of(IM): im, fetch_of(IM, RP): IM_RP, page_of(JM): jm, fetch_of(JM, IM): unsealed(about(JM, IM))}
-    refused("hints in a circle", circle, 1, ERRORS["chain"], list(circle), *lost("chain", NO_PATH))
+    refused("hints in a circle", circle, 1, ERRORS["chain"], list(circle), *lost("chain", f"{NO_PATH}: {RP} and {IM} hint each other"))
     early, late = ([f"https://{letter}{number}.example" for number in range(31)] for letter in "xy")
     rp = sealed(own(RP, authority_hints=[JM, *early], metadata=METADATA), RP)
     jm = sealed(own(JM, authority_hints=late, metadata=endpoint(JM)), JM)
@@ -356,9 +358,9 @@ def searches():
 
 def faults():
     """A fetch that fails is told by its URL, and isn't taken for a page that isn't there."""
-    for row, page in (("a reset", "reset"), ("silence", "silent")):
-        refused(f"the entity: {row}", {**USUAL, page_of(RP): page}, 7, "", CALLS[:1], *lost("fault", failed(RP)))
-    refused("the superior: a reset", {**USUAL, page_of(IM): "reset"}, 7, "", CALLS[:2], *lost("fault", failed(IM), NO_PATH))
+    for row, page, reason in (("a reset", "reset", RESET), ("silence", "silent", SILENT)):
+        refused(f"the entity: {row}", {**USUAL, page_of(RP): page}, 7, "", CALLS[:1], *lost("fault", failed(RP)), reason)
+    refused("the superior: a reset", {**USUAL, page_of(IM): "reset"}, 7, "", CALLS[:2], *lost("fault", failed(IM), NO_PATH), RESET)
 
 
 def faulty():
@@ -428,7 +430,8 @@ def heeded_federation():
     for node in nodes.values():
         node.ended()
     text, _, lines = out.partition("\n")
-    left = [f"mark 0 (open by {TA}) is left out: its issuer says that it is revoked", f"mark 3 (own by {TA}) is left out: {STATUS} couldn't be asked"]
+    left = [f"mark 0 (open by {TA}) is left out: its issuer says that it is revoked", f"mark 3 (own by {TA}) is left out: {STATUS} couldn't be asked",
+            f"127.0.0.1:{nodes["ta.example"].port}: connection refused; nobody listens there"]
     wanted = 0, "mark 0 refused\nmark 1 active\nmark 2 active\nmark 3 fault\n", said(left)
     tell(f"the asked federation: {(status, lines, sentences)}, not {wanted}"[:2000], (status, lines, sentences) == wanted)
     differs = status or differs_in(f"{text}\n", moments, RP, claims_of(text)["trust_chain"], NOW + 600, {**endpoints(RP), **RESOLVED}, marks[1:3])

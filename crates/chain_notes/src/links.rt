@@ -1,5 +1,6 @@
 // What links the statements of a chain: names and signatures.
 
+use crate::difference::difference_of;
 use crate::named_key::NamedKey;
 use entity_id::EntityId;
 use entity_statement::{SignedStatement, Statement};
@@ -44,6 +45,7 @@ fn link_sentence(about: Sentence, sub: &EntityId, issuer: &EntityId) -> Sentence
         .and(sub.text())
         .and(b"; the text before it is by ")
         .and(issuer.text())
+        .and(difference_of(issuer, sub))
 }
 
 // The issuer of the text before the place.
@@ -72,6 +74,7 @@ fn role_sentence(
             .and(statement.iss.text())
             .and(b", asked was ")
             .and(anchor.text())
+            .and(difference_of(anchor, &statement.iss))
     } else {
         about.and(role_fault(place, own, ends))
     }
@@ -109,6 +112,7 @@ pub(crate) fn explain_signature(
                 .after(about.and(b" is signed by the "))
                 .and(b", which isn't in its own jwks"),
             own,
+            b"",
         ),
         Some(named) if place == 0 && superior_key(entries, &named) => named
             .after(about.and(b": the signature doesn't verify under the "))
@@ -134,23 +138,45 @@ fn signer_sentence(
     keys: &JwkSet,
 ) -> Sentence {
     match entries.get((place as usize).saturating_add(1)) {
-        Some(above) => key_sentence(
-            about,
-            named,
-            &above.statement.jwks,
-            b" in the jwks of the next text",
-        ),
-        None => key_sentence(about, named, keys, b" among the anchor's keys"),
+        Some(above) => stated_sentence(about, named, &above.statement),
+        None => key_sentence(about, named, keys),
     }
 }
 
-// The set in which the key was looked for is that of the next text, or the anchor's for the last.
-fn key_sentence(about: Sentence, named: &NamedKey<'_>, set: &JwkSet, whose: &[u8]) -> Sentence {
-    if named.key_in(set).is_some() {
+// What became of the key among those that the next text states.
+fn stated_sentence(about: Sentence, named: &NamedKey<'_>, above: &Statement) -> Sentence {
+    if named.key_in(&above.jwks).is_some() {
         named
             .after(about.and(b": the signature doesn't verify under the "))
-            .and(whose)
+            .and(b" in the jwks of the next text")
     } else {
-        named.with_other(named.after(about.and(b": there is no ")).and(whose), set)
+        let sentence = named
+            .after(about.and(b": the "))
+            .and(b" isn't among the keys that ")
+            .and(above.iss.text())
+            .and(b" states of ");
+        let sentence = if above.iss == above.sub {
+            sentence.and(b"itself")
+        } else {
+            sentence.and(above.sub.text())
+        };
+        named.with_other(sentence, &above.jwks, b"; is a rotation half done?")
+    }
+}
+
+// What became of it among the anchor's keys.
+fn key_sentence(about: Sentence, named: &NamedKey<'_>, keys: &JwkSet) -> Sentence {
+    if named.key_in(keys).is_some() {
+        named
+            .after(about.and(b": the signature doesn't verify under the "))
+            .and(b" among the anchor's keys")
+    } else {
+        named.with_other(
+            named
+                .after(about.and(b": there is no "))
+                .and(b" among the anchor's keys"),
+            keys,
+            b"",
+        )
     }
 }

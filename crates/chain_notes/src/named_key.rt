@@ -37,8 +37,8 @@ impl<'a> NamedKey<'a> {
             .and(self.kid.as_slice())
     }
 
-    /// Goes on, where the set has a key of that name under the other algorithm, with what that key is of.
-    pub fn with_other(&self, about: Sentence, set: &JwkSet) -> Sentence {
+    /// Goes on, where the set has a key of that name under the other algorithm, with what that key is of, and else with this.
+    pub fn with_other(&self, about: Sentence, set: &JwkSet, or_else: &[u8]) -> Sentence {
         let other = match self.alg {
             Alg::Small => Alg::Fast,
             Alg::Fast => Alg::Small,
@@ -47,7 +47,7 @@ impl<'a> NamedKey<'a> {
             Some(_) => about
                 .and(b"; the key of that name there is of ")
                 .and(algorithm_name(other)),
-            None => about,
+            None => about.and(or_else),
         }
     }
 }

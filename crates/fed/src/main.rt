@@ -16,6 +16,7 @@ mod heeding;
 mod named_file;
 mod performing;
 mod ports;
+mod reasons;
 mod registering;
 mod rehearsing;
 mod resolver;
@@ -28,7 +29,9 @@ use fed_ports::{Memory, RealClock, RealSink, RealSource, Seq, Sink, Text, listen
 use fed_store::RealStore;
 use fed_words::{Call, Service, read_call};
 use named_file::{explain_fault, value_of, warn_of_open_file};
-use plain_notes::{Notes, Sentence, explain_sink};
+use network_notes::{Failures, explain_failures};
+use plain_notes::{Notes, explain_sink};
+use reasons::{explain_listen, explain_unkept, explain_untold};
 use std::alloc::Global;
 use std::env::{Env, VarError};
 use std::io::{Eprint, ErrorKind, IsTerminal};
@@ -36,7 +39,7 @@ use std::process::ExitCode;
 use std::rt::Files;
 use std::{env, str};
 use top::{run, run_with_notes};
-use word_notes::explain_waiting;
+use word_notes::{explain_waiting, page_meant};
 
 // The status of words, or of a file, that aren't of their form.
 const FAULTY: u8 = 2;
@@ -93,12 +96,25 @@ fn serves(alloc: Global, words: &[Text]) -> bool {
 }
 
 // Says that there is no address to listen on.
-fn tell_of_address<R: Eprint>(rt: &R, alloc: Global) {
+fn tell_of_address<R: Env + AllocGlobal + Eprint>(rt: &R, alloc: Global) {
     let mut notes = Notes::new(alloc, None);
-    notes.say(Sentence::of(
-        alloc,
-        b"FED_LISTEN isn't an IPv4 address, four numbers as 127.0.0.1",
-    ));
+    explain_listen(rt, alloc, &mut notes);
+    tell(rt, &notes);
+}
+
+// Writes the page for which words that give no command ask all the same.
+fn tell_of_page<R: Eprint>(rt: &R, alloc: Global, words: &[Text]) {
+    if let Some(page) = page_meant(alloc, words) {
+        if let Ok(text) = str::from_utf8(page) {
+            let _ = eprint!(rt; "{text}");
+        }
+    }
+}
+
+// Says which calls of the network failed, and why.
+fn tell_of_network<R: Eprint>(rt: &R, alloc: Global, failures: &Failures) {
+    let mut notes = Notes::new(alloc, None);
+    explain_failures(alloc, failures, &mut notes);
     tell(rt, &notes);
 }
 
@@ -116,16 +132,45 @@ fn tell_of_waiting<R: Eprint>(rt: &R, alloc: Global, words: &[Text]) {
     tell(rt, &notes);
 }
 
-// Says what the system tells of the file that the words name.
-fn tell_of_file<R: Files + Eprint>(rt: &R, alloc: Global, words: &[Text], status: u8) {
-    let mut notes = Notes::new(alloc, None);
-    let named = value_of(words, b"--ring").or(value_of(words, b"--keys"));
-    match named.or(value_of(words, b"--config")) {
-        Some(path) if status == STORE_FAULT => explain_fault(rt, alloc, path, &mut notes),
+// Says why the file that the words name can't be read or kept.
+fn explain_store<R: Files + AllocGlobal>(rt: &R, alloc: Global, words: &[Text], notes: &mut Notes) {
+    let ring = value_of(words, b"--ring");
+    let named = ring.or(value_of(words, b"--keys"));
+    let is_seen = match named.or(value_of(words, b"--config")) {
+        Some(path) => explain_fault(rt, alloc, path, notes),
+        None => true,
+    };
+    match ring {
+        Some(path) if !is_seen && keeps(words) => explain_unkept(rt, alloc, path, notes),
         _ => {}
+    }
+}
+
+// Whether the words are those of a command that keeps a ring's file.
+fn keeps(words: &[Text]) -> bool {
+    match words {
+        [verb, ..] => verb.as_slice() == b"keygen".as_slice()
+            || verb.as_slice() == b"rotate".as_slice(),
+        [] => false,
+    }
+}
+
+// Says what the system tells of the file that the words name.
+fn tell_of_file<R: Files + AllocGlobal + Eprint>(
+    rt: &R,
+    alloc: Global,
+    words: &[Text],
+    status: u8,
+) {
+    let mut notes = Notes::new(alloc, None);
+    if status == STORE_FAULT {
+        explain_store(rt, alloc, words, &mut notes);
     }
     match value_of(words, b"--ring") {
         Some(path) if status == 0 => warn_of_open_file(rt, alloc, path, &mut notes),
+        Some(path) if status == SINK_FAULT && keeps(words) => {
+            explain_untold(rt, alloc, path, &mut notes);
+        }
         _ => {}
     }
     tell(rt, &notes);
@@ -140,15 +185,21 @@ fn with_build<R: Files, K: Sink>(rt: &R, words: &[Text], out: &mut K, status: u8
     }
 }
 
-// Says what the system tells of files, writes what the program was built from, and gives the status.
-fn ended<R: Files + Eprint, K: Sink>(
+// Says what the system tells of files and of the network, writes what was asked for otherwise than by a command and what the program was
+// built from, and gives the status.
+fn ended<R: Files + AllocGlobal + Eprint, K: Sink>(
     rt: &R,
     alloc: Global,
     words: &[Text],
+    failures: &Failures,
     out: &mut K,
     status: u8,
 ) -> u8 {
     tell_of_file(rt, alloc, words, status);
+    tell_of_network(rt, alloc, failures);
+    if status == FAULTY {
+        tell_of_page(rt, alloc, words);
+    }
     let shown = with_build(rt, words, out, status);
     if shown != status {
         let mut notes = Notes::new(alloc, None);
@@ -211,5 +262,6 @@ fn main(rt: HostRuntime) -> ExitCode {
         &mut joined,
         &mut said,
     );
-    ExitCode::from(ended(&rt, alloc, words.as_slice(), &mut out, status))
+    let failures = *net.failures();
+    ExitCode::from(ended(&rt, alloc, words.as_slice(), &failures, &mut out, status))
 }

@@ -17,17 +17,29 @@ pub fn value_of<'a>(words: &'a [Text], name: &[u8]) -> Option<&'a str> {
     }
 }
 
-/// Says what keeps the file from being read or kept.
-pub fn explain_fault<R: Files>(rt: &R, alloc: Global, path: &str, notes: &mut Notes) {
+/// Says what keeps the file from being read or kept, by what stands under its name, and answers whether that is seen there.
+pub fn explain_fault<R: Files>(rt: &R, alloc: Global, path: &str, notes: &mut Notes) -> bool {
     if fs::metadata(rt, path).is_ok_and(|found| found.is_dir()) {
         notes.say(Sentence::of(alloc, path.as_bytes()).and(b" is a folder, and not a file"));
-    } else if fs::open(rt, path).is_err_and(|error| error.kind() == ErrorKind::PermissionDenied) {
-        notes.say(Sentence::of(alloc, path.as_bytes()).and(b" isn't yours to read"));
-    } else if let Some((folder, _)) = path.rsplit_once('/') {
-        if !folder.is_empty() && fs::metadata(rt, folder).is_err() {
-            notes.say(Sentence::of(alloc, b"no such folder: ").and(folder.as_bytes()));
-        }
+        return true;
     }
+    if fs::open(rt, path).is_err_and(|error| error.kind() == ErrorKind::PermissionDenied) {
+        notes.say(Sentence::of(alloc, path.as_bytes()).and(b" isn't yours to read"));
+        return true;
+    }
+    explain_folder(rt, alloc, path, notes)
+}
+
+// Says that the folder of the file isn't there, where it isn't.
+fn explain_folder<R: Files>(rt: &R, alloc: Global, path: &str, notes: &mut Notes) -> bool {
+    let Some((folder, _)) = path.rsplit_once('/') else {
+        return false;
+    };
+    if folder.is_empty() || fs::metadata(rt, folder).is_ok() {
+        return false;
+    }
+    notes.say(Sentence::of(alloc, b"no such folder: ").and(folder.as_bytes()));
+    true
 }
 
 /// Says so where others than its owner can read or write the ring file.

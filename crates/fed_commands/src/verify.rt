@@ -21,7 +21,7 @@ pub fn verify<R: OpensLedgers>(
     ensures { IfOk result (IsVerified key.now text.now) }
 {
     let finding = examine(rt, alloc, key, text)?;
-    explain_finding(alloc, &finding, text, notes);
+    explain_finding(alloc, key, &finding, text, notes);
     let status = finding.status();
     let text = finding.line(alloc);
     drop(finding);
@@ -33,9 +33,17 @@ pub fn verify<R: OpensLedgers>(
 }
 
 // Says why the text isn't valid.
-fn explain_finding(alloc: Global, finding: &Finding, text: &[u8], notes: &mut Notes) {
+fn explain_finding(
+    alloc: Global,
+    key: &[u8; 32],
+    finding: &Finding,
+    text: &[u8],
+    notes: &mut Notes,
+) {
     match finding {
         Finding::Valid(_) => {},
-        Finding::Form | Finding::Names | Finding::Signature => explain_verify(alloc, text, notes),
+        Finding::Form | Finding::Names | Finding::Signature => {
+            explain_verify(alloc, Some(key), text, notes);
+        }
     }
 }

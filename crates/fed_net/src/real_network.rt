@@ -6,6 +6,7 @@ use crate::real_peer::RealPeer;
 use crate::timed::{left, read, write};
 use fed_base::{Failed, Memory};
 use fed_ports::{Address, Network};
+use network_notes::{Failures, Reason};
 use std::alloc::Global;
 use std::io::ErrorKind;
 use std::net::{Ipv4Addr, Net, OpenListener, SocketAddr, SocketAddrV4, TcpListener, TcpStream};
@@ -31,9 +32,11 @@ pub struct RealNetwork<
     logs: bool,
     stream: Option<TcpStream>,
     opened: Option<Instant>,
+    to: Option<Address>,
     listener: Option<TcpListener>,
     port: u16,
     faults: u64,
+    failures: Failures,
 }
 
 impl<
@@ -51,10 +54,33 @@ impl<
             logs,
             stream: None,
             opened: None,
+            to: None,
             listener: None,
             port: 0,
             faults: 0,
+            failures: Failures::new(),
         }
+    }
+
+    /// Which of its calls failed, and why, as the system said it.
+    pub fn failures(&self) -> &Failures {
+        &self.failures
+    }
+}
+
+// Tells that an exchange with that address failed: it took too long, or the other side ended it.
+fn tell<R: SystemClock>(
+    rt: &R,
+    opened: Option<Instant>,
+    to: Option<Address>,
+    failures: &mut Failures,
+) {
+    if let Some(to) = to {
+        let reason = match left(rt, opened, EXCHANGE) {
+            Some(_) => Reason::Broken,
+            None => Reason::Silent,
+        };
+        failures.add(to, reason);
     }
 }
 
@@ -96,6 +122,8 @@ impl<'a, R: Net<Listener = TcpListener, Stream = TcpStream> + SystemClock + Epri
     fn open(&mut self, to: &Address) -> Result<(), Failed> {
         self.stream = None;
         self.opened = Instant::now(self.rt).ok();
+        self.to = Some(*to);
+        let at = *to;
         let to = socket_address(to.ip, to.port);
         match self.rt.connect_timeout(to, Duration::from_secs(CONNECT)) {
             Ok(stream) => {
@@ -103,7 +131,8 @@ impl<'a, R: Net<Listener = TcpListener, Stream = TcpStream> + SystemClock + Epri
                 self.stream = Some(stream);
                 Ok(())
             }
-            Err(_) => {
+            Err(error) => {
+                self.failures.add(at, Reason::of(error.kind()));
                 self.faults = self.faults.saturating_add(1);
                 Err(Failed)
             }
@@ -117,6 +146,7 @@ impl<'a, R: Net<Listener = TcpListener, Stream = TcpStream> + SystemClock + Epri
         match write(stream, left(self.rt, self.opened, EXCHANGE), piece) {
             Some(n) => Ok(n),
             None => {
+                tell(self.rt, self.opened, self.to, &mut self.failures);
                 self.faults = self.faults.saturating_add(1);
                 Err(Failed)
             }
@@ -130,6 +160,7 @@ impl<'a, R: Net<Listener = TcpListener, Stream = TcpStream> + SystemClock + Epri
         match read(stream, left(self.rt, self.opened, EXCHANGE), into) {
             Some(n) => Ok(n),
             None => {
+                tell(self.rt, self.opened, self.to, &mut self.failures);
                 self.faults = self.faults.saturating_add(1);
                 Err(Failed)
             }
@@ -147,7 +178,12 @@ impl<'a, R: Net<Listener = TcpListener, Stream = TcpStream> + SystemClock + Epri
                 self.port = to;
                 Ok(())
             }
-            Err(_) => {
+            Err(error) => {
+                let at = Address {
+                    ip: self.ip,
+                    port: to,
+                };
+                self.failures.add(at, Reason::of(error.kind()));
                 self.faults = self.faults.saturating_add(1);
                 Err(Failed)
             }
@@ -179,9 +215,11 @@ impl<'a, R: Net<Listener = TcpListener, Stream = TcpStream> + SystemClock + Epri
             logs: self.logs,
             stream: None,
             opened: None,
+            to: None,
             listener: None,
             port: 0,
             faults: 0,
+            failures: Failures::new(),
         })
     }
 }

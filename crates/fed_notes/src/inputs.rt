@@ -14,17 +14,39 @@ pub fn explain_long_input(alloc: Global, notes: &mut Notes) {
 
 /// Says why the input isn't the seeds of a key.
 pub fn explain_seeds(alloc: Global, fault: SeedsFault, notes: &mut Notes) {
-    let about = Sentence::of(alloc, b"standard input: ");
+    let about = Sentence::of(alloc, b"standard input");
     notes.say(match fault {
+        SeedsFault::Prefix => about.and(
+            b" begins with 0x; the seeds of a key are 96 hexadecimal digits alone",
+        ),
+        SeedsFault::Blank(place) => about
+            .and(b": byte ")
+            .and_number(alloc, place)
+            .and(b" is a space or a line end; the seeds of a key are 96 hexadecimal digits in one piece, as | tr -d ' \\n' leaves them"),
         SeedsFault::Digit(place) => about
-            .and(b"byte ")
+            .and(b": byte ")
             .and_number(alloc, place)
             .and(b" isn't a hexadecimal digit; the seeds of a key are 96"),
         SeedsFault::Length(digits) => about
-            .and(b"it has ")
+            .and(b": it has ")
             .and_number(alloc, digits)
             .and(b" hexadecimal digits; the seeds of a key are 96"),
     });
+}
+
+/// Says that the seeds of a key, which are accepted, are one byte over and over.
+pub fn warn_of_seeds(alloc: Global, notes: &mut Notes) {
+    notes.say(Sentence::of(
+        alloc,
+        b"warning: the seeds are one byte repeated, so that anybody can make this key; take 48 random bytes: head -c 48 /dev/urandom | od -An -v -tx1 | tr -d ' \\n'",
+    ));
+}
+
+/// Says where a key that is made has ended already, at the moment of the notes.
+pub fn warn_of_key_end(alloc: Global, exp: u64, notes: &mut Notes) {
+    if notes.moment().is_some_and(|moment| exp <= moment) {
+        notes.say(Sentence::of(alloc, b"warning: the key ended at ").and_moment(alloc, exp));
+    }
 }
 
 /// Says that a key would end no later than it begins.

@@ -22,7 +22,7 @@ pub use files::{
 };
 pub use inputs::{
     explain_length, explain_long_input, explain_numbers, explain_order, explain_seeds,
-    explain_unless_list, explain_unless_object,
+    explain_unless_list, explain_unless_object, warn_of_key_end, warn_of_seeds,
 };
 pub use marks::explain_mark_claims;
 pub use ring_files::{explain_migration, warn_of_ended_signer};

@@ -74,14 +74,20 @@ fn look_up<R: Wait + Threads + OpensLedgers + Sync, N: Network + Drop>(
     let call = open_call(alloc, parts, net)?;
     let request = request_for(alloc, entity, aim.anchor)?;
     let outcome = resolve_at(rt, alloc, call, &request, aim.moment, net, worn);
-    tell(alloc, &request, &outcome, notes);
+    tell(rt, alloc, &request, &outcome, notes);
     let Outcome { result, trace } = outcome;
     drop(trace);
     found_in(alloc, result)
 }
 
 // Says why no chain was found. Where memory was wanting the end of the command says so.
-fn tell(alloc: Global, request: &ResolveRequest, outcome: &Outcome, notes: &mut Notes) {
+fn tell<R: OpensLedgers>(
+    rt: &R,
+    alloc: Global,
+    request: &ResolveRequest,
+    outcome: &Outcome,
+    notes: &mut Notes,
+) {
     if !matches!(&outcome.result, Err(Refusal::Memory)) {
         explain_outcome(rt, alloc, request, outcome, notes);
     }

@@ -1,11 +1,14 @@
 // What a person reads where an entity wasn't resolved.
 
-use crate::pages::explain_pages;
+use crate::configurations::configurations_of;
+use crate::pages::{Round, explain_pages};
 use crate::path::explain_path;
 use chain_climb::Bounds;
 use fed_base::OpensLedgers;
+use fed_ports::Page;
 use fed_resolver::{Outcome, Refusal, ResolveRequest};
 use plain_notes::{Notes, Sentence, explain_memory, explain_worn};
+use resolve_round::{Got, Search, Trace};
 use std::alloc::Global;
 
 /// Says why there is no reply: first the answer in words, then each page of the last round that wasn't good, and what failed on a path up
@@ -20,15 +23,54 @@ pub fn explain_outcome<R: OpensLedgers>(
     let Err(refusal) = &outcome.result else {
         return;
     };
-    explain_refusal(alloc, refusal, outcome.trace.bounds, notes);
+    let search = outcome.trace.searches.as_slice().last();
+    // Where the leaf's host has no route, that is what is said of its page.
+    let unrouted = matches!(refusal, Refusal::NotFound) && search.is_some_and(begins_unrouted);
+    if !unrouted {
+        explain_refusal(alloc, refusal, outcome.trace.bounds, notes);
+    }
     if matches!(refusal, Refusal::Worn(_) | Refusal::Memory) {
         return;
     }
-    if let Some(search) = outcome.trace.searches.as_slice().last() {
-        explain_pages(alloc, &outcome.trace, search, notes);
-        if search.paths > 0 {
-            explain_path(rt, alloc, request, &outcome.trace, search, notes);
-        }
+    if let Some(search) = search {
+        explain_search(rt, alloc, request, &outcome.trace, search, notes);
+    }
+}
+
+// Whether the first page that was wanted has a host without a route.
+fn begins_unrouted(search: &Search) -> bool {
+    match search.asks.as_slice() {
+        [first, ..] => matches!(first.got, Got::Fetched(Page::NoRoute)),
+        [] => false,
+    }
+}
+
+// Says of each page of the round why it isn't good, and what failed on a path.
+fn explain_search<R: OpensLedgers>(
+    rt: &R,
+    alloc: Global,
+    request: &ResolveRequest,
+    trace: &Trace,
+    search: &Search,
+    notes: &mut Notes,
+) {
+    let configurations = configurations_of(alloc, search);
+    let round = Round {
+        trace,
+        search,
+        configurations: configurations.as_slice(),
+    };
+    explain_pages(alloc, &round, notes);
+    if search.paths > 0 {
+        explain_path(
+            rt,
+            alloc,
+            request,
+            trace,
+            search,
+            configurations.as_slice(),
+            notes,
+        );
     }
 }
 

@@ -4,6 +4,7 @@
 //! a path up to the trust anchor. No clause promises a sentence.
 #![tactic(auto)]
 
+mod configurations;
 mod explain;
 mod pages;
 mod path;

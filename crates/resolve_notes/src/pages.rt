@@ -1,5 +1,6 @@
 // What a person reads of the pages of a round.
 
+use crate::configurations::{Known, fetch_at, wanted_at};
 use crate::reading::belongs;
 use chain_check::{Reason, Verdict};
 use chain_notes::{Asked, NamedKey, explain_verdict};
@@ -10,14 +11,59 @@ use plain_notes::{Notes, Sentence};
 use resolve_round::{Ask, Got, Search, Trace, checked};
 use std::alloc::Global;
 
+// A round with its call's trace, and the configurations that it got.
+#[derive(Clone, Copy, Drop)]
+pub(crate) struct Round<'a> {
+    pub(crate) trace: &'a Trace,
+    pub(crate) search: &'a Search,
+    pub(crate) configurations: &'a [Known],
+}
+
 // Says of each page of the round why it isn't good.
-pub(crate) fn explain_pages(alloc: Global, trace: &Trace, search: &Search, notes: &mut Notes) {
-    for ask in search.asks.as_slice() {
+pub(crate) fn explain_pages(alloc: Global, round: &Round<'_>, notes: &mut Notes) {
+    for (at, ask) in round.search.asks.as_slice().iter().enumerate() {
         match &ask.got {
             Got::Fault => notes.say(about(alloc, ask).and(b" couldn't be fetched")),
-            Got::Fetched(page) => explain_page(alloc, trace, search, ask, page, notes),
+            Got::Fetched(Page::NoRoute) => explain_no_route(alloc, round, at, ask, notes),
+            Got::Fetched(page) => explain_page(alloc, round, ask, page, notes),
             Got::Hit(_) => {},
         }
+    }
+}
+
+// Says that the host of a URL has no route, once for each host.
+fn explain_no_route(alloc: Global, round: &Round<'_>, at: usize, ask: &Ask, notes: &mut Notes) {
+    let host = host_of(ask.url.as_slice());
+    let earlier = round
+        .search
+        .asks
+        .as_slice()
+        .iter()
+        .take(at)
+        .any(|other| is_unrouted(other, host));
+    if !earlier {
+        notes.say(
+            Sentence::of(alloc, b"there is no route to ")
+                .and(host)
+                .and(b"; add one to resolver.routes"),
+        );
+    }
+}
+
+fn is_unrouted(ask: &Ask, host: &[u8]) -> bool {
+    matches!(ask.got, Got::Fetched(Page::NoRoute)) && host_of(ask.url.as_slice()) == host
+}
+
+// The host of a URL, without its port.
+fn host_of(url: &[u8]) -> &[u8] {
+    let rest = match url.strip_prefix(b"https://") {
+        Some(rest) => rest,
+        None => url.strip_prefix(b"http://").unwrap_or(url),
+    };
+    let ends = |byte: &u8| *byte == b'/' || *byte == b':' || *byte == b'?';
+    match rest.iter().position(ends) {
+        Some(end) => &rest[..end],
+        None => rest,
     }
 }
 
@@ -26,65 +72,91 @@ fn about(alloc: Global, ask: &Ask) -> Sentence {
     Sentence::of(alloc, ask.url.as_slice())
 }
 
-fn explain_page(
-    alloc: Global,
-    trace: &Trace,
-    search: &Search,
-    ask: &Ask,
-    page: &Page,
-    notes: &mut Notes,
-) {
+fn explain_page(alloc: Global, round: &Round<'_>, ask: &Ask, page: &Page, notes: &mut Notes) {
     match page {
-        Page::Document(text) => explain_document(alloc, trace, search, ask, text, notes),
-        Page::Refusal(status) => notes.say(
-            about(alloc, ask)
-                .and(b" is answered with status ")
-                .and_number(alloc, u64::from(*status)),
-        ),
+        Page::Document(text) => explain_document(alloc, round, ask, text, notes),
+        Page::Refusal(status) => notes.say(refusal_sentence(alloc, round, ask, *status)),
         Page::Garbled => notes.say(about(alloc, ask).and(b" isn't answered as HTTP is")),
         Page::TooLong => notes.say(about(alloc, ask).and(b" has more than 262,144 bytes")),
-        Page::NoRoute => notes.say(about(alloc, ask).and(
-            b" has a host to which the configuration has no route",
-        )),
+        Page::NoRoute => {},
+    }
+}
+
+// What a status says: of a statement's endpoint 404 says that the entity isn't one of its subordinates.
+fn refusal_sentence(alloc: Global, round: &Round<'_>, ask: &Ask, status: u16) -> Sentence {
+    match fetch_at(alloc, round.configurations, ask.url.as_slice()) {
+        Some(fetch) if status == 404 => Sentence::of(alloc, fetch.superior.text())
+            .and(b" doesn't state ")
+            .and(fetch.subject.text())
+            .and(b" (404): it isn't its subordinate"),
+        _ => about(alloc, ask)
+            .and(b" is answered with status ")
+            .and_number(alloc, u64::from(status)),
     }
 }
 
 // A statement that a URL gave.
 fn explain_statement(
     alloc: Global,
-    trace: &Trace,
-    search: &Search,
+    round: &Round<'_>,
     ask: &Ask,
     signed: &SignedStatement,
     notes: &mut Notes,
 ) {
     let statement = &signed.statement;
-    if belongs(alloc, search, ask, statement) {
-        explain_configuration(alloc, trace, search, ask, signed, notes);
-    } else {
-        notes.say(
+    if statement.iss == statement.sub {
+        explain_own(alloc, round, ask, signed, notes);
+    } else if !belongs(alloc, round.search, ask, statement) {
+        notes.say(other_sentence(alloc, ask, statement));
+    }
+}
+
+// A text that isn't the one that is wanted there.
+fn other_sentence(alloc: Global, ask: &Ask, statement: &Statement) -> Sentence {
+    about(alloc, ask)
+        .and(b" has another text, by ")
+        .and(statement.iss.text())
+        .and(b" about ")
+        .and(statement.sub.text())
+}
+
+// A configuration that a URL gave: the one that was wanted there, or another's.
+fn explain_own(
+    alloc: Global,
+    round: &Round<'_>,
+    ask: &Ask,
+    signed: &SignedStatement,
+    notes: &mut Notes,
+) {
+    let there = &signed.statement.iss;
+    let wanted = wanted_at(
+        alloc,
+        &round.search.leaf,
+        round.configurations,
+        ask.url.as_slice(),
+        there,
+    );
+    match wanted {
+        Some(wanted) if wanted.entity == there => {
+            explain_configuration(alloc, round, ask, signed, notes);
+        }
+        Some(wanted) => notes.say(wanted.after(
             about(alloc, ask)
-                .and(b" has another text, by ")
-                .and(statement.iss.text())
-                .and(b" about ")
-                .and(statement.sub.text()),
-        );
+                .and(b" is the configuration of ")
+                .and(there.text())
+                .and(b"; "),
+            there,
+        )),
+        None => notes.say(other_sentence(alloc, ask, &signed.statement)),
     }
 }
 
 // Says why the text that stands at a URL isn't the one that is wanted there.
-fn explain_document(
-    alloc: Global,
-    trace: &Trace,
-    search: &Search,
-    ask: &Ask,
-    text: &Text,
-    notes: &mut Notes,
-) {
+fn explain_document(alloc: Global, round: &Round<'_>, ask: &Ask, text: &Text, notes: &mut Notes) {
     match SignedStatement::read(alloc, text.as_slice()) {
-        Ok(None) => explain_text(alloc, trace, search, ask, text, notes),
+        Ok(None) => explain_text(alloc, round, ask, text, notes),
         Ok(Some(signed)) => {
-            explain_statement(alloc, trace, search, ask, &signed, notes);
+            explain_statement(alloc, round, ask, &signed, notes);
             drop(signed);
         }
         Err(_) => {},
@@ -92,14 +164,7 @@ fn explain_document(
 }
 
 // Says why the text is no statement.
-fn explain_text(
-    alloc: Global,
-    trace: &Trace,
-    search: &Search,
-    ask: &Ask,
-    text: &Text,
-    notes: &mut Notes,
-) {
+fn explain_text(alloc: Global, round: &Round<'_>, ask: &Ask, text: &Text, notes: &mut Notes) {
     let Some(chain) = alone(alloc, text) else {
         return;
     };
@@ -108,9 +173,9 @@ fn explain_text(
         reason: Reason::Form,
     };
     let asked = Asked {
-        anchor: &search.leaf,
-        keys: &trace.keys,
-        moment: trace.moment,
+        anchor: &round.search.leaf,
+        keys: &round.trace.keys,
+        moment: round.trace.moment,
     };
     notes.say(about(alloc, ask).and(b" has no entity statement:"));
     explain_verdict(alloc, &chain, &asked, &verdict, notes);
@@ -127,17 +192,13 @@ fn alone(alloc: Global, text: &Text) -> Option<Seq<Text>> {
 // Says why a configuration isn't good. Of a statement about another nothing more is wanted before its chain is judged.
 fn explain_configuration(
     alloc: Global,
-    trace: &Trace,
-    search: &Search,
+    round: &Round<'_>,
     ask: &Ask,
     signed: &SignedStatement,
     notes: &mut Notes,
 ) {
     let statement = &signed.statement;
-    if statement.iss != statement.sub {
-        return;
-    }
-    let moment = trace.moment;
+    let moment = round.trace.moment;
     if statement.exp <= moment {
         notes.say(
             about(alloc, ask)
@@ -153,8 +214,8 @@ fn explain_configuration(
                 .and_moment(alloc, moment),
         );
     } else {
-        explain_seal(alloc, trace, ask, signed, notes);
-        explain_endpoint(alloc, search, ask, statement, notes);
+        explain_seal(alloc, round.trace, ask, signed, notes);
+        explain_endpoint(alloc, round.search, ask, statement, notes);
     }
 }
 
@@ -193,6 +254,7 @@ fn explain_seal(
                 .after(about.and(b" is signed by the "))
                 .and(b", which isn't in its own jwks"),
             own,
+            b"",
         )),
         Some(public) => {
             let text = signed.compact.whole.as_slice();

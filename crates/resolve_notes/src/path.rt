@@ -1,5 +1,6 @@
 // What a person reads of a path up to the trust anchor.
 
+use crate::configurations::{Known, circle_in};
 use crate::reading::{belongs, read_at, read_of};
 use chain_check::{Verdict, check_chain};
 use chain_notes::{Asked, explain_verdict};
@@ -21,10 +22,11 @@ pub(crate) fn explain_path<R: OpensLedgers>(
     request: &ResolveRequest,
     trace: &Trace,
     search: &Search,
+    configurations: &[Known],
     notes: &mut Notes,
 ) {
     let Some(chain) = last_chain(alloc, request, search) else {
-        notes.say(Sentence::of(alloc, b"no path came up to ").and(request.anchor.text()));
+        notes.say(no_path_sentence(alloc, request, configurations));
         return;
     };
     let mut steps = Steps {
@@ -46,6 +48,27 @@ pub(crate) fn explain_path<R: OpensLedgers>(
     };
     notes.say(path_sentence(alloc, told, chain.as_slice()));
     explain_verdict(alloc, &chain, &asked, &verdict, notes);
+}
+
+// That no path came up to the trust anchor, and what of hints is seen to be the cause.
+fn no_path_sentence(alloc: Global, request: &ResolveRequest, configurations: &[Known]) -> Sentence {
+    let about = Sentence::of(alloc, b"no path came up to ").and(request.anchor.text());
+    let leaf = configurations
+        .iter()
+        .find(|known| known.entity == request.sub);
+    match (leaf, circle_in(configurations)) {
+        (Some(leaf), _) if leaf.hints.as_slice().is_empty() => about
+            .and(b": ")
+            .and(request.sub.text())
+            .and(b" states no authority_hints"),
+        (_, Some(circle)) => about
+            .and(b": ")
+            .and(circle.subject.text())
+            .and(b" and ")
+            .and(circle.superior.text())
+            .and(b" hint each other"),
+        _ => about,
+    }
 }
 
 // The texts of such a path, from the leaf's configuration up.
@@ -168,7 +191,8 @@ fn add_own(alloc: Global, search: &Search, entity: &EntityId, chain: &mut Seq<Te
     };
     match read_at(alloc, search, &url) {
         Some(signed) => {
-            let is_added = add(alloc, &signed.compact.whole, chain);
+            let is_added = signed.statement.sub == *entity
+                && add(alloc, &signed.compact.whole, chain);
             drop(signed);
             is_added
         }

@@ -21,7 +21,11 @@ fn place_of(alloc: Global, search: &Search, statement: &Statement) -> Option<Tex
         return Some(own);
     }
     let issuer = read_at(alloc, search, &own)?;
-    let place = place_by(alloc, &issuer.statement, &statement.sub);
+    let place = if issuer.statement.iss == statement.iss {
+        place_by(alloc, &issuer.statement, &statement.sub)
+    } else {
+        None
+    };
     drop(issuer);
     place
 }

@@ -5,14 +5,14 @@ ghost use Rattle.ring_commands.specs.Keygens.{keygen_reply, public_line};
 
 use crate::reply::{Reply, plain};
 use fed_json::write_tree;
-use fed_notes::{explain_order, explain_seeds};
+use fed_notes::{explain_order, explain_seeds, warn_of_key_end, warn_of_seeds};
 use fed_ports::{Alg, Memory, Text};
 use fed_words::Moment;
 use hex::FromHex;
 use jwk_set::{Jwk, thumbprint, write_key};
 use key_ring::{RingFault, first_file};
 use plain_notes::Notes;
-use ring_faults::seeds_fault;
+use ring_faults::{is_one_byte, seeds_fault};
 use slh_dsa::KeyPair;
 use std::alloc::Global;
 
@@ -33,11 +33,17 @@ pub fn keygen(
         return plain(alloc, 2, b"input\n");
     };
     match first_file(alloc, alg, &seeds, at.seconds(), exp.seconds()) {
-        Ok(file) => Ok(Reply {
-            status: 0,
-            text: public_line(alloc, &KeyPair::from_seeds(alg, &seeds))?,
-            kept: Some(file),
-        }),
+        Ok(file) => {
+            if is_one_byte(&seeds) {
+                warn_of_seeds(alloc, notes);
+            }
+            warn_of_key_end(alloc, exp.seconds(), notes);
+            Ok(Reply {
+                status: 0,
+                text: public_line(alloc, &KeyPair::from_seeds(alg, &seeds))?,
+                kept: Some(file),
+            })
+        }
         Err(RingFault::Memory) => Err(Memory),
         Err(_) => {
             explain_order(alloc, at.seconds(), exp.seconds(), notes);

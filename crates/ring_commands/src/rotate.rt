@@ -6,13 +6,13 @@ ghost use Rattle.key_ring.specs.Changes.{add_key, kid_added, retire_key, revoke_
 ghost use Rattle.ring_commands.specs.Rotations.{IsRefusedAs, add_reply, change_reply};
 
 use crate::reply::{Reply, plain};
-use fed_notes::{explain_change, explain_seeds};
+use fed_notes::{explain_change, explain_seeds, warn_of_key_end, warn_of_seeds};
 use fed_ports::{Alg, Memory, MemoryStore, Seq, Text};
 use fed_words::Moment;
 use hex::FromHex;
 use key_ring::{KeyRing, RevokeReason, RingFault};
 use plain_notes::Notes;
-use ring_faults::seeds_fault;
+use ring_faults::{is_one_byte, seeds_fault};
 use std::alloc::Global;
 
 // The room for a ring's file, in bytes: 16 keys have less than half of it.
@@ -67,7 +67,13 @@ fn add_key(
         at.seconds(),
         exp.seconds(),
     ) {
-        Ok(kid) => changed(alloc, kid, store.file(b"")),
+        Ok(kid) => {
+            if is_one_byte(seeds) {
+                warn_of_seeds(alloc, notes);
+            }
+            warn_of_key_end(alloc, exp.seconds(), notes);
+            changed(alloc, kid, store.file(b""))
+        }
         Err(fault) => refused(alloc, &fault, notes),
     }
 }

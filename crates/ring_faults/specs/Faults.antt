@@ -6,7 +6,7 @@ use Rattle.key_ring.specs.Readings.{listed_in}
 use Rattle.ring_faults.specs.declared.file_fault.FileFault.{FileFault}
 use Rattle.ring_faults.specs.declared.file_fault.FileFault.TheVariants.{Text, NoKeys, Count, Key, NoVersion, NoLive, Other, Memory}
 use Rattle.ring_faults.specs.declared.seeds.SeedsFault.{SeedsFault}
-use Rattle.ring_faults.specs.declared.seeds.SeedsFault.TheVariants.{Digit, Length}
+use Rattle.ring_faults.specs.declared.seeds.SeedsFault.TheVariants.{Prefix, Blank, Digit, Length}
 use Rattle.ring_faults.specs.declared.bytes.TextFault.{TextFault}
 
 -- a kind of bytes, and nothing else
@@ -15,6 +15,8 @@ IsTextFault fault = (kind : TextFault) × (fault ≡ Text kind)
 
 -- a place in the input, or its length
 abbrev pub IsSeedsFault : List ℕ → SeedsFault → Type 0
+IsSeedsFault input Prefix = Unit {0}
+IsSeedsFault input (Blank place) = place < length input
 IsSeedsFault input (Digit place) = place < length input
 IsSeedsFault input (Length digits) = digits ≡ length input
 

@@ -16,4 +16,4 @@ pub use file_fault::FileFault;
 pub use finding::{is_old_ring, ring_fault};
 pub use key_fault::KeyFault;
 pub use key_ring::{KeyState, KeyTerm, OrderFault, RevokeReason, RingFault, moment_at};
-pub use seeds::{SeedsFault, seeds_fault};
+pub use seeds::{SeedsFault, is_one_byte, seeds_fault};

@@ -56,7 +56,7 @@ fn explain_refused(alloc: Global, text: &[u8], notes: &mut Notes) {
             b"standard input: the claims aren't a JSON object",
         )),
         Some(fault) => explain_mark_claims(alloc, &fault, notes),
-        None => explain_verify(alloc, text, notes),
+        None => explain_verify(alloc, None, text, notes),
     }
 }
 

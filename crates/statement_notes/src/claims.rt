@@ -40,7 +40,20 @@ fn explain_fault(
     match fault {
         StatementFault::Keys(fault) => explain_keys(alloc, about, payload, *fault, notes),
         StatementFault::Memory => {},
+        StatementFault::Missing(_) if is_mark(alloc, payload) => {
+            notes.say(fault_sentence(about, fault).and(
+                b"; these are claims of a trust mark, whose --typ is trust-mark+jwt",
+            ));
+        }
         _ => notes.say(fault_sentence(about, fault)),
+    }
+}
+
+// Whether claims have the type of a trust mark (OpenID Federation 1.0 section 7.1), which no statement has.
+fn is_mark(alloc: Global, payload: &[u8]) -> bool {
+    match read_tree(alloc, payload) {
+        Ok(claims) => find(object_members(&claims), b"trust_mark_type").is_some(),
+        Err(_) => false,
     }
 }
 

@@ -29,6 +29,9 @@ pub(crate) fn explain_set_fault(
 ) {
     match fault {
         SetFault::NotSet => explain_no_set(alloc, about, tree, notes),
+        SetFault::Shape(place) if has_seeds(key_at(tree, place)) => notes.say(about.and(
+            b" is a key ring, with secret seeds; fed public --ring writes its key set",
+        )),
         SetFault::Shape(place) => notes.say(
             about
                 .and(b": key ")
@@ -76,6 +79,14 @@ fn explain_no_set(alloc: Global, about: Sentence, tree: &Json, notes: &mut Notes
             .and(kind_of(tree))
             .and(b"; a key set is {\"keys\":[..]}"),
     });
+}
+
+// Whether a key has seeds, as those of a ring's file have.
+fn has_seeds(key: Option<&Json>) -> bool {
+    match key {
+        Some(key) => find(object_members(key), b"seeds").is_some(),
+        None => false,
+    }
 }
 
 // What is wrong with an object without `keys`.

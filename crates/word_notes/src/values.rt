@@ -18,14 +18,36 @@ pub(crate) fn explain_value(
     if taken.is_empty() {
         return false;
     }
-    notes.say(
-        Sentence::of(alloc, name.word())
-            .and(b" takes ")
-            .and(taken)
-            .and(b", and not ")
-            .and(value),
-    );
+    let sentence = Sentence::of(alloc, name.word())
+        .and(b" takes ")
+        .and(taken)
+        .and(b", and not ")
+        .and(value);
+    notes.say(match name.form() {
+        Form::Moment => with_date(sentence, value),
+        _ => sentence,
+    });
     true
+}
+
+// Behind a moment that isn't in seconds: how the system gives it.
+fn with_date(sentence: Sentence, value: &[u8]) -> Sentence {
+    if value == b"now".as_slice() {
+        sentence.and(b"; date +%s gives the present one")
+    } else if is_date(value) {
+        sentence.and(b"; date -d ").and(value).and(b" +%s gives it")
+    } else {
+        sentence
+    }
+}
+
+// Whether the value is written as a date is, from the year on: 2026-11-30, or 2026-11-30T12:00:00Z.
+fn is_date(value: &[u8]) -> bool {
+    value.len() >= 10
+        && value.get(4).is_some_and(|byte| *byte == b'-')
+        && value
+            .iter()
+            .all(|byte| byte.is_ascii_digit() || b"-:TZ".contains(byte))
 }
 
 // What the option takes, where the value isn't such a one, and else nothing.

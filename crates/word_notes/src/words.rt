@@ -1,8 +1,10 @@
 // What is wrong with the words of a command line.
 
 use crate::moment_notes::warn_of_moments;
+use crate::pages::page_asked;
+use crate::strays::{Given, explain_stray, option_of};
 use crate::values::explain_value;
-use base64url::decode_32;
+use crate::verify_words::explain_verify;
 use fed_base::Text;
 use fed_help::{OptionName, USAGES, Usage, VERBS, Verb};
 use fed_words::{Command, option_in};
@@ -24,6 +26,8 @@ fn explain_words(alloc: Global, words: &[Text], notes: &mut Notes) {
             notes.say(Sentence::of(alloc, b"no command is given"));
             say_usages(alloc, notes);
         }
+        // The page that they ask for is written by itself.
+        _ if page_asked(words).is_some() => {}
         [verb, rest @ ..] => explain_verb(alloc, verb.as_slice(), rest, notes),
     }
 }
@@ -37,28 +41,10 @@ fn explain_verb(alloc: Global, word: &[u8], rest: &[Text], notes: &mut Notes) {
     }
 }
 
-fn explain_verify(alloc: Global, rest: &[Text], notes: &mut Notes) {
-    match rest {
-        [] => notes.say(Sentence::of(alloc, b"verify needs a public key: 43 base64url characters")),
-        [key] => if decode_32(key.as_slice()).is_none() {
-            notes.say(
-                Sentence::of(alloc, b"the word behind verify isn't a public key: it has ")
-                    .and_number(alloc, key.len() as u64)
-                    .and(b" bytes; a public key is 43 base64url characters"),
-            );
-        },
-        [_, more, ..] => notes.say(
-            Sentence::of(alloc, b"verify takes one word, the public key; ")
-                .and(more.as_slice())
-                .and(b" is one too many"),
-        ),
-    }
-}
-
 // Behind `help` stands a command.
 fn explain_help(alloc: Global, rest: &[Text], notes: &mut Notes) {
     match rest {
-        [] => say_usages(alloc, notes),
+        [] => {}
         [command] => explain_unknown(alloc, command.as_slice(), notes),
         [_, more, ..] => notes.say(
             Sentence::of(alloc, b"help takes one word, a command; ")
@@ -70,10 +56,8 @@ fn explain_help(alloc: Global, rest: &[Text], notes: &mut Notes) {
 
 // A word that is no verb may be a flag, which stands alone.
 fn explain_flag(alloc: Global, word: &[u8], rest: &[Text], notes: &mut Notes) {
-    if word == b"--help".as_slice() || word == b"--version".as_slice() {
+    if word == b"--version".as_slice() {
         explain_company(alloc, word, rest, notes);
-    } else if word == b"-h".as_slice() {
-        say_usages(alloc, notes);
     } else if word == b"\xff".as_slice() {
         notes.say(Sentence::of(alloc, b"a word of the command line isn't UTF-8"));
     } else {
@@ -108,7 +92,7 @@ fn explain_call(alloc: Global, verb: Verb, rest: &[Text], notes: &mut Notes) {
 }
 
 fn explain_options(alloc: Global, usage: &Usage, words: &[Text], notes: &mut Notes) {
-    if !explain_pairs(alloc, usage, words, notes) {
+    if !explain_pairs(alloc, Given { usage, words }, words, notes) {
         explain_missing(alloc, usage, words, notes);
     }
 }
@@ -139,52 +123,59 @@ fn usage_of(verb: Verb, act: &[u8]) -> Option<&'static Usage> {
     found
 }
 
-// Says the first fault among pairs of an option and its value. It answers whether there was one.
-fn explain_pairs(alloc: Global, usage: &Usage, words: &[Text], notes: &mut Notes) -> bool {
-    match words {
+// Says the first fault among pairs of an option and its value, which are at the end of the words that are given. It answers whether there
+// was one.
+fn explain_pairs(alloc: Global, given: Given<'_>, pairs: &[Text], notes: &mut Notes) -> bool {
+    match pairs {
         [] => false,
         [option] => {
-            explain_last(alloc, usage, option.as_slice(), notes);
+            explain_last(alloc, given, option.as_slice(), notes);
             true
         }
         [option, value, rest @ ..] => {
             explain_pair(
                 alloc,
-                usage,
+                given,
                 option.as_slice(),
                 value.as_slice(),
                 rest,
                 notes,
-            ) || explain_pairs(alloc, usage, rest, notes)
+            ) || explain_pairs(alloc, given, rest, notes)
         }
     }
 }
 
 // The option without a value.
-fn explain_last(alloc: Global, usage: &Usage, option: &[u8], notes: &mut Notes) {
-    match option_of(usage, option) {
-        Some(name) => notes.say(
-            Sentence::of(alloc, b"the option ")
-                .and(name.word())
-                .and(b" has no value; it takes ")
-                .and(name.value()),
-        ),
-        None => explain_option(alloc, usage, option, notes),
+fn explain_last(alloc: Global, given: Given<'_>, option: &[u8], notes: &mut Notes) {
+    match option_of(given.usage, option) {
+        Some(name) => notes.say(valueless_sentence(alloc, name)),
+        None => explain_stray(alloc, given, option, notes),
     }
+}
+
+fn valueless_sentence(alloc: Global, name: OptionName) -> Sentence {
+    Sentence::of(alloc, b"the option ")
+        .and(name.word())
+        .and(b" has no value; it takes ")
+        .and(name.value())
 }
 
 fn explain_pair(
     alloc: Global,
-    usage: &Usage,
+    given: Given<'_>,
     option: &[u8],
     value: &[u8],
     rest: &[Text],
     notes: &mut Notes,
 ) -> bool {
-    let Some(name) = option_of(usage, option) else {
-        explain_option(alloc, usage, option, notes);
+    let Some(name) = option_of(given.usage, option) else {
+        explain_stray(alloc, given, option, notes);
         return true;
     };
+    if option_of(given.usage, value).is_some() {
+        notes.say(valueless_sentence(alloc, name));
+        return true;
+    }
     if option_in(rest, option).is_some() {
         notes.say(
             Sentence::of(alloc, b"the option ")
@@ -194,54 +185,6 @@ fn explain_pair(
         return true;
     }
     explain_value(alloc, name, value, notes)
-}
-
-// The option of that word.
-fn option_of(usage: &Usage, word: &[u8]) -> Option<OptionName> {
-    match usage.needed.iter().find(|name| name.word() == word) {
-        Some(name) => Some(*name),
-        None => usage.free.iter().find(|name| name.word() == word).copied(),
-    }
-}
-
-// An option that the command hasn't.
-fn explain_option(alloc: Global, usage: &Usage, option: &[u8], notes: &mut Notes) {
-    if usage.verb == Verb::Resolver && option == OptionName::Stream.word() {
-        notes.say(Sentence::of(
-            alloc,
-            b"resolver has no --stream: it answers a connection once; authority may keep connections",
-        ));
-    } else {
-        explain_unknown_option(alloc, usage, option, notes);
-    }
-}
-
-fn explain_unknown_option(alloc: Global, usage: &Usage, option: &[u8], notes: &mut Notes) {
-    let sentence = Sentence::of(alloc, b"the option ")
-        .and(option)
-        .and(b" isn't known to ")
-        .and(usage.verb.word());
-    let sentence = if usage.act.is_empty() {
-        sentence
-    } else {
-        sentence.and(b" --act ").and(usage.act.as_bytes())
-    };
-    notes.say(match meant_by(usage, option) {
-        Some(name) => sentence.and(b"; did you mean ").and(name.word()).and(b"?"),
-        None => sentence.and(b"; see fed --help"),
-    });
-}
-
-// The needed option that is meant by a word that no command has as an option.
-fn meant_by(usage: &Usage, word: &[u8]) -> Option<OptionName> {
-    if USAGES.iter().any(|other| option_of(other, word).is_some()) {
-        return None;
-    }
-    usage
-        .needed
-        .iter()
-        .find(|name| is_like(word, name.word()))
-        .copied()
 }
 
 // Each needed option that the words lack.
@@ -268,12 +211,18 @@ fn explain_unknown(alloc: Global, command: &[u8], notes: &mut Notes) {
     });
 }
 
-// The command that is meant by a word that is none.
+// The command that is meant by a word that is none: the one that it is but for the case of its letters, or else one that is like it.
 fn command_like(word: &[u8]) -> Option<Verb> {
-    VERBS
+    let same = VERBS
         .iter()
-        .find(|verb| is_like(word, verb.word()))
-        .copied()
+        .find(|verb| word.eq_ignore_ascii_case(verb.word()));
+    match same {
+        Some(verb) => Some(*verb),
+        None => VERBS
+            .iter()
+            .find(|verb| is_like(word, verb.word()))
+            .copied(),
+    }
 }
 
 // How each command is called.
