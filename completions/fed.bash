@@ -13,6 +13,7 @@ _fed() {
         *:--heed) offered='yes' ;;
         *:--reason) offered='unspecified compromised superseded' ;;
         *:--stream) offered='yes' ;;
+        *:--strict) offered='yes' ;;
         *:--typ) offered='entity-statement+jwt trust-mark+jwt trust-mark-delegation+jwt' ;;
         *:--config | *:--keys | *:--ring | *:--files)
             compopt -o filenames 2>/dev/null
@@ -27,7 +28,7 @@ _fed() {
             case ${COMP_WORDS[1]}:$act in
                 authority:) offered='--config --port --connections --stream' ;;
                 check:) offered='--anchor --keys --at' ;;
-                check-config:) offered='--config --at' ;;
+                check-config:) offered='--config --at --strict' ;;
                 issue:) offered='--ring --typ --workers' ;;
                 keygen:) offered='--ring --at --exp --alg' ;;
                 public:) offered='--ring --kid' ;;

@@ -25,6 +25,9 @@ function __fed_offered
         case '*:--stream'
             printf '%s\n' yes
             return
+        case '*:--strict'
+            printf '%s\n' yes
+            return
         case '*:--typ'
             printf '%s\n' entity-statement+jwt trust-mark+jwt trust-mark-delegation+jwt
             return
@@ -40,7 +43,7 @@ function __fed_offered
         case check:
             set offered --anchor\t'the trust anchor'\''s identifier' --keys\t'the file of the trust anchor'\''s key set' --at\t'from when, or for which moment, in seconds since 1970'
         case check-config:
-            set offered --config\t'the file of the node'\''s configuration' --at\t'from when, or for which moment, in seconds since 1970'
+            set offered --config\t'the file of the node'\''s configuration' --at\t'from when, or for which moment, in seconds since 1970' --strict\t'what is warned of is refused'
         case issue:
             set offered --ring\t'the file of the key ring' --typ\t'which type of text is signed' --workers\t'by how many workers the text is signed, 1 to 16'
         case keygen:

@@ -81,8 +81,9 @@ class Node:
         return answer.status, answer.getheader("Content-Type"), answer.read()
 
     def ended(self):
+        """Gives the status, the output, and the log without what is said to people."""
         out, log = self.running.communicate(timeout=PATIENCE)
-        return self.running.returncode, out.decode(), log.decode()
+        return self.running.returncode, out.decode(), "".join(it for it in log.decode().splitlines(True) if not it.startswith("fed: "))
 
 
 OWN = ring("node.ring", 1)
@@ -211,7 +212,8 @@ def listens():
             time.sleep(0.02)
     out, log = running.communicate(timeout=PATIENCE)
     tell(f"127.0.0.2: {answer}", answer is not None and answer.startswith(b"HTTP/1.1 200"))
-    tell(f"no log: {out} {log}", (running.returncode, out, log) == (0, b"served 1\n", b""))
+    log = [it for it in log.splitlines() if not it.startswith(f"fed: {ID} starts on 127.0.0.2:{port}, ".encode())]
+    tell(f"no log: {out} {log}", (running.returncode, out, log) == (0, b"served 1\n", []))
 
 
 def hostile():

@@ -326,7 +326,9 @@ def configuration_is_served():
         same("the example of fed-config(5): its list", answered(port, "/list?intermediate=true"), b'["https://im.example"]')
         out, err = running.communicate(timeout=PATIENCE)
         same("the example of fed-config(5): output and status", (out, running.returncode), ("served 1\n", 0))
-        tell(f"the example of fed-config(5): its log {err}", re.fullmatch(r"\d+ 127\.0\.0\.1:\d+ GET /list 200 \d+ \d+\n", err) is not None)
+        log = "".join(it for it in err.splitlines(True) if not it.startswith("fed: "))
+        tell(f"the example of fed-config(5): its log {err}", re.fullmatch(r"\d+ 127\.0\.0\.1:\d+ GET /list 200 \d+ \d+\n", log) is not None)
+        tell(f"the example of fed-config(5): nothing is warned of {err}", "warning" not in err)
     finally:
         running.kill()
         running.wait()

@@ -98,7 +98,7 @@ USAGE = [
     "usage: fed public --ring FILE [--kid KID]",
     "usage: fed check --anchor ID --keys FILE [--at T] < CHAIN",
     "usage: fed show < TEXT",
-    "usage: fed check-config --config FILE [--at T]",
+    "usage: fed check-config --config FILE [--at T] [--strict yes]",
     "usage: fed authority --config FILE --port P --connections N [--stream yes]",
     "usage: fed resolver --config FILE --port P --connections N",
     "usage: fed resolve --config FILE --sub ID --anchor ID [--heed yes]",
@@ -527,7 +527,8 @@ def check_inspections(key):
     row("check-config --config no", "", 2, "input\n", "no isn't there")
     make("c", config)
     status, _, err = run(["check-config", "--config", "c", "--at", f"{AT}000"])
-    compare("check-config in milliseconds", (status, err), (0, said([f"warning: --at {moment(AT * 1000)} looks like milliseconds; moments are in seconds"])))
+    compare("check-config in milliseconds", (status, err), (0, said([
+        f"warning: --at {moment(AT * 1000)} looks like milliseconds; moments are in seconds", f"warning: c: the key that signs, {key['kid']}, has ended"])))
 
 
 def check_terminal(key):

@@ -6,7 +6,8 @@
 //!
 //! `main` makes the real outside, calls [`run_with_notes`], and ends with its status. What a person reads goes to standard error, unless
 //! the environment has `FED_QUIET=1`. A service listens on 127.0.0.1, or on the IPv4 address in `FED_LISTEN`, and each connection leaves a
-//! line on standard error, unless the environment has `FED_LOG=off`. Behind its version `main` writes the commit and the target that the
+//! line on standard error, unless the environment has `FED_LOG=off`, `no` or `0`. Before a service `main` says what starts, and of a
+//! configuration that is checked or started that others can read its ring. Behind its version it writes the commit and the target that the
 //! script `fed` wrote behind the program's bytes.
 #![tactic(auto)]
 
@@ -21,34 +22,22 @@ mod registering;
 mod rehearsing;
 mod resolver;
 mod resolving;
+mod telling;
 mod top;
 
-use build::{is_version, tell_of_build};
 use fed_net::RealNetwork;
-use fed_ports::{Memory, RealClock, RealSink, RealSource, Seq, Sink, Text, listen_address};
+use fed_ports::{Memory, RealClock, RealSink, RealSource, Seq, Text, listen_address};
 use fed_store::RealStore;
 use fed_words::{Call, Service, read_call};
-use named_file::{explain_fault, value_of, warn_of_open_file};
-use network_notes::{Failures, explain_failures};
-use plain_notes::{Notes, explain_sink};
-use reasons::{explain_listen, explain_unkept, explain_untold};
 use std::alloc::Global;
+use std::env;
 use std::env::{Env, VarError};
-use std::io::{Eprint, ErrorKind, IsTerminal};
+use std::io::{ErrorKind, IsTerminal};
 use std::process::ExitCode;
-use std::rt::Files;
-use std::{env, str};
+use telling::{
+    FAULTY, ended, tell_of_address, tell_of_node, tell_of_waiting, with_build, with_ring,
+};
 use top::{run, run_with_notes};
-use word_notes::{explain_waiting, page_meant};
-
-// The status of words, or of a file, that aren't of their form.
-const FAULTY: u8 = 2;
-
-// The status of output that can't be written.
-const SINK_FAULT: u8 = 4;
-
-// The status of a file that can't be read or kept.
-const STORE_FAULT: u8 = 6;
 
 // The words after the program's name. Where one isn't UTF-8 a word stands for them that no command has.
 fn words<R: Env + AllocGlobal>(rt: &R) -> Result<Seq<Text>, Memory> {
@@ -73,7 +62,7 @@ fn is_quiet<R: Env + AllocGlobal>(rt: &R) -> bool {
 
 // Whether each connection leaves a line on standard error.
 fn is_logged<R: Env + AllocGlobal>(rt: &R) -> bool {
-    !env::var(rt, "FED_LOG").is_ok_and(|value| value.as_str() == "off")
+    !env::var(rt, "FED_LOG").is_ok_and(|value| matches!(value.as_str(), "off" | "no" | "0"))
 }
 
 // The four numbers of the address on which a service listens, or `None` where the environment names another.
@@ -93,120 +82,6 @@ fn serves(alloc: Global, words: &[Text]) -> bool {
         Ok(Call::Service(_)) => true,
         Ok(Call::Command(_) | Call::Inspection(_) | Call::Registration(_)) | Err(_) => false,
     }
-}
-
-// Says that there is no address to listen on.
-fn tell_of_address<R: Env + AllocGlobal + Eprint>(rt: &R, alloc: Global) {
-    let mut notes = Notes::new(alloc, None);
-    explain_listen(rt, alloc, &mut notes);
-    tell(rt, &notes);
-}
-
-// Writes the page for which words that give no command ask all the same.
-fn tell_of_page<R: Eprint>(rt: &R, alloc: Global, words: &[Text]) {
-    if let Some(page) = page_meant(alloc, words) {
-        if let Ok(text) = str::from_utf8(page) {
-            let _ = eprint!(rt; "{text}");
-        }
-    }
-}
-
-// Says which calls of the network failed, and why.
-fn tell_of_network<R: Eprint>(rt: &R, alloc: Global, failures: &Failures) {
-    let mut notes = Notes::new(alloc, None);
-    explain_failures(alloc, failures, &mut notes);
-    tell(rt, &notes);
-}
-
-// Writes the notes to standard error. Where that fails they are left out.
-fn tell<R: Eprint>(rt: &R, notes: &Notes) {
-    if let Ok(text) = str::from_utf8(notes.text()) {
-        let _ = eprint!(rt; "{text}");
-    }
-}
-
-// Says what the command waits for.
-fn tell_of_waiting<R: Eprint>(rt: &R, alloc: Global, words: &[Text]) {
-    let mut notes = Notes::new(alloc, None);
-    explain_waiting(alloc, words, &mut notes);
-    tell(rt, &notes);
-}
-
-// Says why the file that the words name can't be read or kept.
-fn explain_store<R: Files + AllocGlobal>(rt: &R, alloc: Global, words: &[Text], notes: &mut Notes) {
-    let ring = value_of(words, b"--ring");
-    let named = ring.or(value_of(words, b"--keys"));
-    let is_seen = match named.or(value_of(words, b"--config")) {
-        Some(path) => explain_fault(rt, alloc, path, notes),
-        None => true,
-    };
-    match ring {
-        Some(path) if !is_seen && keeps(words) => explain_unkept(rt, alloc, path, notes),
-        _ => {}
-    }
-}
-
-// Whether the words are those of a command that keeps a ring's file.
-fn keeps(words: &[Text]) -> bool {
-    match words {
-        [verb, ..] => verb.as_slice() == b"keygen".as_slice()
-            || verb.as_slice() == b"rotate".as_slice(),
-        [] => false,
-    }
-}
-
-// Says what the system tells of the file that the words name.
-fn tell_of_file<R: Files + AllocGlobal + Eprint>(
-    rt: &R,
-    alloc: Global,
-    words: &[Text],
-    status: u8,
-) {
-    let mut notes = Notes::new(alloc, None);
-    if status == STORE_FAULT {
-        explain_store(rt, alloc, words, &mut notes);
-    }
-    match value_of(words, b"--ring") {
-        Some(path) if status == 0 => warn_of_open_file(rt, alloc, path, &mut notes),
-        Some(path) if status == SINK_FAULT && keeps(words) => {
-            explain_untold(rt, alloc, path, &mut notes);
-        }
-        _ => {}
-    }
-    tell(rt, &notes);
-}
-
-// Writes behind the version what the program was built from, and gives the status.
-fn with_build<R: Files, K: Sink>(rt: &R, words: &[Text], out: &mut K, status: u8) -> u8 {
-    if status == 0 && is_version(words) && tell_of_build(rt, out).is_err() {
-        SINK_FAULT
-    } else {
-        status
-    }
-}
-
-// Says what the system tells of files and of the network, writes what was asked for otherwise than by a command and what the program was
-// built from, and gives the status.
-fn ended<R: Files + AllocGlobal + Eprint, K: Sink>(
-    rt: &R,
-    alloc: Global,
-    words: &[Text],
-    failures: &Failures,
-    out: &mut K,
-    status: u8,
-) -> u8 {
-    tell_of_file(rt, alloc, words, status);
-    tell_of_network(rt, alloc, failures);
-    if status == FAULTY {
-        tell_of_page(rt, alloc, words);
-    }
-    let shown = with_build(rt, words, out, status);
-    if shown != status {
-        let mut notes = Notes::new(alloc, None);
-        explain_sink(alloc, &mut notes);
-        tell(rt, &notes);
-    }
-    shown
 }
 
 fn main(rt: HostRuntime) -> ExitCode {
@@ -243,11 +118,18 @@ fn main(rt: HostRuntime) -> ExitCode {
             &mut worn,
             &mut joined,
         );
-        return ExitCode::from(with_build(&rt, words.as_slice(), &mut out, status));
+        let checked = with_ring(&rt, alloc, words.as_slice(), status);
+        return ExitCode::from(with_build(&rt, words.as_slice(), &mut out, checked));
     }
     if rt.stdin().is_terminal() {
         tell_of_waiting(&rt, alloc, words.as_slice());
     }
+    tell_of_node(
+        &rt,
+        alloc,
+        words.as_slice(),
+        address.unwrap_or([127, 0, 0, 1]),
+    );
     let mut said = RealSink::new(rt.stderr());
     let status = run_with_notes(
         &rt,

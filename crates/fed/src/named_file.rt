@@ -42,10 +42,28 @@ fn explain_folder<R: Files>(rt: &R, alloc: Global, path: &str, notes: &mut Notes
     true
 }
 
-/// Says so where others than its owner can read or write the ring file.
+/// Whether others than its owner can read or write the file.
+pub fn is_open_file<R: Files>(rt: &R, name: &Text) -> bool {
+    match str::from_utf8(name.as_slice()) {
+        Ok(path) => is_open(rt, path),
+        Err(_) => false,
+    }
+}
+
+fn is_open<R: Files>(rt: &R, path: &str) -> bool {
+    fs::metadata(rt, path).is_ok_and(|found| found.permissions().mode() & 0o077 != 0)
+}
+
+/// Says so where others than its owner can read or write the ring file of that name.
+pub fn warn_of_open<R: Files>(rt: &R, alloc: Global, name: &Text, notes: &mut Notes) {
+    if let Ok(path) = str::from_utf8(name.as_slice()) {
+        warn_of_open_file(rt, alloc, path, notes);
+    }
+}
+
+/// The same, of a path.
 pub fn warn_of_open_file<R: Files>(rt: &R, alloc: Global, path: &str, notes: &mut Notes) {
-    let is_open = fs::metadata(rt, path).is_ok_and(|found| found.permissions().mode() & 0o077 != 0);
-    if is_open {
+    if is_open(rt, path) {
         notes.say(
             Sentence::of(alloc, b"others than its owner can read ")
                 .and(path.as_bytes())

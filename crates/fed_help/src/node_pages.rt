@@ -1,14 +1,15 @@
 // The pages of the commands that work by a node's configuration.
 
 /// The page of `check-config`.
-pub(crate) const CHECK_CONFIG: &[u8] = b"fed check-config --config FILE [--at T]
+pub(crate) const CHECK_CONFIG: &[u8] = b"fed check-config --config FILE [--at T] [--strict yes]
 
 Reads a node's configuration, its ring and its trust marks, and says the first
-fault, or what the node is.
+fault, or what the node is. What looks wrong is warned of on standard error.
 
 options  --config FILE the configuration, a JSON object; man 5 fed-config
          --at T        the moment for which it is told, in seconds since 1970;
                        without it, now
+         --strict yes  the status is 1 where something is warned of
 input    none is read
 output   lines         the entity, its keys, each with its algorithm and its
                        end, its marks, its subordinates, its trust anchors, its
@@ -18,8 +19,9 @@ output   lines         the entity, its keys, each with its algorithm and its
                        ring Absent, TooLong, Shape or Known, or of the trust
                        mark at a place the reason why it is none of the node's
          input         the configuration isn't there, is too long or isn't JSON
-status   0 it is well formed, 1 refused, 2 words or input, 4 the output can't
-         be written, 5 memory was wanting, 6 a file can't be read
+status   0 it is well formed, 1 refused, or warned of with --strict yes, 2 words
+         or input, 4 the output can't be written, 5 memory was wanting, 6 a file
+         can't be read
 example  fed check-config --config node.json
 ";
 

@@ -12,7 +12,7 @@ usage: fed verify PUB < TEXT
        fed public --ring FILE [--kid KID]
        fed check --anchor ID --keys FILE [--at T] < CHAIN
        fed show < TEXT
-       fed check-config --config FILE [--at T]
+       fed check-config --config FILE [--at T] [--strict yes]
        fed authority --config FILE --port P --connections N [--stream yes]
        fed resolver --config FILE --port P --connections N
        fed resolve --config FILE --sub ID --anchor ID [--heed yes]

@@ -49,6 +49,7 @@ pub enum OptionName {
     Reason,
     Ring,
     Stream,
+    Strict,
     Sub,
     Typ,
     Workers,
@@ -73,6 +74,7 @@ impl OptionName {
             OptionName::Reason => b"--reason",
             OptionName::Ring => b"--ring",
             OptionName::Stream => b"--stream",
+            OptionName::Strict => b"--strict",
             OptionName::Sub => b"--sub",
             OptionName::Typ => b"--typ",
             OptionName::Workers => b"--workers",
@@ -91,7 +93,7 @@ impl OptionName {
             OptionName::Kid => b"KID",
             OptionName::Port => b"P",
             OptionName::Reason => b"R",
-            OptionName::Heed | OptionName::Stream => b"yes",
+            OptionName::Heed | OptionName::Stream | OptionName::Strict => b"yes",
             OptionName::Typ => b"TYP",
             OptionName::Workers => b"W",
         }
@@ -110,7 +112,7 @@ impl OptionName {
             OptionName::Params => Form::Params,
             OptionName::Port => Form::Port,
             OptionName::Reason => Form::Reason,
-            OptionName::Heed | OptionName::Stream => Form::Yes,
+            OptionName::Heed | OptionName::Stream | OptionName::Strict => Form::Yes,
             OptionName::Typ => Form::TextType,
             OptionName::Workers => Form::Workers,
         }
@@ -204,7 +206,7 @@ pub const USAGES: [Usage; 14] = [
         verb: Verb::CheckConfig,
         act: "",
         needed: &[OptionName::Config],
-        free: &[OptionName::At],
+        free: &[OptionName::At, OptionName::Strict],
         input: "",
     },
     Usage {

@@ -23,8 +23,8 @@ pub inspected_at : (i : Inspection) (files : Option Files) (left left' : Option 
     → IsInspected i moment files left left' reply → IsInspected i last files left left' reply
 inspected_at (Public ring kid) files left left' moment last reply same is = is
 inspected_at Show files left left' moment last reply same is = is
-inspected_at (Config config None) files left left' moment last reply same is = subst (λ t. IsInspected (Config config None) t files left left' reply) (same refl) is
-inspected_at (Config config (Some at)) files left left' moment last reply same is = is
+inspected_at (Config config None strict) files left left' moment last reply same is = subst (λ t. IsInspected (Config config None strict) t files left left' reply) (same refl) is
+inspected_at (Config config (Some at) strict) files left left' moment last reply same is = is
 inspected_at (Help verb) files left left' moment last reply same is = is
 
 -- ---- statuses

@@ -1,7 +1,6 @@
 -- An inspection has one reply, where the files and the input are told.
 use Rattle.std.proofs.Common.{◌≡◌, ◌≤◌, ◌<◌, ℕ, List, length, Option, Some, None, Result, Ok, Err, refl, sym, ap, ◌∙◌, subst, unwrap_or, arith}
 use Rattle.std.specs.Prelude.{[]}
-use Rattle.fed_json.specs.declared.tree.Json.{Json}
 use Rattle.fed_ports.specs.Stores.{Files, IsFile, file_limit}
 use Rattle.key_ring.specs.Files.{IsRingFile, Opens, repeated_in}
 use Rattle.key_ring.specs.Rings.{Ring}
@@ -17,9 +16,11 @@ use Rattle.ring_commands.specs.declared.reply.Reply.{Reply}
 use Rattle.ring_commands.proofs.RingLaws.{found_once}
 use Rattle.fed_words.specs.declared.inspection.Inspection.{Inspection}
 use Rattle.fed_words.specs.declared.inspection.Inspection.TheVariants.{Public, Show, Config, Help}
-use Rattle.fed_inspect.specs.Configs.{IsConfigReply, IsFoundIn, IsSettingsReply, IsTreeReply, found_reply, tree_of_file}
+use Rattle.config_warnings.specs.declared.source.ConfigText.{ConfigText}
+use Rattle.fed_inspect.specs.Configs.{IsConfigReply, IsFoundIn, IsSettingsReply, IsTextReply, found_reply, text_of_file}
 use Rattle.fed_inspect.specs.Inspections.{AreTold, IsInspected, IsPublicReply, of_found}
 use Rattle.fed_inspect.specs.Shows.{IsShowReply, show_reply}
+use Rattle.fed_inspect.specs.declared.checking.Checking.{Checking}
 use Rattle.fed_inspect.specs.declared.rings.RingFound.{RingFound}
 use Rattle.fed_inspect.specs.declared.rings.RingFound.TheVariants as found
 
@@ -81,25 +82,25 @@ ring_once file (found.Opened ring) (found.Opened other) p q = ap found.Opened (s
 
 -- ---- configurations
 
-settings_once : (files : Option Files) (moment : ℕ) (tree : Json) (read : Result Settings ConfigFault) (r s : Reply) → (told : Files) × (files ≡ Some told)
-    → IsSettingsReply files moment tree read r → IsSettingsReply files moment tree read s → r ≡ s
-settings_once files moment tree (Ok settings) r s told p q =
+settings_once : (files : Option Files) (checking : Checking) (source : ConfigText) (read : Result Settings ConfigFault) (r s : Reply) → (told : Files) × (files ≡ Some told)
+    → IsSettingsReply files checking source read r → IsSettingsReply files checking source read s → r ≡ s
+settings_once files checking source (Ok settings) r s told p q =
     let one = file_once files settings.ring p.bytes q.bytes told p.is_file q.is_file in
     let ring = ring_once q.bytes p.ring q.ring (subst (λ f. IsFoundIn f p.ring) one p.is_ring) q.is_ring in
-    p.is_reply ∙ ap (found_reply moment tree settings) ring ∙ sym q.is_reply
-settings_once files moment tree (Err (Shape member)) r s told p q = p ∙ sym q
-settings_once files moment tree (Err Memory) r s told p q = p ∙ sym q
+    p.is_reply ∙ ap (found_reply checking source settings) ring ∙ sym q.is_reply
+settings_once files checking source (Err (Shape member)) r s told p q = p ∙ sym q
+settings_once files checking source (Err Memory) r s told p q = p ∙ sym q
 
-tree_once : (files : Option Files) (moment : ℕ) (tree : Option Json) (r s : Reply) → (told : Files) × (files ≡ Some told)
-    → IsTreeReply files moment tree r → IsTreeReply files moment tree s → r ≡ s
-tree_once files moment (Some tree) r s told p q = settings_once files moment tree (configuration_in tree) r s told p q
-tree_once files moment None r s told p q = p ∙ sym q
+text_once : (files : Option Files) (checking : Checking) (source : Option ConfigText) (r s : Reply) → (told : Files) × (files ≡ Some told)
+    → IsTextReply files checking source r → IsTextReply files checking source s → r ≡ s
+text_once files checking (Some source) r s told p q = settings_once files checking source (configuration_in source.tree) r s told p q
+text_once files checking None r s told p q = p ∙ sym q
 
-config_once : (files : Option Files) (name : List ℕ) (moment : ℕ) (r s : Reply) → (told : Files) × (files ≡ Some told)
-    → IsConfigReply files name moment r → IsConfigReply files name moment s → r ≡ s
-config_once files name moment r s told p q =
+config_once : (files : Option Files) (name : List ℕ) (checking : Checking) (r s : Reply) → (told : Files) × (files ≡ Some told)
+    → IsConfigReply files name checking r → IsConfigReply files name checking s → r ≡ s
+config_once files name checking r s told p q =
     let one = file_once files name p.bytes q.bytes told p.is_file q.is_file in
-    tree_once files moment (tree_of_file q.bytes) r s told (subst (λ f. IsTreeReply files moment (tree_of_file f) r) one p.is_reply) q.is_reply
+    text_once files checking (text_of_file q.bytes) r s told (subst (λ f. IsTextReply files checking (text_of_file f) r) one p.is_reply) q.is_reply
 
 -- ---- rings and inputs
 
@@ -126,6 +127,6 @@ pub inspected_once : (i : Inspection) (moment : ℕ) (files : Option Files) (lef
     → IsInspected i moment files left now r → IsInspected i moment files left later s → r ≡ s
 inspected_once (Public ring kid) moment files left now later r s told p q = public_once files ring kid r s (told.0 refl) p q
 inspected_once Show moment files left now later r s told p q = show_once left now later r s (told.1 refl) p q
-inspected_once (Config config None) moment files left now later r s told p q = config_once files config _ r s (told.0 refl) p q
-inspected_once (Config config (Some at)) moment files left now later r s told p q = config_once files config _ r s (told.0 refl) p q
+inspected_once (Config config None strict) moment files left now later r s told p q = config_once files config _ r s (told.0 refl) p q
+inspected_once (Config config (Some at) strict) moment files left now later r s told p q = config_once files config _ r s (told.0 refl) p q
 inspected_once (Help verb) moment files left now later r s told p q = p ∙ sym q

@@ -33,14 +33,14 @@ pub record IsPublicReply (files : Option Files) (name : List ℕ) (kid : Option 
 abbrev pub IsInspected : Inspection → ℕ → Option Files → Option (List ℕ) → Option (List ℕ) → Reply → Type 0
 IsInspected (Public ring kid) moment files left left' reply = IsPublicReply files ring kid reply
 IsInspected Show moment files left left' reply = IsShowReply left left' reply
-IsInspected (Config config at) moment files left left' reply = IsConfigReply files config (unwrap_or at moment) reply
+IsInspected (Config config at strict) moment files left left' reply = IsConfigReply files config (record { moment = unwrap_or at moment; strict = strict }) reply
 IsInspected (Help verb) moment files left left' reply = reply ≡ plain 0 (page_of verb)
 
 -- the inspection looks at a file
 abbrev pub reads_file : Inspection → Bool
 reads_file (Public ring kid) = true
 reads_file Show = false
-reads_file (Config config at) = true
+reads_file (Config config at strict) = true
 reads_file (Help verb) = false
 
 -- it reads the input
@@ -50,7 +50,7 @@ reads_input inspection = false
 
 -- it reads the clock
 abbrev pub reads_clock : Inspection → Bool
-reads_clock (Config config None) = true
+reads_clock (Config config None strict) = true
 reads_clock inspection = false
 
 -- the files are told where it looks at one, and the input where it reads it

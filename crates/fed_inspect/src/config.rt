@@ -12,14 +12,17 @@ ghost use Rattle.authority_core.specs.Configurations.{node_in};
 ghost use Rattle.key_ring.specs.Rings.{Ring};
 ghost use Rattle.key_ring.specs.Terms.{term_of};
 ghost use Rattle.config_summary.specs.Marks.{first_fault};
-ghost use Rattle.fed_inspect.specs.Configs.{IsConfigReply, IsRingReply, IsSettingsReply, found_reply, marks_reply, node_reply, tree_of_file};
+ghost use Rattle.fed_inspect.specs.Configs.{IsConfigReply, IsRingReply, IsSettingsReply, found_reply, marks_reply, node_reply, shown_reply, text_of_file, warned_status};
 
+use crate::checking::Checking;
 use crate::replies::refused;
 use crate::rings::{RingFound, ring_found};
 use authority_core::Registry;
+use config_notes::say_warnings;
 use config_summary::{first_fault, summary};
+use config_warnings::{ConfigText, Warning, is_warned, warnings};
 use fed_commands::{Stop, load_file};
-use fed_json::{Json, TreeFault, read_tree};
+use fed_json::{TreeFault, read_tree};
 use fed_notes::{explain_absent_file, explain_long_file};
 use fed_ports::{Memory, Store, Text};
 use key_ring::{KeyRing, KeyTerm};
@@ -30,41 +33,41 @@ use std::alloc::Global;
 
 const NO_JSON: &[u8] = b" isn't JSON; a node's configuration is an object";
 
-/// The reply that tells the node of the configuration file of that name, at a moment in seconds since 1970, or its first fault.
+/// The reply that tells the node of the configuration file of that name, or its first fault.
 pub(crate) fn check_config<D: Store>(
     alloc: Global,
     name: &Text,
-    moment: u64,
+    checking: Checking,
     store: &mut D,
     notes: &mut Notes,
 ) -> Result<Reply, Stop>
-    requires { moment < moment_limit }
+    requires { checking.moment < moment_limit }
     ensures files { D.files store.new ≡ D.files store.old }
     ensures steady { (source : ℕ) → MatchResult result (λ reply. D.store_faults store.new ≡ D.store_faults store.old)
         (λ stop. StopsAs stop source source (D.store_faults store.old) (D.store_faults store.new)) }
-    ensures reply { IfOk result (IsConfigReply (D.files store.old) name.now moment) }
+    ensures reply { IfOk result (IsConfigReply (D.files store.old) name.now checking) }
     ensures small { IfOk result (λ reply. reply.status ≤ 2) }
 {
     let file = load_file(alloc, name, store, notes)?;
-    match config_tree(alloc, name, &file, notes)? {
-        Some(tree) => {
-            let reply = settings_reply(alloc, name, &tree, moment, store, notes);
-            drop(tree);
+    match config_text(alloc, name, file, notes)? {
+        Some(source) => {
+            let reply = settings_reply(alloc, name, &source, checking, store, notes);
+            drop(source);
             reply
         }
         None => Ok(plain(alloc, 2, b"input\n")?),
     }
 }
 
-// The tree of the configuration's file, or `None` where it is none.
-fn config_tree(
+// The text and the tree of the configuration's file, or `None` where it is none.
+fn config_text(
     alloc: Global,
     name: &Text,
-    file: &File,
+    file: File,
     notes: &mut Notes,
-) -> Result<Option<Json>, Memory>
-    ensures tree { (bytes : Option (List ℕ)) → IsFileOf file.now bytes → IfOk result (λ tree. tree ≡ tree_of_file bytes) }
-    ensures well_formed { IfOk result (λ tree. IfSome tree IsWellFormed) }
+) -> Result<Option<ConfigText>, Memory>
+    ensures text { (bytes : Option (List ℕ)) → IsFileOf file bytes → IfOk result (λ source. source ≡ text_of_file bytes) }
+    ensures well_formed { IfOk result (λ source. IfSome source (λ source. IsWellFormed source.tree)) }
 {
     match file {
         File::Absent => {
@@ -75,8 +78,8 @@ fn config_tree(
             explain_long_file(alloc, name, notes);
             Ok(None)
         }
-        File::Whole(bytes) => match read_tree(alloc, bytes.as_slice()) {
-            Ok(tree) => Ok(Some(tree)),
+        File::Whole(text) => match read_tree(alloc, text.as_slice()) {
+            Ok(tree) => Ok(Some(ConfigText { text, tree })),
             Err(TreeFault::Syntax) => {
                 notes.say(Sentence::of(alloc, name.as_slice()).and(NO_JSON));
                 Ok(None)
@@ -90,22 +93,22 @@ fn config_tree(
 fn settings_reply<D: Store>(
     alloc: Global,
     name: &Text,
-    tree: &Json,
-    moment: u64,
+    source: &ConfigText,
+    checking: Checking,
     store: &mut D,
     notes: &mut Notes,
 ) -> Result<Reply, Stop>
-    requires formed { IsWellFormed tree.now }
-    requires small { moment < moment_limit }
+    requires formed { IsWellFormed source.now.tree }
+    requires small { checking.moment < moment_limit }
     ensures files { D.files store.new ≡ D.files store.old }
     ensures steady { (source : ℕ) → MatchResult result (λ reply. D.store_faults store.new ≡ D.store_faults store.old)
         (λ stop. StopsAs stop source source (D.store_faults store.old) (D.store_faults store.new)) }
-    ensures reply { IfOk result (IsSettingsReply (D.files store.old) moment tree.now (configuration_in tree.now)) }
+    ensures reply { IfOk result (IsSettingsReply (D.files store.old) checking source.now (configuration_in source.now.tree)) }
     ensures small { IfOk result (λ reply. reply.status ≤ 2) }
 {
-    match NodeConfig::read(alloc, tree) {
+    match NodeConfig::read(alloc, &source.tree) {
         Ok(config) => {
-            let reply = ring_reply(alloc, name, tree, &config, moment, store, notes);
+            let reply = ring_reply(alloc, name, source, &config, checking, store, notes);
             drop(config);
             reply
         }
@@ -137,24 +140,24 @@ fn refused_member(
 fn ring_reply<D: Store>(
     alloc: Global,
     name: &Text,
-    tree: &Json,
+    source: &ConfigText,
     config: &NodeConfig,
-    moment: u64,
+    checking: Checking,
     store: &mut D,
     notes: &mut Notes,
 ) -> Result<Reply, Stop>
-    requires formed { IsWellFormed tree.now }
-    requires small { moment < moment_limit }
+    requires formed { IsWellFormed source.now.tree }
+    requires small { checking.moment < moment_limit }
     ensures files { D.files store.new ≡ D.files store.old }
     ensures steady { (source : ℕ) → MatchResult result (λ reply. D.store_faults store.new ≡ D.store_faults store.old)
         (λ stop. StopsAs stop source source (D.store_faults store.old) (D.store_faults store.new)) }
-    ensures reply { IfOk result (IsRingReply (D.files store.old) moment tree.now (told config.now)) }
+    ensures reply { IfOk result (IsRingReply (D.files store.old) checking source.now (told config.now)) }
     ensures small { IfOk result (λ reply. reply.status ≤ 2) }
 {
     let file = load_file(alloc, &config.ring, store, notes)?;
     let ring = ring_found(alloc, &file)?;
     explain_ring(alloc, config, &file, &ring, notes);
-    Ok(found_reply(alloc, name, tree, config, ring, moment, notes)?)
+    Ok(found_reply(alloc, name, source, config, ring, checking, notes)?)
 }
 
 // Says why there is no ring.
@@ -174,15 +177,15 @@ fn explain_ring(
 fn found_reply(
     alloc: Global,
     name: &Text,
-    tree: &Json,
+    source: &ConfigText,
     config: &NodeConfig,
     ring: RingFound,
-    moment: u64,
+    checking: Checking,
     notes: &mut Notes,
 ) -> Result<Reply, Memory>
-    requires formed { IsWellFormed tree.now }
-    requires small { moment < moment_limit }
-    ensures reply { IfOk result (λ reply. reply ≡ found_reply moment tree.now (told config.now) ring) }
+    requires formed { IsWellFormed source.now.tree }
+    requires small { checking.moment < moment_limit }
+    ensures reply { IfOk result (λ reply. reply ≡ found_reply checking source.now (told config.now) ring) }
     ensures small { IfOk result (λ reply. reply.status ≤ 2) }
 {
     match ring {
@@ -190,7 +193,7 @@ fn found_reply(
         RingFound::TooLong => refused(alloc, b"ring TooLong"),
         RingFound::Shape => refused(alloc, b"ring Shape"),
         RingFound::Known => refused(alloc, b"ring Known"),
-        RingFound::Opened(ring) => node_reply(alloc, name, tree, config, ring, moment, notes),
+        RingFound::Opened(ring) => node_reply(alloc, name, source, config, ring, checking, notes),
     }
 }
 
@@ -198,22 +201,30 @@ fn found_reply(
 fn node_reply(
     alloc: Global,
     name: &Text,
-    tree: &Json,
+    source: &ConfigText,
     config: &NodeConfig,
     ring: KeyRing,
-    moment: u64,
+    checking: Checking,
     notes: &mut Notes,
 ) -> Result<Reply, Memory>
-    requires formed { IsWellFormed tree.now }
-    requires small { moment < moment_limit }
-    ensures reply { IfOk result (λ reply. reply ≡ node_reply moment (told config.now) ring (node_in tree.now ring)) }
+    requires formed { IsWellFormed source.now.tree }
+    requires small { checking.moment < moment_limit }
+    ensures reply { IfOk result (λ reply. reply ≡ node_reply checking source.now (told config.now) ring (node_in source.now.tree ring)) }
     ensures small { IfOk result (λ reply. reply.status ≤ 2) }
 {
     let keys = ring.terms(alloc)?;
-    match Registry::read(alloc, tree, ring) {
+    match Registry::read(alloc, &source.tree, ring) {
         Ok(registry) => {
             drop(registry);
-            marks_reply(alloc, name, config, keys.as_slice(), moment, notes)
+            marks_reply(
+                alloc,
+                name,
+                source,
+                config,
+                keys.as_slice(),
+                checking,
+                notes,
+            )
         }
         Err(ConfigFault::Shape(member)) => refused_member(alloc, name, &member, b" TooLong", notes),
         Err(ConfigFault::Memory) => Err(Memory),
@@ -224,14 +235,16 @@ fn node_reply(
 fn marks_reply(
     alloc: Global,
     name: &Text,
+    source: &ConfigText,
     config: &NodeConfig,
     keys: &[KeyTerm],
-    moment: u64,
+    checking: Checking,
     notes: &mut Notes,
 ) -> Result<Reply, Memory>
-    requires { moment < moment_limit }
+    requires formed { IsWellFormed source.now.tree }
+    requires small { checking.moment < moment_limit }
     ensures reply { (ring : Ring) → keys.now ≡ map term_of ring
-        → IfOk result (λ reply. reply ≡ marks_reply moment (told config.now) ring (first_fault config.now.id config.now.claims.marks)) }
+        → IfOk result (λ reply. reply ≡ marks_reply checking source.now (told config.now) ring (first_fault config.now.id config.now.claims.marks)) }
     ensures small { IfOk result (λ reply. reply.status ≤ 2) }
 {
     match first_fault(alloc, &config.id, &config.claims.marks)? {
@@ -239,12 +252,42 @@ fn marks_reply(
             explain_mark(alloc, name, &fault, notes);
             refused(alloc, fault.as_slice())
         }
-        None => Ok(Reply {
-            status: 0,
-            text: summary(alloc, moment, config, keys)?,
-            kept: None,
-        }),
+        None => shown_reply(alloc, name, source, config, keys, checking, notes),
     }
+}
+
+// The node, with what is warned of it in the notes.
+fn shown_reply(
+    alloc: Global,
+    name: &Text,
+    source: &ConfigText,
+    config: &NodeConfig,
+    keys: &[KeyTerm],
+    checking: Checking,
+    notes: &mut Notes,
+) -> Result<Reply, Memory>
+    requires formed { IsWellFormed source.now.tree }
+    requires small { checking.moment < moment_limit }
+    ensures reply { IfOk result (λ reply. reply ≡ shown_reply checking source.now (told config.now) keys.now) }
+    ensures small { IfOk result (λ reply. reply.status ≤ 2) }
+{
+    let warned = warnings(alloc, checking.moment, source, config, keys)?;
+    say_warnings(alloc, name, warned.as_slice(), notes);
+    let status = warned_status(checking.strict, warned.as_slice());
+    drop(warned);
+    Ok(Reply {
+        status,
+        text: summary(alloc, checking.moment, config, keys)?,
+        kept: None,
+    })
+}
+
+// 1 where what is warned of is refused.
+fn warned_status(strict: bool, warned: &[Warning]) -> u8
+    ensures status { result ≡ warned_status strict warned.now }
+    ensures small { result ≤ 1 }
+{
+    if strict && is_warned(warned) { 1 } else { 0 }
 }
 
 // Says which member is at fault.

@@ -7,6 +7,7 @@ ghost use Rattle.fed_commands.specs.Runs.{views, world};
 ghost use Rattle.fed_inspect.specs.Inspections.{IsInspected, IsPublicReply, Inspects, reads_clock, reads_file, reads_input};
 ghost use Rattle.fed_ports.specs.Times.{IsOneReading};
 
+use crate::checking::Checking;
 use crate::config::check_config;
 use crate::output::write_line;
 use crate::public::public;
@@ -24,6 +25,7 @@ use std::alloc::Global;
 /// |---|---|---|
 /// | 0 | it is shown | what is shown |
 /// | 1 | there is no such key, a text isn't what it says, or the configuration has a fault | `refused ..`, behind what is shown |
+/// | 1 | something is warned of the node, and the check is strict | what is shown |
 /// | 2 | the input or the named file isn't of its form, is too long, or isn't there | `input` |
 /// | 3 | the source failed | nothing |
 /// | 4 | the sink failed | a beginning of the text |
@@ -70,9 +72,18 @@ fn reply_to<S: Source, D: Store>(
     match inspection {
         Inspection::Public { ring_file, kid } => show_ring(alloc, ring_file, kid, store, notes),
         Inspection::Show => show_input(alloc, input, notes),
-        Inspection::Config { config_file, at } => {
+        Inspection::Config {
+            config_file,
+            at,
+            strict,
+        } => {
             warn_of_at(alloc, *at, notes);
-            check_config(alloc, config_file, moment_or(*at, moment), store, notes)
+            let moment = moment_or(*at, moment);
+            let checking = Checking {
+                moment,
+                strict: *strict,
+            };
+            check_config(alloc, config_file, checking, store, notes)
         }
         Inspection::Help(verb) => Ok(plain(alloc, 0, verb.page())?),
     }

@@ -4,6 +4,7 @@
 //! the node of a configuration file, or how a command is called. `fed` calls it, and no file is changed.
 #![tactic(auto)]
 
+mod checking;
 mod config;
 mod inspecting;
 mod output;

@@ -69,6 +69,11 @@ impl Noted {
         self.waiting > 0 || self.ends.has_begun()
     }
 
+    /// Whether another request was read whole behind the one that is to be answered.
+    pub fn has_another(&self) -> bool {
+        self.waiting > 1
+    }
+
     /// Notes what was read, up to the end of the first line that isn't empty: whoever reads a request passes over those before it. What
     /// stands behind the request is of another.
     pub fn read(&mut self, bytes: &[u8]) {

@@ -26,7 +26,7 @@ const ANSWER: u64 = 30;
 // How many readings at most take away what a peer sent that nobody asked for.
 const READINGS: u32 = 64;
 
-// When an answer was given whole, and in what time since its request began.
+// When all that there was of an answer was given, and in what time since its request began.
 #[derive(Clone, Copy, Drop)]
 struct Whole {
     at: Option<Instant>,
@@ -35,8 +35,8 @@ struct Whole {
 
 /// A caller over TCP. It fails where it is silent for 10 seconds, where it hasn't sent its request 30 seconds after it was accepted, and
 /// where it doesn't take its answer in 30 seconds. Once [`Sink::end`] says that its last answer was given it gets the end of it, though the
-/// connection is kept until it is settled. An answer is whole once the rest of it was taken by one call; where it isn't the last, these
-/// times begin anew with the first byte of the next request, and the peer fails where that doesn't come in a second.
+/// connection is kept until it is settled. Any other answer is over where more is read behind it, or is given and another request was read
+/// by then: these times begin anew with the first byte of the next request, and the peer fails where that doesn't come in a second.
 #[derive(Drop)]
 pub struct RealPeer<'a, R: SystemClock + Eprint> {
     rt: &'a R,
@@ -104,7 +104,7 @@ impl<'a, R: SystemClock + Eprint> RealPeer<'a, R> {
         let _ = eprintln!(self.rt; "{now} {from} {method} {path} {status} {bytes} {millis}");
     }
 
-    // Begins anew behind an answer that was given whole and wasn't the last: it leaves its line, and the next request is waited for.
+    // Begins anew behind an answer that is over and wasn't the last: it leaves its line, and the next request is waited for.
     fn go_on(&mut self)
         ensures reads { self.new.reads ≡ self.old.reads }
         ensures writes { self.new.writes ≡ self.old.writes }
@@ -181,7 +181,9 @@ impl<'a, R: SystemClock + Eprint> Sink for RealPeer<'a, R> {
     ghost write_faults = { λ peer. peer.writes };
 
     fn give(&mut self, piece: &[u8]) -> Result<usize, Failed> {
-        self.go_on();
+        if self.noted.has_another() {
+            self.go_on();
+        }
         if self.answered.is_none() {
             self.answered = Instant::now(self.rt).ok();
         }
@@ -189,12 +191,14 @@ impl<'a, R: SystemClock + Eprint> Sink for RealPeer<'a, R> {
         match write(&mut self.stream, wait, piece) {
             Some(n) => {
                 self.noted.given(&piece[..n]);
-                if n == piece.len() {
-                    self.whole = Some(Whole {
+                self.whole = if n == piece.len() {
+                    Some(Whole {
                         at: Instant::now(self.rt).ok(),
                         spent: self.spent(),
-                    });
-                }
+                    })
+                } else {
+                    None
+                };
                 Ok(n)
             }
             None => {

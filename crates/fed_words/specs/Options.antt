@@ -1,6 +1,6 @@
 -- Options, their values and numbers among the words.
-use Rattle.std.specs.Prelude.{◌+◌, ◌-◌, ◌*◌, ℕ, List, [], ◌∷◌, ◌&&◌, Bool, true, false, not, nat_eq, nat_le, nat_lt, bytes_eq, Option, Some, None, if◌then◌else◌}
-use Rattle.std.specs.Option.{option_and_then}
+use Rattle.std.specs.Prelude.{◌+◌, ◌-◌, ◌*◌, ℕ, List, [], ◌∷◌, ◌&&◌, codes, Bool, true, false, not, nat_eq, nat_le, nat_lt, bytes_eq, Option, Some, None, if◌then◌else◌}
+use Rattle.std.specs.Option.{option_and_then, option_map_or}
 use Rattle.fed_base.specs.Moments.{moment_limit}
 
 -- the value behind the first option of that name, where the words are pairs of an option and its value
@@ -8,6 +8,10 @@ unfoldable pub option_in : List ℕ → List (List ℕ) → Option (List ℕ)
 option_in name [] = None
 option_in name (option ∷ []) = None
 option_in name (option ∷ value ∷ words) = if bytes_eq option name then Some value else option_in name words
+
+-- the option's value is `yes`
+abbrev pub says_yes : List ℕ → List (List ℕ) → Bool
+says_yes name words = option_map_or (λ word. bytes_eq word (codes "yes")) (option_in name words) false
 
 -- the number that the decimal digits make behind those of n, where it is below the limit
 unfoldable pub number_after : ℕ → List ℕ → Option ℕ

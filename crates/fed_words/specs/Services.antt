@@ -1,8 +1,8 @@
 -- What the words behind a verb ask for over a network: to answer others, or to resolve an entity; or over one in memory.
-use Rattle.std.specs.Prelude.{ℕ, List, ◌==◌, ◌&&◌, ◌||◌, length, codes, bytes_eq, Bool, false, Option, Some, None, if◌then◌else◌}
-use Rattle.std.specs.Option.{option_and_then, option_map_or}
+use Rattle.std.specs.Prelude.{ℕ, List, ◌==◌, ◌&&◌, ◌||◌, length, codes, Bool, Option, Some, None, if◌then◌else◌}
+use Rattle.std.specs.Option.{option_and_then}
 use Rattle.entity_id.specs.Identifiers.{identifier_of}
-use Rattle.fed_words.specs.Options.{count_in, option_in}
+use Rattle.fed_words.specs.Options.{count_in, option_in, says_yes}
 use Rattle.fed_words.specs.declared.service.Service.{Service}
 use Rattle.fed_words.specs.declared.service.Service.TheVariants.{Authority, Resolve, Resolver}
 
@@ -12,10 +12,6 @@ authority_with (Some config) (Some port) (Some connections) stream = Some (Autho
 authority_with (Some config) (Some port) None stream = None
 authority_with (Some config) None connections stream = None
 authority_with None port connections stream = None
-
--- the option's value is `yes`
-abbrev pub says_yes : List ℕ → List (List ℕ) → Bool
-says_yes name words = option_map_or (λ word. bytes_eq word (codes "yes")) (option_in name words) false
 
 -- a connection may ask more than once
 abbrev pub streams : List (List ℕ) → Bool

@@ -1,11 +1,11 @@
 // Commands that show something, and change nothing.
 
-ghost use Rattle.std.specs.Prelude.{◌≡◌, IfOk};
+ghost use Rattle.std.specs.Prelude.{◌≡◌, ◌≤◌, IfOk};
 ghost use Rattle.std.specs.Option.{option_copied};
-ghost use Rattle.fed_words.specs.Inspections.{config_of, help_of, public_of, show_of};
+ghost use Rattle.fed_words.specs.Inspections.{config_of, help_of, public_of, show_of, words_for};
 
 use crate::moment::Moment;
-use crate::options::{moment_in, option_in};
+use crate::options::{moment_in, option_in, says_yes};
 use fed_base::{Duplicate, Memory, Text};
 use fed_help::Verb;
 use std::alloc::Global;
@@ -20,10 +20,12 @@ pub enum Inspection {
     },
     /// `show`: the signed text, the chain or the key set in the input.
     Show,
-    /// `check-config --config FILE [--at T]`: the node of a configuration file, for a moment.
+    /// `check-config --config FILE [--at T] [--strict yes]`: the node of a configuration file, for a moment.
     Config {
         config_file: Text,
         at: Option<Moment>,
+        /// What is warned of is refused.
+        strict: bool,
     },
     /// `help COMMAND`: how a command is called.
     Help(Verb),
@@ -74,16 +76,26 @@ pub(crate) fn read_config(alloc: Global, rest: &[Text]) -> Result<Option<Inspect
     ensures { IfOk result (λ inspection. inspection ≡ config_of rest.now) }
 {
     let at = moment_in(rest, b"--at");
-    if rest.len() != 2 && (rest.len() != 4 || at.is_none()) {
+    let strict = says_yes(rest, b"--strict");
+    if rest.len() != 2 + words_for(at.is_some()) + words_for(strict) {
         return Ok(None);
     }
     match option_in(rest, b"--config") {
         Some(config_file) => Ok(Some(Inspection::Config {
             config_file: config_file.copy(alloc)?,
             at,
+            strict,
         })),
         None => Ok(None),
     }
+}
+
+// How many words an option that may be absent has.
+fn words_for(there: bool) -> usize
+    ensures words { result ≡ words_for there }
+    ensures few { result ≤ 2 }
+{
+    if there { 2 } else { 0 }
 }
 
 /// The same behind `help`.

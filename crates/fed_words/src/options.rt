@@ -3,7 +3,7 @@
 ghost use Rattle.std.specs.Prelude.{◌≡◌, ◌<◌, ◌≤◌, IfSome};
 ghost use Rattle.std.specs.Option.{option_copied};
 ghost use Rattle.fed_base.specs.Moments.{moment_limit};
-ghost use Rattle.fed_words.specs.Options.{option_in, number_after, number_of, moment_in, count_in, count_of};
+ghost use Rattle.fed_words.specs.Options.{option_in, number_after, number_of, moment_in, count_in, count_of, says_yes};
 
 use crate::moment::Moment;
 use fed_base::{MOMENT_LIMIT, Text};
@@ -22,6 +22,16 @@ pub fn option_in<'a>(words: &'a [Text], name: &[u8]) -> Option<&'a Text>
             }
         }
         _ => None,
+    }
+}
+
+/// Whether the option's value is `yes`.
+pub(crate) fn says_yes(words: &[Text], name: &[u8]) -> bool
+    ensures { result ≡ says_yes name.now words.now }
+{
+    match option_in(words, name) {
+        Some(word) => word.as_slice() == b"yes".as_slice(),
+        None => false,
     }
 }
 

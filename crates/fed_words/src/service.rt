@@ -2,10 +2,10 @@
 
 ghost use Rattle.std.specs.Prelude.{◌≡◌, IfOk, Some, codes, option_map};
 ghost use Rattle.fed_words.specs.Rehearsals.{rehearsal_of};
-ghost use Rattle.fed_words.specs.Services.{authority_of, identifier_in, resolve_of, resolve_with, resolver_of, says_yes};
+ghost use Rattle.fed_words.specs.Services.{authority_of, identifier_in, resolve_of, resolve_with, resolver_of};
 ghost use Rattle.fed_words.specs.declared.service.Service.TheVariants.{Rehearse, Resolve};
 
-use crate::options::{count_in, option_in};
+use crate::options::{count_in, option_in, says_yes};
 use crate::rehearsal::params_in;
 use entity_id::EntityId;
 use fed_base::{Duplicate, Memory, Text};
@@ -85,16 +85,6 @@ pub(crate) fn read_authority(alloc: Global, rest: &[Text]) -> Result<Option<Serv
             stream,
         })),
         _ => Ok(None),
-    }
-}
-
-// Whether the value of an option is `yes`.
-fn says_yes(rest: &[Text], name: &[u8]) -> bool
-    ensures { result ≡ says_yes name.now rest.now }
-{
-    match option_in(rest, name) {
-        Some(word) => word.as_slice() == b"yes".as_slice(),
-        None => false,
     }
 }
 

@@ -44,7 +44,7 @@ OPTIONS = {
     "check": [{"--anchor": rules.identifier, "--keys": word}, {"--anchor": rules.identifier, "--keys": word, "--at": MOMENT}],
     "resolve": [{**CONFIG, "--sub": rules.identifier, "--anchor": rules.identifier}], "authority": [{**CONFIG, **ADDRESS}], "resolver": [{**CONFIG, **ADDRESS}],
     "register": [{**CONFIG, "--anchor": rules.identifier}],
-    "public": [RING, {**RING, "--kid": word}], "check-config": [CONFIG, {**CONFIG, "--at": MOMENT}], "rehearse": [{"--params": number(0, 200)}], "show": [{}],
+    "public": [RING, {**RING, "--kid": word}], "check-config": [{**CONFIG, **at, **strict} for at in ({}, {"--at": MOMENT}) for strict in ({}, {"--strict": one_of("yes")})], "rehearse": [{"--params": number(0, 200)}], "show": [{}],
 }
 
 

@@ -1,0 +1,7 @@
+use Rattle.std.proofs.Common.{◌∙◌}
+use Rattle.config_warnings.proofs.Gathering.{same_place}
+use Rattle.config_warnings.proofs.routes.warn_at.Goals as goal
+
+pub returns : goal.returns
+returns c =
+    same_place c.warn.result c.args.out.now c.warn.new.out c.args.kind c.as_slice.result.now _ c.args.host.now c.warn.ensures (c.as_slice.ensures ∙ c.in_ok-place.ensures)
