@@ -402,6 +402,7 @@ def table_has_the_words():
         "--reason": told_values("rotate", "--ring", "r", "--act", "revoke", "--kid", "k", "--at", "1", "--reason", "x"),
         "--heed": told_values("resolve", "--config", "c", "--heed", "x"),
         "--stream": told_values("authority", "--config", "c", "--stream", "x"),
+        "--strict": told_values("check-config", "--config", "c", "--strict", "x"),
     }
     same("values", {it: words for it, words in values.items() if words != ["file"]}, wanted)
     same("acts", values["--act"], [options_in(call)["--act"] for call in said if call[0] == "rotate"])

@@ -127,7 +127,9 @@ def searches():
             f"place 0 ({RP} about itself): its metadata openid_relying_party client_name doesn't pass the operator one_of of the merged policy")
     refused("a reset", RP_OWN, {**USUAL, page_of(IM): "reset"}, 7, "", CALLS[:2], FAILED, f"{url(IM)} couldn't be fetched", NO_PATH,
             "127.0.0.1:PORT: the connection was reset")
-    refused("nobody at the route", RP_OWN, USUAL, 7, "", [], FAILED, f"{url(RP)} couldn't be fetched", routes={"rp.example": free_port()})
+    nobody = free_port()
+    refused("nobody at the route", RP_OWN, USUAL, 7, "", [], FAILED, f"{url(RP)} couldn't be fetched",
+            f"127.0.0.1:{nobody}: connection refused; nobody listens there", routes={"rp.example": nobody})
     refused("a bound", RP_OWN, USUAL, 9, "", CALLS[:4],
             "the search ended at its bound: 4 pages of at most 4, 2 paths of at most 4,096; see depth, calls and paths of the anchor in the configuration", NO_PATH,
             anchors=[anchor_of(TA, calls=4)])

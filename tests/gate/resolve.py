@@ -61,11 +61,12 @@ def refused(row, pages, status, written_text, calls, *sentences, sub=RP, routes=
     tell(f"{row}: asked for {web.calls}, not {calls}"[:2000], web.calls == calls)
 
 
-def resolved(row, pages, calls, chain, metadata, exp=END, marks=(), sub=RP, routes=None, anchors=None):
-    """A call that is answered by this reply, by fixed texts."""
+def resolved(row, pages, calls, chain, metadata, exp=END, marks=(), sub=RP, routes=None, anchors=None, sentences=()):
+    """A call that is answered by this reply, by fixed texts, with these sentences on the way."""
     with Web(pages) as web:
-        status, text, sentences, moments = call({**hosts_in(pages, web), **(routes or {})}, sub=sub, anchors=anchors)
-    tell(f"{row}: {status} {text[:200]} {sentences}", (status, sentences) == (0, ""))
+        status, text, told, moments = call({**hosts_in(pages, web), **(routes or {})}, sub=sub, anchors=anchors)
+    wanted = said(sentences).replace("PORT", str(web.port))
+    tell(f"{row}: {status} {text[:200]} {told}", (status, told) == (0, wanted))
     tell(f"{row}: asked for {web.calls}, not {calls}"[:2000], web.calls == calls)
     tell(f"{row}: differs in {status or differs_in(text, moments, sub, chain, exp, metadata, marks)}"[:2000],
          status == 0 and not differs_in(text, moments, sub, chain, exp, metadata, marks))
@@ -80,10 +81,10 @@ def found():
     rp = sealed(own(RP, authority_hints=[JM, IM], metadata=METADATA), RP)
     around = {**USUAL, page_of(RP): rp, page_of(JM): "reset"}
     calls = [page_of(RP), page_of(JM), *CALLS[1:]]
-    resolved("around a superior that fails", around, calls, [rp, *CHAIN[1:]], RESOLVED, exp=NOW + 7200)
+    resolved("around a superior that fails", around, calls, [rp, *CHAIN[1:]], RESOLVED, exp=NOW + 7200, sentences=[RESET])
     nowhere = free_port()
     resolved("around a superior that isn't reached", around, [page_of(RP), *CALLS[1:]], [rp, *CHAIN[1:]], RESOLVED, exp=NOW + 7200,
-             routes={"jm.example": nowhere})
+             routes={"jm.example": nowhere}, sentences=[f"127.0.0.1:{nowhere}: connection refused; nobody listens there"])
     jm = sealed(own(JM, authority_hints=[TA], metadata=endpoint(JM)), JM)
     jm_rp, ta_jm = sealed(about(JM, RP), JM), sealed(about(TA, JM, exp=END - 5), TA)
     both = {**around, page_of(JM): jm, fetch_of(JM, RP): jm_rp, fetch_of(TA, JM): ta_jm}
@@ -192,8 +193,10 @@ def listed():
         tell(f"a call for an anchor that isn't listed asked for {web.calls}", web.calls == [])
     refused("no route to the entity", USUAL, 1, ERRORS["entity"], [], no_route(RP), routes={"rp.example": None})
     refused("no route to the superior", USUAL, 1, ERRORS["chain"], CALLS[:1], *lost("chain", no_route(IM), NO_PATH), routes={"im.example": None})
-    refused("nobody at the route", USUAL, 7, "", CALLS[:1], *lost("fault", failed(IM), NO_PATH), routes={"im.example": free_port()})
-    refused("nobody at the entity", USUAL, 7, "", [], *lost("fault", failed(RP)), routes={"rp.example": free_port()})
+    nobody = free_port()
+    at_nobody = f"127.0.0.1:{nobody}: connection refused; nobody listens there"
+    refused("nobody at the route", USUAL, 7, "", CALLS[:1], *lost("fault", failed(IM), NO_PATH, at_nobody), routes={"im.example": nobody})
+    refused("nobody at the entity", USUAL, 7, "", [], *lost("fault", failed(RP), at_nobody), routes={"rp.example": nobody})
 
 
 def url(entity):
@@ -213,7 +216,7 @@ def failed(entity):
 
 
 def no_route(entity):
-    return f"there is no route to {entity.removeprefix('https://')}; add one to resolver.routes"
+    return f"there is no route to {entity.removeprefix('https://').split('/')[0]}; add one to resolver.routes"
 
 
 NO_PATH = f"no path came up to {TA}"
@@ -431,7 +434,7 @@ def heeded_federation():
         node.ended()
     text, _, lines = out.partition("\n")
     left = [f"mark 0 (open by {TA}) is left out: its issuer says that it is revoked", f"mark 3 (own by {TA}) is left out: {STATUS} couldn't be asked",
-            f"127.0.0.1:{nodes["ta.example"].port}: connection refused; nobody listens there"]
+            f"127.0.0.1:{nodes['ta.example'].port}: connection refused; nobody listens there"]
     wanted = 0, "mark 0 refused\nmark 1 active\nmark 2 active\nmark 3 fault\n", said(left)
     tell(f"the asked federation: {(status, lines, sentences)}, not {wanted}"[:2000], (status, lines, sentences) == wanted)
     differs = status or differs_in(f"{text}\n", moments, RP, claims_of(text)["trust_chain"], NOW + 600, {**endpoints(RP), **RESOLVED}, marks[1:3])

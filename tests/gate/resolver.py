@@ -26,6 +26,8 @@ REPLY = "application/resolve-response+jwt"
 PP, ALONE, GONE, DOWN, FAR, LONG = (f"https://{name}.example" for name in ("pp", "alone", "gone", "down", "far", "long"))
 FIRST, SECOND = ([f"https://{letter}{number}.example" for number in range(31)] for letter in "xy")
 CONTROL, STRANGER = (f"{6:096x}", KEYS["other"]), (f"{5:096x}", KEYS[RESOLVER])
+# what a node says of itself when it starts, behind its address
+SIGNS = f"0 subordinates, 1 trust anchor, signs by {KEYS[RESOLVER]['kid']} until 1900000000 (2030-03-17 17:46:40 UTC)"
 
 
 # ---- a resolver that serves
@@ -48,7 +50,7 @@ class Resolver:
         if any(failed):
             self.running.kill()
         out, said = self.running.communicate(timeout=PATIENCE)
-        wanted = 0, f"served {self.connections}\n", ""
+        wanted = 0, f"served {self.connections}\n", f"fed: {RESOLVER} starts on 127.0.0.1:{self.port}, {SIGNS}\n"
         found = self.running.returncode, out.decode(), said.decode()
         tell(f"the end: {found}, not {wanted}", any(failed) or found == wanted)
 

@@ -5,7 +5,7 @@
 source "$(dirname "$0")/../lib/rows.sh"
 
 cd "$place"
-printf '%096d\n' 7 | "$fed" keygen --ring ring --at 1 --exp 2 >key
+printf '%096d\n' 7 | "$fed" keygen --ring ring --at 1 --exp 4000000000 >key
 
 # answers STATUS TEXT CLAIMS: issuing the claims ends with STATUS, and writes TEXT where that is given
 answers() {

@@ -345,7 +345,7 @@ def full_queue():
 
 
 folder = sys.argv[1] if len(sys.argv) > 1 else tempfile.mkdtemp()
-program = laid.built(folder, "peers", PROGRAM, ["fed_base", "fed_ports", "fed_net"], PROOFS)
+program = laid.built(folder, "peers", PROGRAM, ["fed_base", "fed_ports", "utc_dates", "plain_notes", "network_notes", "fed_net"], PROOFS)
 rows = [ordinary, control_bytes, quiet, silent, slow, not_taking, reset, listens_elsewhere, client, full_queue]
 status = laid.tried("peers", rows)
 if len(sys.argv) < 2:

@@ -727,7 +727,7 @@ def pages():
 building = sys.argv[1:2] == ["--build"]
 keeps = sys.argv[2 if building else 1 :]
 folder = keeps[0] if keeps else tempfile.mkdtemp()
-program = laid.built(folder, "web", PROGRAM, ["fed_base", "fed_ports", "fed_net", "chunked_body", "http_messages", "http_plain", "http_stream"], PROOFS)
+program = laid.built(folder, "web", PROGRAM, ["fed_base", "fed_ports", "utc_dates", "plain_notes", "network_notes", "fed_net", "chunked_body", "http_messages", "http_plain", "http_stream"], PROOFS)
 if building:
     sys.exit(0)
 rows = [pages]

@@ -19,10 +19,9 @@ pub fn explain_seeds(alloc: Global, fault: SeedsFault, notes: &mut Notes) {
         SeedsFault::Prefix => about.and(
             b" begins with 0x; the seeds of a key are 96 hexadecimal digits alone",
         ),
-        SeedsFault::Blank(place) => about
-            .and(b": byte ")
-            .and_number(alloc, place)
-            .and(b" is a space or a line end; the seeds of a key are 96 hexadecimal digits in one piece, as | tr -d ' \\n' leaves them"),
+        SeedsFault::Blank(place) => about.and(b": byte ").and_number(alloc, place).and(
+            b" is a space or a line end; the seeds of a key are 96 hexadecimal digits in one piece, as | tr -d ' \\n' leaves them",
+        ),
         SeedsFault::Digit(place) => about
             .and(b": byte ")
             .and_number(alloc, place)

@@ -13,6 +13,7 @@ use plain_notes::{Notes, Sentence};
 use std::alloc::Global;
 
 /// What is to be started.
+#[derive(Drop)]
 pub struct Start<'a> {
     /// The name of the configuration file.
     pub config: &'a Text,

@@ -6,7 +6,7 @@ use Rattle.fed_commands.specs.declared.verify_finding.Finding.TheVariants.{Valid
 use Rattle.slh_dsa.specs.Verifying.{Verifies}
 
 pub returns-then-has_signature : goal.returns-then-has_signature
-returns-then-has_signature c =
+returns-then-has_signature g c =
     let s = c.in-Some.signed in
     let same : s.statement.iss ≡ s.statement.sub = search rules in
     let is = configuration_at c.args.text.now c.in_ok-signed.field-0 s (search rules) c.in_ok-signed.ensures same in
@@ -14,7 +14,7 @@ returns-then-has_signature c =
     subst (λ sub. IsFinding c.args.key.now c.args.text.now (Valid sub)) (sym c.subject.ensures) ((s.compact, is, verifies))
 
 pub returns-else-has_signature : goal.returns-else-has_signature
-returns-else-has_signature c =
+returns-else-has_signature g c =
     let s = c.in-Some.signed in
     let same : s.statement.iss ≡ s.statement.sub = search rules in
     let is = configuration_at c.args.text.now c.in_ok-signed.field-0 s (search rules) c.in_ok-signed.ensures same in
@@ -22,10 +22,10 @@ returns-else-has_signature c =
     (s.compact, s.statement.sub, is, fails)
 
 pub returns-in_default : goal.returns-in_default
-returns-in_default c = none_read c.args.text.now c.in_ok-signed.field-0 c.in_default.not-Some c.in_ok-signed.ensures
+returns-in_default g c = none_read c.args.text.now c.in_ok-signed.field-0 c.in_default.not-Some c.in_ok-signed.ensures
 
 pub returns-then-not-is_own : goal.returns-then-not-is_own
-returns-then-not-is_own c =
+returns-then-not-is_own g c =
     let s = c.in-Some.signed in
     let is = statement_at c.args.text.now c.in_ok-signed.field-0 s (search rules) c.in_ok-signed.ensures in
     let differs : s.statement.iss ≡ s.statement.sub → ⊥ = search rules in

@@ -10,7 +10,7 @@ pub returns-clause-heeds : goal.returns-clause-heeds
 returns-clause-heeds g c =
     heeds-back g.N.Network.exchanges (listening_seen g.N.Network) g.N.Network.faults c.args.routes c.args.net.now c.into_net.result c.new-asker.result c.heed-what.new.asker
     (ap link_network c.new-asker.ensures ∙ c.new-link.ensures.network ∙ c.replace-network.ensures.value) (ap link_routes c.new-asker.ensures ∙ c.new-link.ensures.routes)
-    (c.into_net.ensures ∙ ap link_network c.into_link-link.ensures) (heeding_of c.args.marks.now c.args.configs.now c.args.moment) _ _
+    (c.into_net.ensures ∙ ap link_network c.into_link-link.ensures) (heeding_of c.args.marks.now c.args.configs.now c.args.asked.now.moment) _ _
     c.heed-what.result c.heed-what.ensures.heeds c.heed-what.ensures.kept c.heed-what.ensures.faults
 
 pub returns-clause-broken : goal.returns-clause-broken
@@ -24,5 +24,5 @@ pub returns-clause-still : goal.returns-clause-still
 returns-clause-still g c =
     still-back g.N.Network.exchanges (listening_seen g.N.Network) g.N.Network.faults c.args.routes c.args.net.now c.into_net.result c.new-asker.result c.heed-what.new.asker
     (ap link_network c.new-asker.ensures ∙ c.new-link.ensures.network ∙ c.replace-network.ensures.value) (ap link_routes c.new-asker.ensures ∙ c.new-link.ensures.routes)
-    (c.into_net.ensures ∙ ap link_network c.into_link-link.ensures) (heeding_of c.args.marks.now c.args.configs.now c.args.moment) _ _
+    (c.into_net.ensures ∙ ap link_network c.into_link-link.ensures) (heeding_of c.args.marks.now c.args.configs.now c.args.asked.now.moment) _ _
     c.heed-what.result (length c.args.marks.now) c.heed-what.ensures.heeds c.heed-what.ensures.broken

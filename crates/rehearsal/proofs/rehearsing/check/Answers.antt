@@ -6,7 +6,7 @@ use Rattle.rehearsal.specs.Moments.{moment}
 use Rattle.rehearsal.proofs.rehearsing.check.Goals as goal
 
 pub returns-in-Valid : goal.returns-in-Valid
-returns-in-Valid c =
+returns-in-Valid g c =
     IfOk-weaker c.last_of-last.result _ _
     (λ text last. record {
       resolved = c.in-Valid.resolved;
