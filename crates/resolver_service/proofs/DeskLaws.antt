@@ -1,5 +1,5 @@
 -- Desks before and after a connection was served at each.
-use Rattle.std.proofs.Common.{◌≡◌, ◌≤◌, ℕ, suc, List, [], ◌∷◌, ◌++◌, length, option_map, true, false, Option, Some, None, Result, Ok, Err, inl, inr, refl, sym, ap, ◌∙◌, subst, append_assoc, append-nil, take, drop, arith}
+use Rattle.std.proofs.Common.{◌≡◌, ◌≤◌, ℕ, suc, List, [], ◌∷◌, ◌++◌, length, map, option_map, true, false, Option, Some, None, Result, Ok, Err, inl, inr, refl, sym, ap, ◌∙◌, subst, append_assoc, append-nil, take, drop, arith}
 use Rattle.std.specs.Prelude.{All, IfOk, IfSome, OnOk}
 use Rattle.std.proofs.lemmas.List.{drop_all, take_all}
 use Rattle.std.proofs.lemmas.List.Elements.{All-append, All-cons, All-nil, All-tail}
@@ -10,9 +10,9 @@ use Rattle.fed_ports.specs.Lists.{Added, Gave}
 use Rattle.fed_ports.specs.Times.{ClockAt, IsOneReading}
 use Rattle.http_plain.specs.declared.link.HttpLink.{HttpLink}
 use Rattle.http_plain.specs.declared.route.Route.{Route}
-use Rattle.turn_log.specs.Groups.{AreJoined, IsSame, known}
-use Rattle.turn_log.specs.Passes.{untaken}
-use Rattle.turn_log.specs.Runs.{call_limit}
+use Rattle.turn_log.specs.Groups.{AreJoined, IsSame, IsUntaken, known}
+use Rattle.turn_log.specs.Passes.{IsSameBut, untaken}
+use Rattle.turn_log.specs.Runs.{Account, call_limit}
 use Rattle.statement_shelf.specs.Passes.{CommonsKnown, IsPassOfAll, IsPurgeOfSome, IsShelfCall}
 use Rattle.statement_shelf.specs.declared.calls.ShelfCall.TheVariants.{Purge}
 use Rattle.resolve_round.specs.Acts.{HasCounted, IsKept}
@@ -31,7 +31,8 @@ use Rattle.fed_serve.specs.Handlings.{Handling, dealt, issued, not_asked, resolv
 use Rattle.fed_serve.specs.Uses.{IsWornBy, Uses}
 use Rattle.resolver_service.specs.declared.stop.Stop.{Stop}
 use Rattle.resolver_service.specs.declared.stop.Stop.TheVariants as stop
-use Rattle.resolver_service.specs.Batches.{AreEnded, IsNewDesk, Progress, ServesDesks, ServiceViews, at_desks, is_worn, peers_at, peers_of, progress, setup, standing}
+use Rattle.resolver_service.specs.Batches.{AreEnded, IsNewDesk, Progress, ServesDesks, ServiceViews, at_desks, is_worn, known_at, peers_at, peers_of, progress, setup, standing}
+use Rattle.resolver_service.specs.Passes.{AreShared, HasNoCalls, IsCallless}
 use Rattle.resolver_service.specs.Steps.{AreMade, IfWorn, IsDone, IsPurged, IsReady, IsServedBatch, StopsBy}
 
 -- ---- a worn object
@@ -178,10 +179,13 @@ stops_of before now k (Err stop.Worn) same is = (same, is)
 -- ---- passes that are split off, one after the other
 
 pub same_none : (a : CommonsKnown) → IsSame a a
-same_none a = record { parts = λ p. refl; book = refl }
+same_none a = record { parts = λ p. record { seen = refl; mine = refl }; book = record { seen = refl; mine = refl } }
+
+but_after : {X Q : Type 0} (a b c : Account X Q) → IsSameBut a b → IsSameBut b c → IsSameBut a c
+but_after {X} {Q} a b c one next = record { seen = next.seen ∙ one.seen; mine = next.mine ∙ one.mine }
 
 pub same_after : (a b c : CommonsKnown) → IsSame a b → IsSame b c → IsSame a c
-same_after a b c one next = record { parts = λ p. next.parts p ∙ one.parts p; book = next.book ∙ one.book }
+same_after a b c one next = record { parts = λ p. but_after (a.part p) (b.part p) (c.part p) (one.parts p) (next.parts p); book = but_after a.book b.book c.book one.book next.book }
 
 -- ---- desks that were made
 
@@ -192,12 +196,28 @@ worn_purge moment count old new (same, (counts, few, purged, all)) = inr (length
 pub uncalled_at : (k : CommonsKnown) (a b c : ℕ) → a ≡ 0 → b ≡ 0 → c ≡ 0 → call_at k None a b c ≡ call_at k None 0 0 0
 uncalled_at k a b c e f h = ap (λ n. call_at k None n b c) e ∙ ap (λ n. call_at k None 0 n c) f ∙ ap (λ n. call_at k None 0 0 n) h
 
+callless_from : {X Q : Type 0} (a b c : Account X Q) → IsSameBut a b → IsCallless b c → IsCallless a c
+callless_from {X} {Q} a b c same none = record { seen = none.seen ∙ same.seen; mine = none.mine }
+
+none_from : (a b c : CommonsKnown) → IsSame a b → HasNoCalls b c → HasNoCalls a c
+none_from a b c same none = record {
+  parts = λ p within. callless_from (a.part p) (b.part p) (c.part p) (same.parts p) (none.parts p within);
+  book = callless_from a.book b.book c.book same.book none.book;
+}
+
+-- a pass that was split off
+fresh_of : {X Q : Type 0} (a c : Account X Q) → c ≡ untaken a → IsCallless a c
+fresh_of {X} {Q} a c is = record { seen = ap (λ (x : Account X Q). x.seen) is; mine = ap (λ (x : Account X Q). x.mine) is }
+
+pub no_calls : (a c : CommonsKnown) → IsUntaken a c → HasNoCalls a c
+no_calls a c new = record { parts = λ p within. fresh_of (a.part p) (c.part p) (new.parts p within); book = fresh_of a.book c.book new.book }
+
 module _ {P N C : Type 0} (views : ServiceViews P N C) (routes : List Route) where
   -- what was split off a pass that knows the same
   new_from : (a b : CommonsKnown) (desk : Desk P (HttpLink N) C Plain) → IsSame a b → IsNewDesk views routes b desk → IsNewDesk views routes a desk
   new_from a b desk same new = record {
     free = new.free;
-    pass = record { parts = λ p within. new.pass.parts p within ∙ ap untaken (same.parts p); book = new.pass.book ∙ ap untaken same.book };
+    pass = none_from a b (known desk.pass) same new.pass;
     routed = new.routed;
     silent = new.silent;
     uncalled = new.uncalled;
@@ -220,9 +240,9 @@ module _ {P N C : Type 0} (views : ServiceViews P N C) (routes : List Route) whe
 
   -- a batch, by the steps of it
   pub batch_of : (part : ResolverPart) (node : Node) (a c : NetworkAt P) (k purged split k' : CommonsKnown) (clock clock' : ClockAt) (moment count : ℕ) (desks : List (Desk P (HttpLink N) C Plain))
-      (result : Result Unit Stop) → IsOneReading clock clock' → moment ≡ clock'.last → IsPurged moment k purged → IsSame purged split → AreMade views part routes purged desks → length desks ≡ count
+      (result : Result Unit Stop) → IsOneReading clock clock' → moment ≡ clock'.last → IsPurged moment k purged → IsSame purged split → AreShared purged (split ∷ map known_at desks) → AreMade views part routes purged desks → length desks ≡ count
       → OnOk result (ServesDesks (at_desks views) node desks (progress a split) (progress c k')) → OnOk result (IsServedBatch count (setup views node routes) (standing a k clock) (standing c k' clock'))
-  batch_of part node a c k purged split k' clock clock' moment count desks (Ok u) reading is (dropped, purge) same made many serves = (
+  batch_of part node a c k purged split k' clock clock' moment count desks (Ok u) reading is (dropped, purge) same shared made many serves = (
     record { before = standing a k clock; desks = desks; now = standing c k' clock' },
     many,
     refl,
@@ -235,7 +255,8 @@ module _ {P N C : Type 0} (views : ServiceViews P N C) (routes : List Route) whe
       new = made.new;
       split = split;
       same = same;
+      shared = shared;
       serves = serves;
     },
   )
-  batch_of part node a c k purged split k' clock clock' moment count desks (Err stop) reading is purge same made many serves = tt
+  batch_of part node a c k purged split k' clock clock' moment count desks (Err stop) reading is purge same shared made many serves = tt

@@ -35,6 +35,7 @@ use Rattle.resolver_service.specs.Faults.{end_without_node}
 use Rattle.resolver_service.specs.Steps.{EndsOn, EndsServing, IsEndOf, IsOpenedFrom, StopsAfter, StopsBatch, StopsBy}
 use Rattle.resolver_service.specs.Stopped.{ServesSome}
 use Rattle.resolver_service.proofs.OrderLaws.{in_order}
+use Rattle.resolver_service.proofs.ShareLaws.{made_all, owns_all}
 
 -- the end of a batch, by what stopped it
 stops_in : {P N C : Type 0} (s : Setup P N C) (count : ℕ) (before now : Standing P) (why : Stop) (end : ResolverEnd) → IsEndOf why now.progress.known end
@@ -85,6 +86,7 @@ module _ {P N C : Type 0} (views : ServiceViews P N C) where
       let all : ServesAll (setup views opened.node is.resolver.routes) is.resolver.workers connections (standing before.net first before.clock) (standing now.net joined now.clock) =
       subst (λ routes. ServesAll (setup views opened.node routes) is.resolver.workers connections (standing before.net first before.clock) (standing now.net joined now.clock)) is.routes
       (subst (λ workers. ServesAll (setup views opened.node opened.routes) workers connections (standing before.net first before.clock) (standing now.net joined now.clock)) is.workers serves) in
+      let owned = owns_all (setup views opened.node is.resolver.routes) (standing before.net first before.clock) all.0 (standing now.net joined now.clock) (opened_book part.commons) unseen all.2 history in
       record {
         resolver = is.resolver;
         full = opened.node;
@@ -94,6 +96,8 @@ module _ {P N C : Type 0} (views : ServiceViews P N C) where
         serves = all;
         in_order = in_order (setup views opened.node is.resolver.routes) (standing before.net first before.clock) all.0 (standing now.net joined now.clock) all.2;
         history = subst (λ book. IsHistory ShelfStep [] BookStep book joined) (ap (λ (p : ResolverPart). opened_book p.commons) same ∙ is.is_full.is.opened) history;
+        owned = owned;
+        made = made_all (setup views opened.node is.resolver.routes) (standing before.net first before.clock) all.0 (standing now.net joined now.clock) unseen all.2 owned;
       }
 
   -- fewer were, and then a batch stopped

@@ -5,4 +5,5 @@ mod EndLaws
 mod NodeLaws
 mod OrderLaws
 mod PlaceLaws
+mod ShareLaws
 mod StopLaws

@@ -5,8 +5,8 @@ use Rattle.std.proofs.lemmas.List.Elements.{All-cons, All-head, All-tail}
 use Rattle.fed_base.specs.declared.ledger.Plain.{Plain}
 use Rattle.http_plain.specs.declared.link.HttpLink.{HttpLink}
 use Rattle.turn_log.specs.Gains.{calls_of}
-use Rattle.turn_log.specs.Groups.{AddsOnBook, AreJoined, IsSame, IsUntaken, known, part_count}
-use Rattle.turn_log.specs.Passes.{IsJoined, untaken}
+use Rattle.turn_log.specs.Groups.{AddsOnBook, AreJoined, IsSame, known, part_count}
+use Rattle.turn_log.specs.Passes.{IsJoined, IsSameBut, untaken}
 use Rattle.turn_log.specs.Places.{IsIn}
 use Rattle.turn_log.specs.Runs.{Account, Adds}
 use Rattle.turn_log.proofs.Gains.{adds-none}
@@ -31,18 +31,19 @@ use Rattle.fed_serve.specs.Moments.{Around}
 use Rattle.fed_serve.specs.Serving.{Serves}
 use Rattle.fed_serve.specs.Uses.{Uses}
 use Rattle.resolver_service.specs.Batches.{AreBatches, Batch, IsBatch, IsNewDesk, JoinedInTurn, Setup, Standing, at_desks, known_at}
+use Rattle.resolver_service.specs.Passes.{HasNoCalls, IsCallless}
 use Rattle.resolver_service.specs.Precedence.{Follows, HasCallsOf, HasOnlyCallsOf, IsMadeAt, StandsBefore, StandsPast, TakesIn}
-use Rattle.resolver_service.proofs.PlaceLaws.{Gathers, LiesFrom, follows, gathers_adds, gathers_after, gathers_joined, gathers_none, joined_from, joined_has, lies_on, prefix_le, stand_before}
+use Rattle.resolver_service.proofs.PlaceLaws.{Gathers, LiesFrom, follows, gathers_adds, gathers_after, gathers_fresh, gathers_joined, gathers_none, gathers_same, joined_from, joined_has, lies_on, prefix_le, stand_before}
 
 -- ---- calls that are added
 
 -- some calls were added
-abbrev AddsCalls : {X Q : Type 0} → Account X Q → Account X Q → Type 0
+abbrev pub AddsCalls : {X Q : Type 0} → Account X Q → Account X Q → Type 0
 AddsCalls {X} {Q} old new = (calls : List (X × Q)) × Adds old new calls
 
-record AddsOnEach (old new : CommonsKnown) : Type 0 where
-  parts : (p : ℕ) → AddsCalls (old.part p) (new.part p)
-  book : AddsCalls old.book new.book
+pub record AddsOnEach (old new : CommonsKnown) : Type 0 where
+  pub parts : (p : ℕ) → AddsCalls (old.part p) (new.part p)
+  pub book : AddsCalls old.book new.book
 
 adds_same : {X Q : Type 0} (old new : Account X Q) → new ≡ old → AddsCalls old new
 adds_same old new same = ([], subst (λ a. Adds old a []) (sym same) (adds-none old))
@@ -56,7 +57,7 @@ unknown old new same = record {
 booked : (old new : CommonsKnown) (calls : List (BookCall × BookReply)) → AddsOnBook old calls new → AddsOnEach old new
 booked old new calls adds = record { parts = λ p. adds_same (old.part p) (new.part p) (adds.parts p); book = (calls, adds.here) }
 
-purges : (moment : ℕ) (reply : ShelfReply) (old new : CommonsKnown) → IsShelfCall (Purge moment) reply old new → AddsOnEach old new
+pub purges : (moment : ℕ) (reply : ShelfReply) (old new : CommonsKnown) → IsShelfCall (Purge moment) reply old new → AddsOnEach old new
 purges moment (Dropped n) old new (counts, all, total, purged) = record { parts = λ p. (purge_at moment counts p, purged.parts p); book = adds_same old.book new.book purged.book }
 purges moment (Hit proven) old new is = absurd is
 purges moment Miss old new is = absurd is
@@ -78,7 +79,7 @@ uses_adds node walks t before now (dealt change worn) (part, has, unlinked, (sea
 uses_adds node walks t before now (dealt change untested) (part, has, unlinked, (adds, tests)) = booked before.known now.known [] adds
 
 -- however serving ends
-serves_adds : (node : Node) (walks : Walking) (before now : Around) (result : Result Served ServeFault) → Serves node walks before now result
+pub serves_adds : (node : Node) (walks : Walking) (before now : Around) (result : Result Served ServeFault) → Serves node walks before now result
     → AddsOnEach before.call.known now.call.known
 serves_adds node walks before now (Ok served) serves = let is = serves.answered served refl in uses_adds node walks now.clock.last before.call now.call is.handling is.handled.uses
 serves_adds node walks before now (Err Ended) serves = unknown before.call.known now.call.known (ap (λ (c : CallAt). c.known) (serves.silent (inl refl)).call)
@@ -89,13 +90,13 @@ serves_adds node walks before now (Err (Worn count)) serves = let is = (serves.w
 -- ---- one object among all
 
 -- what is done on each is done on it
-record IsObject {X Q : Type 0} (on : CommonsKnown → Account X Q) : Type 0 where
-  same : (a b : CommonsKnown) → IsSame a b → on b ≡ on a
-  none : (a b : CommonsKnown) → IsUntaken a b → on b ≡ untaken (on a)
-  joined : (a b c : CommonsKnown) → AreJoined a b c → IsJoined (on a) (on b) (on c)
-  added : (a b : CommonsKnown) → AddsOnEach a b → AddsCalls (on a) (on b)
+pub record IsObject {X Q : Type 0} (on : CommonsKnown → Account X Q) : Type 0 where
+  pub same : (a b : CommonsKnown) → IsSame a b → IsSameBut (on a) (on b)
+  pub none : (a b : CommonsKnown) → HasNoCalls a b → IsCallless (on a) (on b)
+  pub joined : (a b c : CommonsKnown) → AreJoined a b c → IsJoined (on a) (on b) (on c)
+  pub added : (a b : CommonsKnown) → AddsOnEach a b → AddsCalls (on a) (on b)
 
-part_object : (p : ℕ) → p < part_count → IsObject (λ known. known.part p)
+pub part_object : (p : ℕ) → p < part_count → IsObject (λ known. known.part p)
 part_object p within = record {
   same = λ a b same. same.parts p;
   none = λ a b none. none.parts p within;
@@ -103,7 +104,7 @@ part_object p within = record {
   added = λ a b added. added.parts p;
 }
 
-book_object : IsObject (λ known. known.book)
+pub book_object : IsObject (λ known. known.book)
 book_object = record { same = λ a b same. same.book; none = λ a b none. none.book; joined = λ a b c joined. joined.book; added = λ a b added. added.book }
 
 module _ {P N C X Q : Type 0} (s : Setup P N C) (on : CommonsKnown → Account X Q) (object : IsObject on) where
@@ -114,16 +115,15 @@ module _ {P N C X Q : Type 0} (s : Setup P N C) (on : CommonsKnown → Account X
   GathersAt least split desk = Gathers least (untaken (on split)) (on (known desk.pass))
 
   idle_gathers : (least : ℕ) (split : CommonsKnown) (desk : Desk P (HttpLink N) C Plain) → IsNewDesk s.views s.routes split desk → GathersAt least split desk
-  idle_gathers least split desk new =
-      subst (λ (a : Account X Q). Gathers least (untaken (on split)) a) (sym (object.none split (known desk.pass) new.pass)) (gathers_none least (untaken (on split)))
+  idle_gathers least split desk new = gathers_fresh least (on split) (on (known desk.pass)) (object.none split (known desk.pass) new.pass)
 
   served_gathers : (least : ℕ) (split : CommonsKnown) (came : P) (old new : Desk P (HttpLink N) C Plain) → least ≤ length (on split).seen → IsNewDesk s.views s.routes split old
       → IsServedAt (at_desks s.views) s.node came old new → GathersAt least split new
   served_gathers least split came old new low fresh served =
-      let same : on (known old.pass) ≡ untaken (on split) = object.none split (known old.pass) fresh.pass in
+      let none = object.none split (known old.pass) fresh.pass in
       let added = object.added (known old.pass) (known new.pass) (serves_adds s.node _ _ _ served.told served.serves) in
-      subst (λ (a : Account X Q). Gathers least a (on (known new.pass))) same
-      (gathers_adds least (on (known old.pass)) (on (known new.pass)) added.0 (subst (λ (a : Account X Q). least ≤ length a.seen) (sym same) low) added.1)
+      gathers_after least (untaken (on split)) (on (known old.pass)) (on (known new.pass)) (gathers_fresh least (on split) (on (known old.pass)) none)
+      (gathers_adds least (on (known old.pass)) (on (known new.pass)) added.0 (subst (λ (seen : List (X × Q)). least ≤ length seen) (sym none.seen) low) added.1)
 
   desks_gather : (least : ℕ) (split : CommonsKnown) (peers : List P) (old new : List (Desk P (HttpLink N) C Plain)) → least ≤ length (on split).seen
       → All (IsNewDesk s.views s.routes split) old → AreServedAt (IsServedAt (at_desks s.views) s.node) peers old new → All (GathersAt least split) new
@@ -186,7 +186,7 @@ module _ {P N C X Q : Type 0} (s : Setup P N C) (on : CommonsKnown → Account X
         let least = length (on b.before.progress.known).seen in
         follows (on b.before.progress.known) (on b.now.progress.known)
         (gathers_after least (on b.before.progress.known) (on is.purged) (on b.now.progress.known) purge_gathers
-        (subst (λ (a : Account X Q). Gathers least a (on b.now.progress.known)) (object.same is.purged is.split is.same)
+        (gathers_same least (on is.purged) (on is.split) (on b.now.progress.known) (object.same is.purged is.split is.same)
         (joins_gather least is.purged is.serves.served is.split b.now.progress.known gather_at is.serves.ended.joined)))
 
     batch_takes : (other : CommonsKnown) → Among other (map known_at is.serves.served) → TakesIn (on b.before.progress.known) (on other) (on b.now.progress.known)
@@ -196,7 +196,7 @@ module _ {P N C X Q : Type 0} (s : Setup P N C) (on : CommonsKnown → Account X
     batch_only : (place : ℕ) → IsMadeAt (on b.before.progress.known) (on b.now.progress.known) place
         → IsMadeAt (on b.before.progress.known) (on is.purged) place ⊎ ((other : CommonsKnown) × Among other (map known_at is.serves.served) × IsIn place (on other).mine)
     batch_only place made =
-        ⊎_elim (λ k. inl (subst (λ (a : Account X Q). IsIn place a.mine) (object.same is.purged is.split is.same) k, made.1)) (λ k. inr k)
+        ⊎_elim (λ k. inl (subst (IsIn place) (object.same is.purged is.split is.same).mine k, made.1)) (λ k. inr k)
         (joins_only is.serves.served is.split b.now.progress.known is.serves.ended.joined place made.0)
 
 -- ---- batches

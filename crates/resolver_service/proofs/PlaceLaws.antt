@@ -3,9 +3,10 @@ use Rattle.std.proofs.Common.{◌≡◌, ◌≤◌, ◌<◌, ◌⊎◌, ◌+◌,
 use Rattle.std.specs.Prelude.{All, slice_get}
 use Rattle.std.proofs.lemmas.List.Elements.{All-head, All-tail}
 use Rattle.std.proofs.lemmas.Option.{slice_get_within}
-use Rattle.turn_log.specs.Passes.{untaken, IsJoined}
+use Rattle.turn_log.specs.Passes.{untaken, IsJoined, IsSameBut}
 use Rattle.turn_log.specs.Places.{IsIn, merged, put_in}
 use Rattle.turn_log.specs.Runs.{Account, Adds, IsPrefix}
+use Rattle.resolver_service.specs.Passes.{IsCallless}
 use Rattle.resolver_service.specs.Precedence.{Follows, Precedes}
 
 -- ---- lists of places
@@ -106,6 +107,22 @@ module _ {C R : Type 0} where
         ⊎_elim (λ k. inl k)
         (λ k. inr (le_trans low (all_in (λ p. length old.seen ≤ p) adds.places adds.later place k), places_within new.seen adds.places calls adds.are place k))
         (in_either place old.mine adds.places (subst (IsIn place) adds.mine h));
+  }
+
+  -- of a pass that was split off
+  pub gathers_fresh : (least : ℕ) (split new : Account C R) → IsCallless split new → Gathers least (untaken split) new
+  gathers_fresh least split new fresh = record {
+    seen = ([], fresh.seen ∙ sym (append-nil split.seen));
+    kept = λ place h. absurd h;
+    each = λ place h. absurd (subst (IsIn place) fresh.mine h);
+  }
+
+  -- from a pass that has seen and made the same
+  pub gathers_same : (least : ℕ) (a b c : Account C R) → IsSameBut a b → Gathers least b c → Gathers least a c
+  gathers_same least a b c same gathers = record {
+    seen = (gathers.seen.0, gathers.seen.1 ∙ ap (λ s. s ++ gathers.seen.0) same.seen);
+    kept = λ place h. gathers.kept place (subst (IsIn place) (sym same.mine) h);
+    each = λ place h. ⊎_elim (λ k. inl (subst (IsIn place) same.mine k)) (λ w. inr w) (gathers.each place h);
   }
 
   -- what another caller gathered that had none of its own

@@ -8,7 +8,7 @@ use Rattle.fed_ports.specs.Times.{ClockAt, IsOneReading}
 use Rattle.http_plain.specs.declared.link.HttpLink.{HttpLink}
 use Rattle.http_plain.specs.declared.route.Route.{Route}
 use Rattle.http_plain.specs.Links.{Listening, link_calls, link_network, link_routes}
-use Rattle.turn_log.specs.Groups.{AreJoined, IsSame, IsUntaken, known}
+use Rattle.turn_log.specs.Groups.{AreJoined, IsSame, known}
 use Rattle.statement_shelf.specs.Passes.{CommonsKnown, IsShelfCall}
 use Rattle.statement_shelf.specs.declared.calls.ShelfCall.TheVariants.{Purge}
 use Rattle.statement_shelf.specs.declared.calls.ShelfReply.{ShelfReply}
@@ -22,6 +22,7 @@ use Rattle.fed_serve.specs.Desks.{AreServedAt, IsServedAt, Views, views_of}
 use Rattle.http_plain.specs.Networks.{NetworkAt}
 use Rattle.fed_serve.specs.Moments.{PeerAt}
 use Rattle.resolve_call.specs.Exchanged.{link_gave}
+use Rattle.resolver_service.specs.Passes.{AreShared, HasNoCalls}
 
 -- ---- one moment
 
@@ -128,14 +129,14 @@ module _ {P N C : Type 0} where
   -- no call, over a network that had no exchange, its ledger has counted nothing, and its clock wasn't read
   pub record IsNewDesk (views : ServiceViews P N C) (routes : List Route) (split : CommonsKnown) (desk : Desk P (HttpLink N) C Plain) : Type 0 where
     pub free : desk.peer ≡ None
-    pub pass : IsUntaken split (known desk.pass)
+    pub pass : HasNoCalls split (known desk.pass)
     pub routed : link_routes desk.link ≡ routes
     pub silent : IfSome (views.exchanges (link_network desk.link)) (λ told. told ≡ [])
     pub uncalled : (at_desks views).call (known desk.pass) desk.link desk.steps.ledger ≡ call_at (known desk.pass) None 0 0 0
     pub unread : (views.clock desk.clock).count ≡ 0
 
   -- the clock was read once, and what was stale at that moment dropped from the cache; desks were made, with a pass for each that was split
-  -- from the one pass, and a connection was served at each; and their passes were joined to it
+  -- from the one pass, which has shared with them alone, and a connection was served at each; and their passes were joined to it
   pub record IsBatch (s : Setup P N C) (b : Batch P N C) : Type 0 where
     pub clock : IsOneReading b.before.clock b.now.clock
     pub dropped : ShelfReply
@@ -144,6 +145,7 @@ module _ {P N C : Type 0} where
     pub new : All (IsNewDesk s.views s.routes purged) b.desks
     pub split : CommonsKnown
     pub same : IsSame purged split
+    pub shared : AreShared purged (split ∷ map known_at b.desks)
     pub serves : ServesDesks (at_desks s.views) s.node b.desks (progress b.before.progress.net split) b.now.progress
 
   -- batches, one after the other

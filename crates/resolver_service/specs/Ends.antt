@@ -22,7 +22,8 @@ use Rattle.resolver_service.specs.declared.ending.ResolverEnd.{ResolverEnd}
 use Rattle.resolver_service.specs.declared.ending.ResolverEnd.TheVariants as ends
 use Rattle.resolver_service.specs.Batches.{ServesAll, ServiceViews, Setup, Standing, setup, standing}
 use Rattle.resolver_service.specs.Nodes.{IsNodeWith}
-use Rattle.resolver_service.specs.Precedence.{StandsBefore}
+use Rattle.resolver_service.specs.Passes.{OwnsAllSeen}
+use Rattle.resolver_service.specs.Precedence.{AreMadeIn, StandsBefore}
 use Rattle.resolver_service.specs.Stopped.{BreaksOff, BreaksOffUnsettled, ServesSome, WantsIn, WearsIn}
 
 -- the network and the clock at one moment
@@ -67,6 +68,10 @@ module _ {P N C : Type 0} where
     -- on each shared object the calls of an earlier batch stand before those of a later one
     pub in_order : Ordered StandsBefore serves.0
     pub history : IsHistory ShelfStep [] BookStep (opened_with is_full.is.anchors) joined
+    -- each call that was made on a shared object is its own, and was made in one of the batches: no other pass is left that could have made
+    -- one
+    pub owned : OwnsAllSeen joined
+    pub made : AreMadeIn serves.0 joined
 
   -- how the batch stopped that was begun: the network failed, and all who were accepted were settled; or some of them were dropped; or
   -- memory was wanting; or a shared object was worn, as the pass has seen

@@ -2,6 +2,7 @@ pub mod Batches
 pub mod Ends
 pub mod Faults
 pub mod Nodes
+pub mod Passes
 pub mod Ports
 pub mod Precedence
 pub mod Steps

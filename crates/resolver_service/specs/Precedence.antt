@@ -1,15 +1,11 @@
 -- Which calls on the shared objects stand before which, over batches.
 use Rattle.std.specs.Prelude.{◌<◌, ◌≤◌, ◌⊎◌, ℕ, List, length}
-use Rattle.turn_log.specs.Groups.{part_count}
 use Rattle.turn_log.specs.Places.{IsIn}
 use Rattle.turn_log.specs.Runs.{Account, IsPrefix}
 use Rattle.chain_climb.specs.Elements.{Among}
 use Rattle.statement_shelf.specs.Passes.{CommonsKnown}
-use Rattle.statement_shelf.specs.declared.calls.ShelfCall.{ShelfCall}
-use Rattle.statement_shelf.specs.declared.calls.ShelfReply.{ShelfReply}
-use Rattle.statement_shelf.specs.declared.calls.BookCall.{BookCall}
-use Rattle.statement_shelf.specs.declared.calls.BookReply.{BookReply}
 use Rattle.resolver_service.specs.Batches.{Batch}
+use Rattle.resolver_service.specs.Passes.{OnEach}
 
 -- ---- one object
 
@@ -38,11 +34,6 @@ module _ {C R : Type 0} where
 
 -- ---- all of them
 
--- it holds on each shared object: on each part of the cache, and on the book
-pub record OnEach (holds : (X Q : Type 0) → (CommonsKnown → Account X Q) → Type 0) : Type 0 where
-  pub parts : (p : ℕ) → p < part_count → holds ShelfCall ShelfReply (λ known. known.part p)
-  pub book : holds BookCall BookReply (λ known. known.book)
-
 module _ {P N C : Type 0} where
   -- the calls of the batch stand past all that the one pass had seen before it
   abbrev pub StandsPast : Batch P N C → Type 0
@@ -62,3 +53,13 @@ module _ {P N C : Type 0} where
   abbrev pub StandsBefore : Batch P N C → Batch P N C → Type 0
   StandsBefore one other =
       OnEach (λ X Q on. Precedes (on one.before.progress.known) (on one.now.progress.known) (on other.before.progress.known) (on other.now.progress.known))
+
+  -- the call at this place was made in one of these batches
+  pub record IsMadeIn {X Q : Type 0} (batches : List (Batch P N C)) (on : CommonsKnown → Account X Q) (place : ℕ) : Type 0 where
+    pub batch : Batch P N C
+    pub among : Among batch batches
+    pub made : IsMadeAt (on batch.before.progress.known) (on batch.now.progress.known) place
+
+  -- each call on a shared object was
+  abbrev pub AreMadeIn : List (Batch P N C) → CommonsKnown → Type 0
+  AreMadeIn batches joined = OnEach (λ X Q on. (place : ℕ) → place < length (on joined).seen → IsMadeIn batches on place)

@@ -1,10 +1,11 @@
 // Desks for a batch of connections.
 
-ghost use Rattle.std.specs.Prelude.{◌≡◌, [], length, IfOk, IfSome, OnOk};
+ghost use Rattle.std.specs.Prelude.{◌≡◌, [], ◌∷◌, length, map, IfOk, IfSome, OnOk};
 ghost use Rattle.http_plain.specs.Links.{link_calls, link_network, link_routes};
 ghost use Rattle.statement_shelf.specs.Passes.{IsPassOfAll};
 ghost use Rattle.turn_log.specs.Groups.{IsSame, known};
-ghost use Rattle.resolver_service.specs.Batches.{IsNewDesk};
+ghost use Rattle.resolver_service.specs.Batches.{IsNewDesk, known_at};
+ghost use Rattle.resolver_service.specs.Passes.{AreShared, HaveHalves};
 ghost use Rattle.resolver_service.specs.Ports.{views_by};
 ghost use Rattle.resolver_service.specs.Steps.{AreMade, IsReady};
 
@@ -53,6 +54,7 @@ fn desk_with<R: OpensLedgers, N: Network + Drop, C: Clock + Drop>(
     ensures same { IsSame (known pass.old) (known pass.new) }
     ensures ready { IfOk result (IsReady server.now.part.now) }
     ensures new { IfOk result (IsNewDesk (views_by N.Network N.Peer.Source N.Peer.Sink C.Clock) (link_routes link) (known pass.old)) }
+    ensures halves { IfOk result (λ desk. HaveHalves (known pass.old) (known pass.new) (known_at desk)) }
 {
     match server.part.commons.split(server.rt, server.alloc, pass) {
         Ok(own) => Ok(Desk {
@@ -85,6 +87,7 @@ fn new_desk<R: OpensLedgers, N: Network + Drop, C: Clock + Drop>(
     ensures same { IsSame (known pass.old) (known pass.new) }
     ensures ready { IfOk result (IsReady server.now.part.now) }
     ensures new { IfOk result (IsNewDesk (views_by N.Network N.Peer.Source N.Peer.Sink C.Clock) server.now.opened.now.routes (known pass.old)) }
+    ensures halves { IfOk result (λ desk. HaveHalves (known pass.old) (known pass.new) (known_at desk)) }
 {
     let link = new_link(server.alloc, net, &server.opened.routes)?;
     match clock.another(server.alloc) {
@@ -112,6 +115,7 @@ where
     ensures of { IsPassOfAll server.now.part.now.commons pass.new }
     ensures same { IsSame (known pass.old) (known pass.new) }
     ensures many { OnOk result (length desks.new.items ≡ count) }
+    ensures shared { OnOk result (AreShared (known pass.old) (known pass.new ∷ map known_at desks.new.items)) }
     ensures made { OnOk result (AreMade (views_by N.Network N.Peer.Source N.Peer.Sink C.Clock) server.now.part.now server.now.opened.now.routes (known pass.old) desks.new.items) }
 {
     for _ in 0..count {

@@ -42,7 +42,7 @@ fn part_of(url: &Text) -> usize
 impl Commons {
     ghost use Rattle.std.specs.Prelude.{◌≡◌, ◌<◌, ◌≤◌, ◌∷◌, [], length, IfOk, IfErr};
     ghost use Rattle.turn_log.specs.Runs.{call_limit};
-    ghost use Rattle.turn_log.specs.Groups.{AddsOnBook, AddsOnPart, AreJoined, EndsOnBook, EndsOnPart, IsHistory, IsSame, IsUntaken, IsUnused, OwnsEach, StaysAlone, known};
+    ghost use Rattle.turn_log.specs.Groups.{AddsOnBook, AddsOnPart, AreHalved, AreJoined, EndsOnBook, EndsOnPart, IsHistory, IsSame, IsUntaken, IsUnused, OwnsEach, StaysAlone, known};
     ghost use Rattle.statement_shelf.specs.Book.{BookStep, opened_with};
     ghost use Rattle.statement_shelf.specs.Shelf.{ShelfStep};
     ghost use Rattle.statement_shelf.specs.declared.calls.ShelfCall.TheVariants.{Purge};
@@ -164,19 +164,20 @@ impl Commons {
         self.nine.book(rt, alloc, pass, call)
     }
 
-    /// A pass that has seen what this one has seen, and made no call. After `Memory` this one has seen the same and made the same calls,
-    /// but need not be alone any more.
+    /// A pass that has seen what this one has seen, and made no call. Each has half the share of each object that this one had. After
+    /// `Memory` this one has seen the same and made the same calls, but need not be alone any more, nor have its share.
     pub fn split<R>(&self, rt: &R, alloc: Global, pass: &mut FedPass) -> Result<FedPass, Memory>
         requires { IsPassOfAll self.now pass.old }
         ensures of { IsPassOfAll self.now pass.new }
         ensures same { IsSame (known pass.old) (known pass.new) }
+        ensures halved { IfOk result (λ _. AreHalved (known pass.old) (known pass.new)) }
         ensures of_result { IfOk result (λ r. IsPassOfAll self.now r) }
         ensures untaken { IfOk result (λ r. IsUntaken (known pass.old) (known r)) }
     {
         self.nine.split(rt, alloc, pass)
     }
 
-    /// Takes in what another pass has seen, and its calls.
+    /// Takes in what another pass has seen, its calls and its shares.
     pub fn join<R>(&self, rt: &R, pass: &mut FedPass, other: FedPass)
         requires pass { IsPassOfAll self.now pass.old }
         requires other { IsPassOfAll self.now other }

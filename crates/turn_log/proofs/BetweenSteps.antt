@@ -6,22 +6,8 @@ use native.Mathlib.Decide.{ℕ_discrete}
 use Rattle.turn_log.specs.Places.{IsIn, places_below}
 use Rattle.turn_log.specs.Between.{KeepsBetween}
 use Rattle.turn_log.specs.declared.view.Stored.{Stored}
-use Rattle.turn_log.proofs.Steps.{begins_le}
-
-has_front : (p : ℕ) (xs ys : List ℕ) → IsIn p xs → IsIn p (xs ++ ys)
-has_front p [] ys h = absurd h
-has_front p (x ∷ xs) ys h = ⊎_elim (λ e. inl e) (λ t. inr (has_front p xs ys t)) h
-
-has_end : (p : ℕ) (xs : List ℕ) → IsIn p (xs ++ p ∷ [])
-has_end p [] = inl refl
-has_end p (x ∷ xs) = inr (has_end p xs)
-
-below_has : (n p : ℕ) → p < n → IsIn p (places_below n)
-below_has zero p h = absurd (omega arith)
-below_has (suc n) p h =
-    dite (ℕ_discrete p n)
-    (λ e. subst (λ (q : ℕ). IsIn q (places_below n ++ n ∷ [])) (sym e) (has_end n (places_below n)))
-    (λ apart. has_front p (places_below n) (n ∷ []) (below_has n p (omega arith)))
+use Rattle.turn_log.proofs.Owning.{below_has}
+use Rattle.turn_log.proofs.Steps.{begins_le, covers, sole_of}
 
 module _ {X C R : Type 0} (steps : X → C → R → X → Type 0) where
   lies_in : (now : X) (turn : ℕ) (home : Maybe (Stored X C R)) → (turn < 2) → (turn ≡ 1 → home ≡ none) → (turn ≡ 0 → (c : Stored X C R) × (home ≡ some c) × (c.value ≡ Some now)) → (c : Stored X C R) → home ≡ some c → c.value ≡ Some now
@@ -53,6 +39,11 @@ module _ {X C R : Type 0} (steps : X → C → R → X → Type 0) where
         lies = λ nobody. ⊎_elim (λ z. let f = r.free z in (f.0, f.1)) (λ t. absurd (nobody r.holder (t.1, t.2, t.3))) r.held;
         named = λ id v at h. ((r.each id v at).turn_is h).2;
         whole = λ id v at h k. (r.each id v at).whole h k;
+        shares = r.shares;
+        sole = λ id other v w at there held apart.
+            let none = sole_of steps s r id other v w at there held apart in
+            (none, (r.each other w there).spent none);
+        covered = λ id v at held. covers steps s r id v at held;
         one_view = λ id v at a. ((r.each id v at).only a).0;
         all_mine = λ id v p at a l. subst (λ (xs : List ℕ). IsIn p xs) (sym ((r.each id v at).only a).1) (below_has (length r.log) p l);
       }

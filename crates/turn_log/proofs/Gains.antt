@@ -37,6 +37,7 @@ module _ {C R : Type 0} where
     mine = sym (append-nil known.mine);
     later = λ k d less. absurd (omega (arith, less));
     are = refl;
+    share = refl;
   }
 
   -- what it gains by some calls and then by others
@@ -56,12 +57,13 @@ module _ {C R : Type 0} where
             (subst (λ s. map (slice_get s) a.places ≡ map Some first) (sym whole) (places-front mid.seen b.seen.0 a.places first a.are))
             b.are
             ∙ sym (map-append Some first second);
+        share = b.share ∙ a.share;
       }
 
   -- one call: what was seen before it ends with it, and its place is the caller's own
-  pub adds-one : (old new : Account C R) (between : List (C × R)) (e : C × R) → new.seen ≡ (old.seen ++ between) ++ e ∷ [] → new.mine ≡ old.mine ++ length (old.seen ++ between) ∷ []
+  pub adds-one : (old new : Account C R) (between : List (C × R)) (e : C × R) → new.seen ≡ (old.seen ++ between) ++ e ∷ [] → new.mine ≡ old.mine ++ length (old.seen ++ between) ∷ [] → new.share ≡ old.share
       → Adds old new (e ∷ [])
-  adds-one old new between e seen mine =
+  adds-one old new between e seen mine share =
       let size = length-append old.seen between in
       record {
         seen = (between ++ e ∷ [], seen ∙ append_assoc old.seen between (e ∷ []));
@@ -69,6 +71,7 @@ module _ {C R : Type 0} where
         mine = mine;
         later = λ k d less. one_place (length old.seen) (length (old.seen ++ between)) (omega (arith, size)) k d less;
         are = subst (λ s. map (slice_get s) (length (old.seen ++ between) ∷ []) ≡ map Some (e ∷ [])) (sym seen) (ap (λ x. x ∷ []) (slice-end (old.seen ++ between) e));
+        share = share;
       }
     where
       one_place : (least place : ℕ) → least ≤ place → All (λ p. least ≤ p) (place ∷ [])
@@ -77,7 +80,7 @@ module _ {C R : Type 0} where
 
   -- a call that was told adds itself
   pub extends-adds : {S X : Type 0} (old : PassSeat S X C R) (call : C) (reply : R) (new : PassSeat S X C R) → Extends old call reply new → Adds (account old) (account new) ((call, reply) ∷ [])
-  extends-adds {S} {X} old call reply new h = adds-one (account old) (account new) h.between (call, reply) h.seen h.mine
+  extends-adds {S} {X} old call reply new h = adds-one (account old) (account new) h.between (call, reply) h.seen h.mine h.share
 
   -- and is the last that was seen
   pub extends-ends : {S X : Type 0} (old : PassSeat S X C R) (call : C) (reply : R) (new : PassSeat S X C R) → Extends old call reply new → EndsInCall (account old) (account new) (call, reply)
@@ -91,6 +94,7 @@ module _ {C R : Type 0} where
     mine = h.mine ∙ sym (append-nil (account old).mine);
     later = λ k d less. absurd (omega (arith, less));
     are = refl;
+    share = h.share;
   }
 
 pub calls_of-append : {E F : Type 0} (on : E → List F) (a b : List E) → calls_of on (a ++ b) ≡ calls_of on a ++ calls_of on b

@@ -2,6 +2,8 @@ pub mod AfterCalls
 pub mod BetweenSteps
 pub mod Gains
 pub mod GroupCalls
+pub mod Owning
 pub mod PartLists
 pub mod Places
+pub mod Shares
 pub mod Steps

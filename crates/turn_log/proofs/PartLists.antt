@@ -1,12 +1,13 @@
 -- Lists of passes, one of which changes.
 use Rattle.std.proofs.Common.{◌≡◌, ◌≢◌, ℕ, ◌+◌, ◌<◌, zero, suc, List, [], ◌∷◌, ◌++◌, length, get_or, set, refl, sym, ap, ◌∙◌, subst, arith, length-append}
-use Rattle.std.specs.Prelude.{Result, Ok, Err, IfOk, IfErr, true}
+use Rattle.std.specs.Prelude.{Result, Ok, Err, IfOk, IfErr, true, false, Bool, ltb}
+use Rattle.std.proofs.lemmas.Bool.{ltb-true, ltb-false}
 use mathlib.Core.Logic.{dite}
 use native.Mathlib.Decide.{ℕ_discrete}
 use Rattle.std.proofs.lemmas.List.{append_assoc}
 use Rattle.turn_log.specs.Runs.{Account, IsPrefix}
 use Rattle.std.specs.declared.snapshot.Snapshot.{Snapshot}
-use Rattle.turn_log.specs.Passes.{account, is_alone, untaken, unused, OwnsAll, IsJoined}
+use Rattle.turn_log.specs.Passes.{account, is_alone, lent, untaken, unused, OwnsAll, IsJoined, IsSameBut}
 use Rattle.turn_log.specs.Objects.{first_state, IsOf}
 use Rattle.turn_log.specs.declared.kept.KeptTable.{KeptTable}
 use Rattle.turn_log.specs.declared.pass.PassSeat.{PassSeat}
@@ -140,28 +141,37 @@ module _ {S V X C R Q : Type 0} (steps : X → C → R → X → Type 0) (first 
       }
 
   pub split_none : (objects : List (KeptTable S V (Snapshot X) Q)) (old : List (PassSeat S X C R)) → ArePasses steps first objects old → AreSplit steps first objects old old [] 0
-  split_none objects old a = record { passes = a; same = λ n. refl; count = refl; each = λ i k p less. absurd (omega arith); untaken_at = λ n less. absurd (omega arith) }
+  split_none objects old a = record { passes = a; split_at = λ n less. absurd (omega arith); after = λ n high. refl; count = refl; each = λ i k p less. absurd (omega arith); untaken_at = λ n less. absurd (omega arith) }
 
   pub split_more : (objects : List (KeptTable S V (Snapshot X) Q)) (old now new made : List (PassSeat S X C R)) (q : PassSeat S X C R) (at : ℕ) (P : Type 0) → AreSplit steps first objects old now made at → at < length objects → ArePasses steps first objects new
-      → ChangesAt now at (λ a b. (account b ≡ account a) × (account q ≡ untaken (account a)) × P) new → ((k : KeptTable S V (Snapshot X) Q) → IsOf steps (get_or objects at k) q) → AreSplit steps first objects old new (made ++ q ∷ []) (at + 1)
+      → ChangesAt now at (λ a b. (account b ≡ lent (account a)) × (account q ≡ untaken (account a)) × P) new → ((k : KeptTable S V (Snapshot X) Q) → IsOf steps (get_or objects at k) q) → AreSplit steps first objects old new (made ++ q ∷ []) (at + 1)
   split_more objects old now new made q at P s less passes change of =
       let count = s.count in
       let size = s.passes.count in
       let more = length-append made (q ∷ []) in
       let less' : at < length now = omega arith in
-      let H = λ (a b : PassSeat S X C R). (account b ≡ account a) × (account q ≡ untaken (account a)) × P in record {
+      let H = λ (a b : PassSeat S X C R). (account b ≡ lent (account a)) × (account q ≡ untaken (account a)) × P in record {
         passes = passes;
-        same = λ n. dite (ℕ_discrete n at)
-            (λ e. subst (λ (m : ℕ). account_at new m ≡ account_at old m) (sym e) (changed_at now new at H less' change (λ a b. b ≡ a) (λ a b h. h.0) ∙ s.same at))
-            (λ apart. changed_else now new at H change n apart ∙ s.same n);
+        split_at = λ n l. dite (ℕ_discrete n at)
+            (λ e. subst (λ (m : ℕ). account_at new m ≡ lent (account_at old m)) (sym e) (changed_at now new at H less' change (λ a b. b ≡ lent a) (λ a b h. h.0) ∙ ap lent (s.after at (omega arith))))
+            (λ apart. changed_else now new at H change n apart ∙ s.split_at n (omega arith));
+        after = λ n high. changed_else now new at H change n (λ (e : n ≡ at). omega arith) ∙ s.after n (omega arith);
         count = omega arith;
         each = λ i k p l. dite (ℕ_discrete i at)
             (λ e. subst (λ (m : ℕ). IsOf steps (get_or objects m k) (get_or (made ++ q ∷ []) m p)) (sym e) (subst (λ (z : PassSeat S X C R). IsOf steps (get_or objects at k) z) (sym (get_end made q p at (sym count))) (of k)))
             (λ apart. let l' : i < at = omega arith in let l'' : i < length made = omega arith in subst (λ (z : PassSeat S X C R). IsOf steps (get_or objects i k) z) (sym (get_front made q p i l'')) (s.each i k p l'));
         untaken_at = λ n l. dite (ℕ_discrete n at)
-            (λ e. let e' : n ≡ length made = omega arith in account_end made q n e' ∙ (changed_at now new at H less' change (λ a b. account q ≡ untaken a) (λ a b h. h.1) ∙ ap untaken (s.same at ∙ ap (account_at old) (sym e))))
+            (λ e. let e' : n ≡ length made = omega arith in account_end made q n e' ∙ (changed_at now new at H less' change (λ a b. account q ≡ untaken a) (λ a b h. h.1) ∙ ap untaken (s.after at (omega arith) ∙ ap (account_at old) (sym e))))
             (λ apart. let l' : n < at = omega arith in let l'' : n < length made = omega arith in account_front made q n l'' ∙ s.untaken_at n l');
       }
+
+  -- a split leaves what was seen, and the own calls
+  pub split_same : (objects : List (KeptTable S V (Snapshot X) Q)) (old new made : List (PassSeat S X C R)) (at : ℕ) → AreSplit steps first objects old new made at → (n : ℕ) → IsSameBut (account_at old n) (account_at new n)
+  split_same objects old new made at s n = by (ltb n at) refl
+    where
+      by : (b : Bool) → ltb n at ≡ b → IsSameBut (account_at old n) (account_at new n)
+      by true e = let is = s.split_at n (ltb-true n at e) in record { seen = ap (λ (a : Account C R). a.seen) is; mine = ap (λ (a : Account C R). a.mine) is }
+      by false e = let is = s.after n (ltb-false n at e) in record { seen = ap (λ (a : Account C R). a.seen) is; mine = ap (λ (a : Account C R). a.mine) is }
 
   pub taken_none : (objects : List (KeptTable S V (Snapshot X) Q)) (old others : List (PassSeat S X C R)) → ArePasses steps first objects old → AreTaken steps first objects old others old (length objects)
   taken_none objects old others a = record { passes = a; before = λ n less. refl; after = λ n high less. absurd (omega arith) }

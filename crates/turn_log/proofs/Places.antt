@@ -1,10 +1,12 @@
 -- Rising places, by cases and by index.
 use Rattle.std.proofs.Common.{◌≡◌, ℕ, ◌<◌, zero, suc, List, [], ◌∷◌, length, get_or, refl, sym, subst, ⊎_elim, inl, inr, arith}
 use Rattle.std.specs.Prelude.{All, AllPairs}
-use Rattle.turn_log.specs.Runs.{IsAccount}
-use Rattle.turn_log.specs.Places.{IsIn, Rising}
-use Rattle.turn_log.specs.Views.{IsOwn}
+use Rattle.turn_log.specs.Runs.{Account, IsAccount}
+use Rattle.turn_log.specs.Places.{IsIn, Rising, places_below}
+use Rattle.turn_log.specs.Shares.{IsShare, IsWhole}
+use Rattle.turn_log.specs.Views.{IsOwn, given_by_split, kept_by_split}
 use Rattle.turn_log.specs.declared.view.View.{View}
+use Rattle.turn_log.proofs.Shares.{half_not_whole, halved_share}
 
 has_at : (xs : List ℕ) (k d : ℕ) → k < length xs → IsIn (get_or xs k d) xs
 has_at [] k d h = absurd (omega arith)
@@ -33,11 +35,24 @@ all_has : (n : ℕ) (xs : List ℕ) → All (λ place. place < n) xs → (p : �
 all_has n xs h p k = let f = at_has xs p 0 k in subst (λ (q : ℕ). q < n) f.2 (h f.0 0 f.1)
 
 module _ {X C R : Type 0} where
-  pub own_account : (v : View X C R) → IsOwn v → IsAccount (record { seen = v.seen; mine = v.mine })
-  own_account v own = record {
+  -- what a view makes of its caller's account
+  abbrev pub account_in : View X C R → Account C R
+  account_in v = record { seen = v.seen; mine = v.mine; share = v.share }
+
+  pub own_account : (v : View X C R) → IsOwn v → IsShare v.share → (IsWhole v.share → v.mine ≡ places_below (length v.seen)) → IsAccount (account_in v)
+  own_account v own share covered = record {
     rising = rising_pairs v.mine own.rising;
     within = λ k d h. own.within (get_or v.mine k d) (has_at v.mine k d h);
+    share = share;
+    covered = covered;
   }
 
-  pub account_own : (v : View X C R) → IsAccount (record { seen = v.seen; mine = v.mine }) → IsOwn v
+  pub account_own : (v : View X C R) → IsAccount (account_in v) → IsOwn v
   account_own v a = record { rising = pairs_rising v.mine a.rising; within = all_has (length v.seen) v.mine a.within }
+
+  -- the two views that a split makes
+  pub kept_account : (v : View X C R) → IsAccount (account_in v) → IsAccount (account_in (kept_by_split v))
+  kept_account v a = own_account (kept_by_split v) (record { rising = (account_own v a).rising; within = (account_own v a).within }) (halved_share v.share a.share) (λ whole. absurd (half_not_whole v.share a.share whole))
+
+  pub given_account : (v : View X C R) → IsAccount (account_in v) → IsAccount (account_in (given_by_split v))
+  given_account v a = own_account (given_by_split v) (record { rising = tt; within = λ p h. absurd h }) (halved_share v.share a.share) (λ whole. absurd (half_not_whole v.share a.share whole))

@@ -16,8 +16,11 @@ use Rattle.turn_log.specs.declared.view.Stored.{Stored}
 use Rattle.turn_log.specs.declared.view.View.{View}
 use Rattle.turn_log.specs.Views.{view, first_view, kept_by_split, given_by_split, spent_view, joined_view, event_of, value_of, committed}
 use Rattle.turn_log.specs.Places.{longer, IsIn, Rising, places_below, put_in, merged}
-use Rattle.turn_log.specs.Rule.{ViewInvariant, Held, TurnInvariant}
+use Rattle.turn_log.specs.Rule.{ViewInvariant, Held, Placed, TurnInvariant, share_in}
+use Rattle.turn_log.specs.Shares.{IsWhole, added, all_of}
 use Rattle.turn_log.specs.StepKinds.{IsTaken, Takes, Counts, Commits, Releases, Learns}
+use Rattle.turn_log.proofs.Owning.{all_below, below_has, has_end, has_front, has_snoc, inside, limits, placed_same, rising_snoc, shares_join, shares_same, shares_split, sole}
+use Rattle.turn_log.proofs.Shares.{added_none, total_positive}
 
 off : false ≡ true → ⊥
 off e = true≢false (sym e)
@@ -25,11 +28,6 @@ off e = true≢false (sym e)
 module _ {A : Type 0} where
   pub some_same : (x y : A) → Some x ≡ Some y → x ≡ y
   some_same x y e = ap (λ o. unwrap_or o x) e
-
-  inside : (l : List A) (i : ℕ) (a : A) → get_elem? l i ≡ some a → i < length l
-  inside [] i a e = absurd (some-ne-none a (sym e))
-  inside (x ∷ xs) zero a e = omega arith
-  inside (x ∷ xs) (suc i) a e = let h = inside xs i a e in omega arith
 
   -- two seats aren't both the only one
   not_two : (l : List A) (i j : ℕ) (a b : A) → get_elem? l i ≡ some a → get_elem? l j ≡ some b → i ≢ j → length l ≡ 1 → ⊥
@@ -41,15 +39,6 @@ module _ {A : Type 0} where
       (λ (x : (j ≡ id) × (w ≡ u)). subst (λ (y : ℕ × A). F (length views) y.0 y.1) (λ i. (sym x.0 i, x.1 i)) mine)
       (λ (x : (j ≢ id) × (get_elem? views j ≡ some u)). others j u x.0 x.1)
       (at_set views id j w u e))
-
-pub has_snoc : (p : ℕ) (xs : List ℕ) (x : ℕ) → IsIn p (xs ++ x ∷ []) → IsIn p xs ⊎ (p ≡ x)
-has_snoc p [] x h = ⊎_elim (λ e. inr e) (λ n. absurd n) h
-has_snoc p (y ∷ ys) x h = ⊎_elim (λ e. inl (inl e)) (λ t. ⊎_elim (λ k. inl (inr k)) (λ e. inr e) (has_snoc p ys x t)) h
-
-pub rising_snoc : (xs : List ℕ) (n : ℕ) → Rising xs → ((p : ℕ) → IsIn p xs → p < n) → Rising (xs ++ n ∷ [])
-rising_snoc [] n r h = ((λ p k. absurd k), tt)
-rising_snoc (x ∷ xs) n r h =
-    ((λ p k. ⊎_elim (λ t. r.0 p t) (λ e. subst (λ (z : ℕ). x < z) (sym e) (h x (inl refl))) (has_snoc p xs n k)), rising_snoc xs n r.1 (λ p k. h p (inr k)))
 
 has_put : (q p : ℕ) (xs : List ℕ) → IsIn q (put_in p xs) → (q ≡ p) ⊎ IsIn q xs
 has_put q p [] h = h
@@ -108,6 +97,10 @@ rising_unput p (x ∷ xs) r = by (ltb p x) (rising_unput p xs) r
         (((λ q h. k.0 q (put_has q p xs h)), d.0), λ h. ⊎_elim (λ (e : p ≡ x). let l = k.0 p (put_self p xs) in omega arith) (λ t. d.1 t) h)
 
 -- two lists whose merge rises have no place in common
+merged_left : (q : ℕ) (xs ys : List ℕ) → IsIn q xs → IsIn q (merged xs ys)
+merged_left q [] ys h = absurd h
+merged_left q (x ∷ xs) ys h = ⊎_elim (λ e. subst (λ (z : ℕ). IsIn z (put_in x (merged xs ys))) (sym e) (put_self x (merged xs ys))) (λ t. put_has q x (merged xs ys) (merged_left q xs ys t)) h
+
 pub merged_apart : (xs ys : List ℕ) → Rising (merged xs ys) → (p : ℕ) → IsIn p xs → IsIn p ys → ⊥
 merged_apart [] ys r p h k = h
 merged_apart (x ∷ xs) ys r p h k =
@@ -200,10 +193,34 @@ module _ {X C R : Type 0} (steps : X → C → R → X → Type 0) where
   abbrev At : ℕ → M → ℕ → (ℕ → ℕ) → (ℕ → M → Type 0) → St → Type 0
   At id me i f then s = (w : V) × (a : Act (Stored X C R)) × Valid s.homes me.1 a × TurnInvariant steps (stepped s i (f (slice_index s.words i)) id me.1 w a) × then (slice_index s.words i) (w, carried_after me.1 a)
 
+  -- where one view holds the whole, another holds nothing
+  pub sole_of : (s : St) (r : TurnInvariant steps s) (id other : ℕ) (v u : V) → get_elem? s.views id ≡ some v → get_elem? s.views other ≡ some u → IsWhole v.share → id ≢ other → u.share.units ≡ 0
+  sole_of s r id other v u at there whole apart = sole s.views id other v u apart (λ j w e. (r.each j w e).units) at there whole r.shares
+
+  -- such a view has each place of the list
+  pub covers : (s : St) (r : TurnInvariant steps s) (id : ℕ) (v : V) → get_elem? s.views id ≡ some v → IsWhole v.share → v.mine ≡ places_below (length r.log)
+  covers s r id v at whole =
+      let mine = r.each id v at in
+      all_below v.mine (length r.log) mine.rising
+      (λ p h. let z = (mine.places p h).0 in let l = begins_le v.seen r.log mine.begins in omega arith)
+      (λ p less. let f = r.placed p less in dite (ℕ_discrete (r.owner p) id)
+      (λ same. subst (λ (x : V). IsIn p x.mine) (some-injective f.0 v (sym f.1 ∙ (ap (λ (i : ℕ). get_elem? s.views i) same ∙ at))) f.2)
+      (λ apart. absurd ((r.each (r.owner p) f.0 f.1).spent (sole_of s r id (r.owner p) v f.0 at f.1 whole (λ e. apart (sym e))) p f.2)))
+
+  -- and has seen all of it
+  covers_seen : (s : St) (r : TurnInvariant steps s) (id : ℕ) (v : V) → get_elem? s.views id ≡ some v → IsWhole v.share → v.mine ≡ places_below (length v.seen)
+  covers_seen s r id v at whole =
+      let mine = r.each id v at in
+      let l = begins_le v.seen r.log mine.begins in
+      let all = covers s r id v at whole in
+      all ∙ ap places_below (dite (ℕ_discrete (length r.log) (length v.seen)) (λ e. e) (λ apart.
+      let less : length v.seen < length r.log = omega arith in
+      let z = (mine.places (length v.seen) (subst (λ (xs : List ℕ). IsIn (length v.seen) xs) (sym all) (below_has (length r.log) (length v.seen) less))).0 in absurd (omega arith)))
+
   pub takes_turn : (slots id : ℕ) (me : M) → Allows (TurnInvariant steps) slots id me 1 (λ n. either (eqb n 0) 1 n) (Takes (step slots 1 0 1 none) me)
   takes_turn slots id me s r _ at small = let mine = r.each id me.0 at in
       subst (At id me 1 (λ n. either (eqb n 0) 1 n) (Takes (step slots 1 0 1 none) me)) (sym (like s r)) (dite (ℕ_discrete r.turn 0)
-      (λ z. let f = r.free z in let w : V = view me.0.seen me.0.mine me.0.alone me.0.first true false (Some r.now) in (
+      (λ z. let f = r.free z in let w : V = view me.0.seen me.0.mine me.0.share me.0.alone me.0.first true false (Some r.now) in (
         w,
         takes 0 f.0,
         ap some f.1,
@@ -214,6 +231,8 @@ module _ {X C R : Type 0} (steps : X → C → R → X → Type 0) where
           turn = 1;
           holder = id;
           owner = r.owner;
+          placed = placed_same s.views id me.0 w r.log r.owner at (λ p h. h) r.placed;
+          shares = shares_same s.views id me.0 w at refl r.shares;
           home = none;
           runs = r.runs;
           words = ap (λ b. length r.log ∷ either b 1 r.turn ∷ []) (eq-eqb r.turn 0 z);
@@ -231,9 +250,11 @@ module _ {X C R : Type 0} (steps : X → C → R → X → Type 0) where
                 whole = k.whole;
                 places = k.places;
                 rising = k.rising;
+                units = k.units;
+                spent = k.spent;
                 only = k.only;
               })
-              (record { origin = mine.origin; begins = mine.begins; behind = (r.log, refl); turn_is = λ _. (refl, refl, refl); whole = λ _ k. absurd (off k); places = mine.places; rising = mine.rising; only = mine.only });
+              (record { origin = mine.origin; begins = mine.begins; behind = (r.log, refl); turn_is = λ _. (refl, refl, refl); whole = λ _ k. absurd (off k); places = mine.places; rising = mine.rising; units = mine.units; spent = mine.spent; only = mine.only });
         },
         ((λ _. (f.0, r.now, f.2, refl)), λ ne. absurd (ne z)),
       ))
@@ -248,6 +269,8 @@ module _ {X C R : Type 0} (steps : X → C → R → X → Type 0) where
           turn = r.turn;
           holder = r.holder;
           owner = r.owner;
+          placed = placed_same s.views id me.0 me.0 r.log r.owner at (λ p h. h) r.placed;
+          shares = shares_same s.views id me.0 me.0 at refl r.shares;
           home = r.home;
           runs = r.runs;
           words = ap (λ b. length r.log ∷ either b 1 r.turn ∷ []) (ne_eqb r.turn 0 n);
@@ -262,7 +285,7 @@ module _ {X C R : Type 0} (steps : X → C → R → X → Type 0) where
       )))
 
   pub counts : (slots id : ℕ) (me : M) → Allows (TurnInvariant steps) slots id me 0 (λ n. n) (Counts steps (step slots 0 0 0 none) me)
-  counts slots id me s r _ at small = let mine = r.each id me.0 at in let w : V = view r.log me.0.mine me.0.alone me.0.first me.0.holds true me.0.now in
+  counts slots id me s r _ at small = let mine = r.each id me.0 at in let w : V = view r.log me.0.mine me.0.share me.0.alone me.0.first me.0.holds true me.0.now in
       subst (At id me 0 (λ n. n) (Counts steps (step slots 0 0 0 none) me)) (sym (like s r)) (
         w,
         keeps,
@@ -274,6 +297,8 @@ module _ {X C R : Type 0} (steps : X → C → R → X → Type 0) where
           turn = r.turn;
           holder = r.holder;
           owner = r.owner;
+          placed = placed_same s.views id me.0 w r.log r.owner at (λ p h. h) r.placed;
+          shares = shares_same s.views id me.0 w at refl r.shares;
           home = r.home;
           runs = r.runs;
           words = refl;
@@ -283,7 +308,7 @@ module _ {X C R : Type 0} (steps : X → C → R → X → Type 0) where
           out = r.out;
           free = r.free;
           each = each_set (λ n j u. ViewInvariant r.log r.first r.now r.turn r.holder r.owner n j u) s.views id w (λ j u apart e. r.each j u e)
-              (record { origin = mine.origin; begins = begins_all r.log; behind = (r.log, refl); turn_is = mine.turn_is; whole = λ _ _. refl; places = λ p h. let z = mine.places p h in let l = begins_le me.0.seen r.log mine.begins in (omega arith, z.1); rising = mine.rising; only = mine.only });
+              (record { origin = mine.origin; begins = begins_all r.log; behind = (r.log, refl); turn_is = mine.turn_is; whole = λ _ _. refl; places = λ p h. let z = mine.places p h in let l = begins_le me.0.seen r.log mine.begins in (omega arith, z.1); rising = mine.rising; units = mine.units; spent = mine.spent; only = mine.only });
         },
         (
           r.log,
@@ -293,6 +318,7 @@ module _ {X C R : Type 0} (steps : X → C → R → X → Type 0) where
           (λ f x h e1 e2. let a : f ≡ r.first = mine.origin f e1 in let b : x ≡ r.now = some_same x r.now (sym e2 ∙ (mine.turn_is h).2) in
               subst (λ (q : X × X). Runs steps q.0 r.log q.1) (λ i. (sym a i, sym b i)) r.runs),
           (λ a. (mine.only a).1),
+          (λ whole. covers s r id me.0 at whole),
           refl,
         ),
       )
@@ -310,6 +336,8 @@ module _ {X C R : Type 0} (steps : X → C → R → X → Type 0) where
           turn = r.turn;
           holder = r.holder;
           owner = r.owner;
+          placed = placed_same s.views id me.0 me.0 r.log r.owner at (λ p h. h) r.placed;
+          shares = shares_same s.views id me.0 me.0 at refl r.shares;
           home = r.home;
           runs = r.runs;
           words = refl;
@@ -325,14 +353,16 @@ module _ {X C R : Type 0} (steps : X → C → R → X → Type 0) where
             own = record { rising = mine.rising; within = λ p h. (mine.places p h).0 };
             legal = λ f e. subst (λ x. IsLegal steps x me.0.seen) (sym (mine.origin f e)) (legal_front r.first me.0.seen r.log r.now mine.begins r.runs);
             behind = begins_shorter me.0.less me.0.seen r.log mine.behind mine.begins;
+            limited = limits s.views id me.0 (λ j w e. (r.each j w e).units) at r.shares;
+            covered = covers_seen s r id me.0 at;
           },
           refl,
         ),
       )
 
-  pub commits : (slots id : ℕ) (me : M) (x y : X) (c : C) (p : R) → me.0.holds ≡ true → me.0.fresh ≡ true → me.0.now ≡ Some x → length me.0.seen < 4611686018427387904
+  pub commits : (slots id : ℕ) (me : M) (x y : X) (c : C) (p : R) → me.0.holds ≡ true → me.0.fresh ≡ true → me.0.now ≡ Some x → 0 < me.0.share.units → length me.0.seen < 4611686018427387904
       → event_of me.1 ≡ (c, p) ∷ [] → value_of me.1 ≡ Some y → steps x c p y → Allows (TurnInvariant steps) slots id me 0 (λ n. (n + 1) % 2 ^ 64) (Commits (step slots 0 1 0 none) me)
-  commits slots id me x y c p h k is room event value goes s r _ at small =
+  commits slots id me x y c p h k is units room event value goes s r _ at small =
       let mine = r.each id me.0 at in
       let w : V = committed me.0 me.1 in
       let t = mine.turn_is h in
@@ -361,6 +391,17 @@ module _ {X C R : Type 0} (steps : X → C → R → X → Type 0) where
           turn = r.turn;
           holder = r.holder;
           owner = owner;
+          placed = λ q less. dite (ℕ_discrete q (length r.log))
+              (λ e. (
+                w,
+                subst (λ (i : ℕ). get_elem? (set s.views id w) i ≡ some w) (sym (new_owner q e)) (set_here s.views id w (inside s.views id me.0 at)),
+                subst (λ (z : ℕ). IsIn z (me.0.mine ++ length me.0.seen ∷ [])) (long ∙ sym e) (has_end (length me.0.seen) me.0.mine),
+              ))
+              (λ apart.
+              let l : q < length r.log = omega arith in
+              let f = placed_same s.views id me.0 w r.log r.owner at (λ p' h'. has_front p' me.0.mine (length me.0.seen ∷ []) h') r.placed q l in
+              (f.0, ap (λ (i : ℕ). get_elem? (set s.views id w) i) (kept_owner q l) ∙ f.1, f.2));
+          shares = shares_same s.views id me.0 w at refl r.shares;
           home = r.home;
           runs = runs_more r.first r.log r.now y c p r.runs (subst (λ q. steps q c p y) here goes);
           words = ap (λ (n : ℕ). n ∷ r.turn ∷ []) (omega (arith, length-append r.log (e ∷ [])));
@@ -378,6 +419,8 @@ module _ {X C R : Type 0} (steps : X → C → R → X → Type 0) where
                 whole = λ h' _. absurd (apart ((q.turn_is h').1 ∙ sym t.1));
                 places = λ p' h'. let z = q.places p' h' in let l = begins_le u.seen r.log q.begins in (z.0, kept_owner p' (omega arith) ∙ z.1);
                 rising = q.rising;
+                units = q.units;
+                spent = q.spent;
                 only = λ a. absurd (not_two s.views j id u me.0 at' at apart (q.only a).0);
               })
               (record {
@@ -388,6 +431,8 @@ module _ {X C R : Type 0} (steps : X → C → R → X → Type 0) where
                 whole = λ _ _. seen;
                 places = λ p' h'. ⊎_elim (λ was. let z = mine.places p' was in (more p' z.0, kept_owner p' (in_log p' z.0) ∙ z.1)) (λ (is' : p' ≡ length me.0.seen). (last p' is', new_owner p' (is' ∙ long))) (has_snoc p' me.0.mine (length me.0.seen) h');
                 rising = rising_snoc me.0.mine (length me.0.seen) mine.rising (λ p' h'. (mine.places p' h').0);
+                units = mine.units;
+                spent = λ all_spent. absurd (omega (arith, units, all_spent));
                 only = λ a. let z = mine.only a in (z.0, (λ i. z.1 i ++ long i ∷ []) ∙ ap places_below (sym grown));
               });
         },
@@ -399,7 +444,7 @@ module _ {X C R : Type 0} (steps : X → C → R → X → Type 0) where
   releases slots id me stored h hand value s r _ at small =
       let mine = r.each id me.0 at in
       let t = mine.turn_is h in
-      let w : V = view me.0.seen me.0.mine me.0.alone me.0.first false false None in
+      let w : V = view me.0.seen me.0.mine me.0.share me.0.alone me.0.first false false None in
       subst (At id me 1 (λ _. 0) (λ _. Releases (step slots 1 0 0 none) me 0)) (sym (like s r)) (
         w,
         gives,
@@ -411,6 +456,8 @@ module _ {X C R : Type 0} (steps : X → C → R → X → Type 0) where
           turn = 0;
           holder = r.holder;
           owner = r.owner;
+          placed = placed_same s.views id me.0 w r.log r.owner at (λ p h. h) r.placed;
+          shares = shares_same s.views id me.0 w at refl r.shares;
           home = some stored;
           runs = r.runs;
           words = refl;
@@ -428,16 +475,18 @@ module _ {X C R : Type 0} (steps : X → C → R → X → Type 0) where
                 whole = λ h' _. absurd (apart ((q.turn_is h').1 ∙ sym t.1));
                 places = q.places;
                 rising = q.rising;
+                units = q.units;
+                spent = q.spent;
                 only = q.only;
               })
-              (record { origin = mine.origin; begins = mine.begins; behind = (r.log, refl); turn_is = λ h'. absurd (off h'); whole = λ h' _. absurd (off h'); places = mine.places; rising = mine.rising; only = mine.only });
+              (record { origin = mine.origin; begins = mine.begins; behind = (r.log, refl); turn_is = λ h'. absurd (off h'); whole = λ h' _. absurd (off h'); places = mine.places; rising = mine.rising; units = mine.units; spent = mine.spent; only = mine.only });
         },
         refl,
       )
 
   quiet : (log : List (C × R)) (first now : X) (turn holder : ℕ) (owner : ℕ → ℕ) (count by : ℕ) (v : V) → ((x : X) → v.first ≡ Some x → x ≡ first) → IsPrefix v.seen log → IsPrefix v.less log
-      → ((p : ℕ) → IsIn p v.mine → (p < length v.seen) × (owner p ≡ by)) → Rising v.mine → v.holds ≡ false → v.alone ≡ false → ViewInvariant log first now turn holder owner count by v
-  quiet log first now turn holder owner count by v origin begins behind has rising idle many = record {
+      → ((p : ℕ) → IsIn p v.mine → (p < length v.seen) × (owner p ≡ by)) → Rising v.mine → 0 < v.share.total → (v.share.units ≡ 0 → (p : ℕ) → IsIn p v.mine → ⊥) → v.holds ≡ false → v.alone ≡ false → ViewInvariant log first now turn holder owner count by v
+  quiet log first now turn holder owner count by v origin begins behind has rising units spent idle many = record {
     origin = origin;
     begins = begins;
     behind = behind;
@@ -445,6 +494,8 @@ module _ {X C R : Type 0} (steps : X → C → R → X → Type 0) where
     whole = λ h _. absurd (off (sym idle ∙ h));
     places = has;
     rising = rising;
+    units = units;
+    spent = spent;
     only = λ a. absurd (off (sym many ∙ a));
   }
 
@@ -462,6 +513,8 @@ module _ {X C R : Type 0} (steps : X → C → R → X → Type 0) where
         turn = r.turn;
         holder = r.holder;
         owner = r.owner;
+        placed = λ p less. let f = placed_same s.views id v (kept_by_split v) r.log r.owner at (λ q h. h) r.placed p less in (f.0, at_longer (set s.views id (kept_by_split v)) (given_by_split v ∷ []) (r.owner p) f.0 f.1, f.2);
+        shares = shares_split s.views id v (kept_by_split v) (given_by_split v) at refl refl r.shares;
         home = r.home;
         runs = r.runs;
         words = r.words;
@@ -472,9 +525,9 @@ module _ {X C R : Type 0} (steps : X → C → R → X → Type 0) where
         free = r.free;
         each = λ j u e. ⊎_elim
             (λ was. each_set (λ _ j u. ViewInvariant r.log r.first r.now r.turn r.holder r.owner (length after) j u) s.views id (kept_by_split v)
-            (λ j u apart e. let q = r.each j u e in record { origin = q.origin; begins = q.begins; behind = q.behind; turn_is = q.turn_is; whole = q.whole; places = q.places; rising = q.rising; only = λ a. absurd (not_alone j u e apart a) })
-            (record { origin = mine.origin; begins = mine.begins; behind = (r.log, refl); turn_is = mine.turn_is; whole = mine.whole; places = mine.places; rising = mine.rising; only = λ a. absurd (off a) }) j u was)
-            (λ (same : given_by_split v ≡ u). subst (ViewInvariant r.log r.first r.now r.turn r.holder r.owner (length after) j) same (quiet r.log r.first r.now r.turn r.holder r.owner (length after) j (given_by_split v) mine.origin mine.begins (r.log, refl) (λ p h. absurd h) tt refl refl))
+            (λ j u apart e. let q = r.each j u e in record { origin = q.origin; begins = q.begins; behind = q.behind; turn_is = q.turn_is; whole = q.whole; places = q.places; rising = q.rising; units = q.units; spent = q.spent; only = λ a. absurd (not_alone j u e apart a) })
+            (record { origin = mine.origin; begins = mine.begins; behind = (r.log, refl); turn_is = mine.turn_is; whole = mine.whole; places = mine.places; rising = mine.rising; units = let t = mine.units in omega arith; spent = mine.spent; only = λ a. absurd (off a) }) j u was)
+            (λ (same : given_by_split v ≡ u). subst (ViewInvariant r.log r.first r.now r.turn r.holder r.owner (length after) j) same (quiet r.log r.first r.now r.turn r.holder r.owner (length after) j (given_by_split v) mine.origin mine.begins (r.log, refl) (λ p h. absurd h) tt (let t = mine.units in omega arith) (λ _ p h. absurd h) refl refl))
             (at_snoc (set s.views id (kept_by_split v)) (given_by_split v) u j e);
       }
 
@@ -497,13 +550,36 @@ module _ {X C R : Type 0} (steps : X → C → R → X → Type 0) where
       let k = leb (length v.seen) (length u.seen) in
       let joined : F (length s.views) id w = quiet r.log r.first r.now r.turn r.holder owner (length s.views) id w mine.origin (begins_longer v.seen u.seen r.log mine.begins theirs.begins k) (begins_longer u.seen v.seen r.log theirs.begins mine.begins k)
       (λ p h. ⊎_elim (λ t. let z = mine.places p t in (omega arith, stays p id (λ e. apart (sym e)) z.1)) (λ t. let z = theirs.places p t in (omega arith, goes p z.1)) (has_merged p v.mine u.mine h))
-      (rising_merged v.mine u.mine mine.rising theirs.rising (λ p h k. apart (sym (theirs.places p k).1 ∙ (mine.places p h).1))) refl refl in record {
+      (rising_merged v.mine u.mine mine.rising theirs.rising (λ p h k. apart (sym (theirs.places p k).1 ∙ (mine.places p h).1)))
+      (total_positive v.share u.share mine.units theirs.units)
+      (λ none p h. let n = added_none v.share u.share mine.units theirs.units none in ⊎_elim (λ t. mine.spent n.0 p t) (λ t. theirs.spent n.1 p t) (has_merged p v.mine u.mine h)) refl refl in
+      let views' = set (set s.views id w) other spent_view in
+      let w_at : get_elem? views' id ≡ some w = set_else (set s.views id w) other id spent_view (λ e. apart (sym e)) ∙ set_here s.views id w (inside s.views id v at) in
+      record {
         log = r.log;
         first = r.first;
         now = r.now;
         turn = r.turn;
         holder = r.holder;
         owner = owner;
+        placed = λ p less. let f = r.placed p less in dite (ℕ_discrete (r.owner p) other)
+            (λ (e : r.owner p ≡ other). (
+              w,
+              subst (λ (i : ℕ). get_elem? views' i ≡ some w) (sym (goes p e)) w_at,
+              merged_right p v.mine u.mine (subst (λ (x : V). IsIn p x.mine) (some-injective f.0 u (sym f.1 ∙ (ap (λ (i : ℕ). get_elem? s.views i) e ∙ found))) f.2),
+            ))
+            (λ away. dite (ℕ_discrete (r.owner p) id)
+            (λ (e : r.owner p ≡ id). (
+              w,
+              subst (λ (i : ℕ). get_elem? views' i ≡ some w) (sym (stays p id (λ h. apart (sym h)) e)) w_at,
+              merged_left p v.mine u.mine (subst (λ (x : V). IsIn p x.mine) (some-injective f.0 v (sym f.1 ∙ (ap (λ (i : ℕ). get_elem? s.views i) e ∙ at))) f.2),
+            ))
+            (λ off_id. (
+              f.0,
+              subst (λ (i : ℕ). get_elem? views' i ≡ some f.0) (sym (stays p (r.owner p) away refl)) (set_else (set s.views id w) other (r.owner p) spent_view away ∙ (set_else s.views id (r.owner p) w off_id ∙ f.1)),
+              f.2,
+            )));
+        shares = shares_join s.views id other v u w spent_view (λ e. apart (sym e)) at found refl refl r.shares;
         home = r.home;
         runs = r.runs;
         words = r.words;
@@ -515,9 +591,9 @@ module _ {X C R : Type 0} (steps : X → C → R → X → Type 0) where
         each = each_set F (set s.views id w) other spent_view
             (λ j x away e. subst (λ (n : ℕ). F n j x) (sym (length-set s.views id w)) (⊎_elim
             (λ (t : (j ≡ id) × (w ≡ x)). subst (λ (y : ℕ × V). F (length s.views) y.0 y.1) (λ i. (sym t.0 i, t.1 i)) joined)
-            (λ (t : (j ≢ id) × (get_elem? s.views j ≡ some x)). let q = r.each j x t.1 in record { origin = q.origin; begins = q.begins; behind = q.behind; turn_is = q.turn_is; whole = q.whole; places = λ p h. let z = q.places p h in (z.0, stays p j away z.1); rising = q.rising; only = q.only })
+            (λ (t : (j ≢ id) × (get_elem? s.views j ≡ some x)). let q = r.each j x t.1 in record { origin = q.origin; begins = q.begins; behind = q.behind; turn_is = q.turn_is; whole = q.whole; places = λ p h. let z = q.places p h in (z.0, stays p j away z.1); rising = q.rising; units = q.units; spent = q.spent; only = q.only })
             (at_set s.views id j w x e)))
-            (quiet r.log r.first r.now r.turn r.holder owner (length (set s.views id w)) other spent_view (λ x e. absurd (cc)) (r.log, refl) (r.log, refl) (λ p h. absurd h) tt refl refl);
+            (quiet r.log r.first r.now r.turn r.holder owner (length (set s.views id w)) other spent_view (λ x e. absurd (cc)) (r.log, refl) (r.log, refl) (λ p h. absurd h) tt (omega arith) (λ _ p h. absurd h) refl refl);
       }
 
   pub starts : (x : X) (stored : Stored X C R) → stored.value ≡ Some x → TurnInvariant steps (record { words = 0 ∷ 0 ∷ []; homes = some stored ∷ []; views = first_view x ∷ [] })
@@ -528,6 +604,8 @@ module _ {X C R : Type 0} (steps : X → C → R → X → Type 0) where
     turn = 0;
     holder = 0;
     owner = λ _. 0;
+    placed = λ p less. absurd (omega arith);
+    shares = refl;
     home = some stored;
     runs = refl;
     words = refl;
@@ -541,7 +619,7 @@ module _ {X C R : Type 0} (steps : X → C → R → X → Type 0) where
     where
       one : (by : ℕ) (v : V) → get_elem? (first_view x ∷ []) by ≡ some v → ViewInvariant [] x x 0 0 (λ _. 0) 1 by v
       one zero v e = subst (ViewInvariant [] x x 0 0 (λ _. 0) 1 0) (some-injective _ _ e)
-          (record { origin = λ y h. sym (some_same x y h); begins = ([], refl); behind = ([], refl); turn_is = λ h. absurd (off h); whole = λ h _. absurd (off h); places = λ p h. absurd h; rising = tt; only = λ _. (refl, refl) })
+          (record { origin = λ y h. sym (some_same x y h); begins = ([], refl); behind = ([], refl); turn_is = λ h. absurd (off h); whole = λ h _. absurd (off h); places = λ p h. absurd h; rising = tt; units = omega arith; spent = λ none p h. absurd h; only = λ _. (refl, refl) })
       one (suc by) v e = absurd (some-ne-none v (sym e))
 
   -- what the holder of the turn knows once it has loaded the count
@@ -555,7 +633,8 @@ module _ {X C R : Type 0} (steps : X → C → R → X → Type 0) where
     pub begins : IsPrefix m.0.seen log
     pub runs : (f : X) → m.0.first ≡ Some f → Runs steps f log x
     pub only : m.0.alone ≡ true → m.0.mine ≡ places_below (length log)
-    pub is : m' ≡ (view log m.0.mine m.0.alone m.0.first true true (Some x), (0, stored) ∷ [])
+    pub covered : IsWhole m.0.share → m.0.mine ≡ places_below (length log)
+    pub is : m' ≡ (view log m.0.mine m.0.share m.0.alone m.0.first true true (Some x), (0, stored) ∷ [])
 
   pub counted : (st : Step (Stored X C R)) (m m1 m' : M) (n : ℕ) → m.1 ≡ [] → IsTaken m m1 → Counts steps st m1 n m' → Counted m n m'
   counted st m m1 m' n none_held t k =
@@ -569,7 +648,8 @@ module _ {X C R : Type 0} (steps : X → C → R → X → Type 0) where
         begins = subst (λ (z : M). IsPrefix z.0.seen k.0) e k.3;
         runs = λ f h. k.4 f t.1 (ap (λ (z : M). z.0.holds) e) (ap (λ (z : M). z.0.first) e ∙ h) (ap (λ (z : M). z.0.now) e);
         only = λ h. sym (ap (λ (z : M). z.0.mine) e) ∙ k.5 (ap (λ (z : M). z.0.alone) e ∙ h);
-        is = k.6 ∙ (ap (λ (z : M). (view k.0 z.0.mine z.0.alone z.0.first z.0.holds true z.0.now, z.1)) e ∙ ap (λ (l : List (ℕ × Stored X C R)). (view k.0 m.0.mine m.0.alone m.0.first true true (Some t.1), (0, t.0) ∷ l)) none_held);
+        covered = λ h. sym (ap (λ (z : M). z.0.mine) e) ∙ k.6 (subst (λ (z : M). IsWhole z.0.share) (sym e) h);
+        is = k.7 ∙ (ap (λ (z : M). (view k.0 z.0.mine z.0.share z.0.alone z.0.first z.0.holds true z.0.now, z.1)) e ∙ ap (λ (l : List (ℕ × Stored X C R)). (view k.0 m.0.mine m.0.share m.0.alone m.0.first true true (Some t.1), (0, t.0) ∷ l)) none_held);
       }
 
   pub handed : (l r : List (ℕ × Stored X C R)) (c : Stored X C R) → l ≡ (0, c) ∷ r → l ≡ (0, c) ∷ rest l

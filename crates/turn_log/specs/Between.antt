@@ -1,11 +1,12 @@
 -- What holds between any two steps of any threads, line by line.
-use Rattle.std.specs.Prelude.{◌≡◌, ◌<◌, ◌≤◌, ℕ, true, List, [], ◌∷◌, length, Some}
+use Rattle.std.specs.Prelude.{◌≡◌, ◌≢◌, ◌<◌, ◌≤◌, ℕ, true, List, [], ◌∷◌, length, map, Some}
 use mathlib.Core.Option.{Option as Maybe, some}
 use lib.ListN.{get_elem?}
 use Rattle.atomic_table.specs.Table.{State}
 use Rattle.turn_log.specs.Runs.{IsPrefix, Runs, call_limit}
-use Rattle.turn_log.specs.Places.{IsIn}
-use Rattle.turn_log.specs.Rule.{TurnInvariant}
+use Rattle.turn_log.specs.Places.{IsIn, places_below}
+use Rattle.turn_log.specs.Rule.{TurnInvariant, share_in}
+use Rattle.turn_log.specs.Shares.{IsWhole, all_of}
 use Rattle.turn_log.specs.declared.view.Stored.{Stored}
 use Rattle.turn_log.specs.declared.view.View.{View}
 
@@ -48,6 +49,11 @@ module _ {X C R : Type 0} where
     pub named : (id : ℕ) (v : View X C R) → HasView s id v → v.holds ≡ true → v.now ≡ Some now
     -- one that also has loaded the count since it took the turn has seen the whole list
     pub whole : (id : ℕ) (v : View X C R) → HasView s id v → v.holds ≡ true → v.fresh ≡ true → v.seen ≡ log
+    -- the shares of all views together are the whole; where one holds the whole, each other holds nothing, and has no place
+    pub shares : IsWhole (all_of (map share_in s.views))
+    pub sole : (id other : ℕ) (v w : View X C R) → HasView s id v → HasView s other w → IsWhole v.share → id ≢ other → (w.share.units ≡ 0) × ((p : ℕ) → IsIn p w.mine → ⊥)
+    -- such a view has each place below word 0
+    pub covered : (id : ℕ) (v : View X C R) → HasView s id v → IsWhole v.share → v.mine ≡ places_below (length log)
     -- a view that is alone is the one view, and each place below word 0 stands in its `mine`
     pub one_view : (id : ℕ) (v : View X C R) → HasView s id v → v.alone ≡ true → length s.views ≡ 1
     pub all_mine : (id : ℕ) (v : View X C R) (p : ℕ) → HasView s id v → v.alone ≡ true → p < length log → IsIn p v.mine

@@ -3,7 +3,8 @@ use Rattle.std.specs.Prelude.{◌≡◌, ◌≢◌, ◌<◌, ℕ, Bool, true, Li
 use Rattle.std.specs.declared.snapshot.Snapshot.{Snapshot}
 use Rattle.turn_log.specs.Runs.{Adds, IsAccount, IsLegal}
 use Rattle.turn_log.specs.Gains.{Known}
-use Rattle.turn_log.specs.Passes.{account, is_alone, untaken, unused, EndsInCall, IsJoined, OwnsAll, OwnsSeen}
+use Rattle.turn_log.specs.Passes.{account, is_alone, untaken, unused, EndsInCall, IsJoined, IsSameBut, OwnsAll, OwnsSeen}
+use Rattle.turn_log.specs.Shares.{halved}
 use Rattle.turn_log.specs.Objects.{first_state, IsOf}
 use Rattle.turn_log.specs.Parts.{AllOwned, ArePasses, account_at, alone_at}
 use Rattle.turn_log.specs.declared.kept.KeptTable.{KeptTable}
@@ -26,17 +27,22 @@ module _ {C R D Q : Type 0} where
     pub here : Adds old.book new.book calls
     pub parts : (p : ℕ) → new.part p ≡ old.part p
 
-  -- of each object the same is known
+  -- of each object the same was seen, and the same calls are the own
   pub record IsSame (old new : Known C R D Q) : Type 0 where
-    pub parts : (p : ℕ) → new.part p ≡ old.part p
-    pub book : new.book ≡ old.book
+    pub parts : (p : ℕ) → IsSameBut (old.part p) (new.part p)
+    pub book : IsSameBut old.book new.book
 
-  -- of each object the same was seen, and no call made
+  -- half the share of each object is left
+  pub record AreHalved (old new : Known C R D Q) : Type 0 where
+    pub parts : (p : ℕ) → p < part_count → (new.part p).share ≡ halved (old.part p).share
+    pub book : new.book.share ≡ halved old.book.share
+
+  -- of each object the same was seen, and no call made; half the share
   pub record IsUntaken (old new : Known C R D Q) : Type 0 where
     pub parts : (p : ℕ) → p < part_count → new.part p ≡ untaken (old.part p)
     pub book : new.book ≡ untaken old.book
 
-  -- of each object the longer list, and the places of both
+  -- of each object the longer list, and the places and shares of both
   pub record AreJoined (old other new : Known C R D Q) : Type 0 where
     pub parts : (p : ℕ) → p < part_count → IsJoined (old.part p) (other.part p) (new.part p)
     pub book : IsJoined old.book other.book new.book

@@ -7,5 +7,6 @@ pub mod Passes
 pub mod Places
 pub mod Rule
 pub mod Runs
+pub mod Shares
 pub mod StepKinds
 pub mod Views

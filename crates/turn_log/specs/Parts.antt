@@ -2,7 +2,7 @@
 use Rattle.std.specs.Prelude.{◌≡◌, ◌<◌, ◌≤◌, ℕ, zero, suc, Bool, false, List, [], ◌∷◌, length, slice_index_or, slice_set}
 use Rattle.std.specs.declared.snapshot.Snapshot.{Snapshot}
 use Rattle.turn_log.specs.Runs.{Account}
-use Rattle.turn_log.specs.Passes.{account, is_alone, untaken, unused, IsJoined, OwnsAll}
+use Rattle.turn_log.specs.Passes.{account, is_alone, lent, untaken, unused, IsJoined, OwnsAll}
 use Rattle.turn_log.specs.Objects.{first_state, IsOf}
 use Rattle.turn_log.specs.declared.pass.PassSeat.{PassSeat}
 use Rattle.turn_log.specs.declared.kept.KeptTable.{KeptTable}
@@ -35,10 +35,11 @@ module _ {S V X C R Q : Type 0} where
     pub began : (i : ℕ) (k : KeptTable S V (Snapshot X) Q) → i < length objects → first_state (slice_index_or objects i k) ≡ first
     pub each : (i : ℕ) (k : KeptTable S V (Snapshot X) Q) (p : PassSeat S X C R) → i < length objects → IsOf steps (slice_index_or objects i k) (slice_index_or passes i p)
 
-  -- each pass up to a number was split, and a new pass of the object made, which has seen the same and made no call
+  -- each pass up to a number was split, and a new pass of the object made, which has seen the same and made no call; each has half of it
   pub record AreSplit (steps : X → C → R → X → Type 0) (first : X) (objects : List (KeptTable S V (Snapshot X) Q)) (old new made : List (PassSeat S X C R)) (at : ℕ) : Type 0 where
     pub passes : ArePasses steps first objects new
-    pub same : (n : ℕ) → account_at new n ≡ account_at old n
+    pub split_at : (n : ℕ) → n < at → account_at new n ≡ lent (account_at old n)
+    pub after : (n : ℕ) → at ≤ n → account_at new n ≡ account_at old n
     pub count : length made ≡ at
     pub each : (i : ℕ) (k : KeptTable S V (Snapshot X) Q) (p : PassSeat S X C R) → i < at → IsOf steps (slice_index_or objects i k) (slice_index_or made i p)
     pub untaken_at : (n : ℕ) → n < at → account_at made n ≡ untaken (account_at old n)

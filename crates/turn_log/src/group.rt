@@ -29,7 +29,7 @@ pub type GroupPass<T, B> = Group<Pass<T>, Pass<B>>;
 impl<T: Opening, B: Sequential> KeptGroup<T, B> {
     ghost use Rattle.std.specs.Prelude.{◌≡◌, ◌<◌, [], ◌∷◌, length, IfOk, IfErr};
     ghost use Rattle.turn_log.specs.Runs.{call_limit};
-    ghost use Rattle.turn_log.specs.Groups.{AddsOnPart, AddsOnBook, AreOf, EndsOnPart, EndsOnBook, IsUnused, IsSame, IsUntaken, AreJoined, IsHistory, OwnsEach, StaysAlone, known, opened};
+    ghost use Rattle.turn_log.specs.Groups.{AddsOnPart, AddsOnBook, AreHalved, AreOf, EndsOnPart, EndsOnBook, IsUnused, IsSame, IsUntaken, AreJoined, IsHistory, OwnsEach, StaysAlone, known, opened};
 
     /// The parts, each in the state in which it begins, and the book in this one, with a pass that has seen nothing and is alone.
     pub fn new(alloc: Global, book: B) -> Result<(KeptGroup<T, B>, GroupPass<T, B>), Memory>
@@ -91,8 +91,8 @@ impl<T: Opening, B: Sequential> KeptGroup<T, B> {
         self.book.act(rt, alloc, &mut pass.book, call)
     }
 
-    /// A pass that has seen what this one has seen, and made no call. After `Memory` this one has seen the same and made the same calls,
-    /// but need not be alone any more.
+    /// A pass that has seen what this one has seen, and made no call. Each has half the share of each object that this one had. After
+    /// `Memory` this one has seen the same and made the same calls, but need not be alone any more, nor have its share.
     pub fn split<R>(
         &self,
         rt: &R,
@@ -102,6 +102,7 @@ impl<T: Opening, B: Sequential> KeptGroup<T, B> {
         requires { AreOf T.steps T.opening B.steps self.now pass.old }
         ensures of { AreOf T.steps T.opening B.steps self.now pass.new }
         ensures same { IsSame (known pass.old) (known pass.new) }
+        ensures halved { IfOk result (λ _. AreHalved (known pass.old) (known pass.new)) }
         ensures of_result { IfOk result (λ r. AreOf T.steps T.opening B.steps self.now r) }
         ensures untaken { IfOk result (λ r. IsUntaken (known pass.old) (known r)) }
     {
@@ -111,7 +112,7 @@ impl<T: Opening, B: Sequential> KeptGroup<T, B> {
         Ok(Group { parts, book })
     }
 
-    /// Takes in what another pass has seen, and its calls.
+    /// Takes in what another pass has seen, its calls and its shares.
     pub fn join<R>(&self, rt: &R, pass: &mut GroupPass<T, B>, other: GroupPass<T, B>)
         requires pass { AreOf T.steps T.opening B.steps self.now pass.old }
         requires other { AreOf T.steps T.opening B.steps self.now other }

@@ -47,7 +47,7 @@ fn stored<X: Drop, C, R>(alloc: Global, first: X) -> Result<Vec<Stored<X, C, R>>
 impl<T: Sequential> Kept<T> {
     ghost use Rattle.std.specs.Prelude.{IfOk, IfErr, true, false};
     ghost use Rattle.turn_log.specs.StepKinds.{IsTaken};
-    ghost use Rattle.turn_log.specs.Passes.{account, is_alone, untaken, unused, OwnsAll, Extends, IsWorn, IsJoined};
+    ghost use Rattle.turn_log.specs.Passes.{account, is_alone, lent, untaken, unused, OwnsAll, Extends, IsWorn, IsJoined};
     ghost use Rattle.turn_log.specs.Objects.{first_state, IsOf};
 
     /// The object, and a pass that has seen nothing and is alone.
@@ -138,18 +138,18 @@ impl<T: Sequential> Kept<T> {
         Ok(reply)
     }
 
-    /// A pass that has seen what this one has seen, and made no call.
+    /// A pass that has seen what this one has seen, and made no call. Each has half the share that this one had.
     pub fn split<R>(&self, _rt: &R, pass: &mut Pass<T>) -> Pass<T>
         requires { IsOf T.steps self.now pass.old }
         ensures object { IsOf T.steps self.now pass.new × IsOf T.steps self.now result }
-        ensures same { account pass.new ≡ account pass.old }
+        ensures same { account pass.new ≡ lent (account pass.old) }
         ensures untaken { (account result ≡ untaken (account pass.old)) × (is_alone result ≡ false) }
     {
         let seat = self.table.shared.split_seat::<SplitPass>(&mut pass.seat);
         PassSeat { seat }
     }
 
-    /// Takes in what another pass has seen, and its calls.
+    /// Takes in what another pass has seen, its calls and its share.
     pub fn join<R>(&self, _rt: &R, pass: &mut Pass<T>, other: Pass<T>)
         requires pass { IsOf T.steps self.now pass.old }
         requires other { IsOf T.steps self.now other }

@@ -40,5 +40,5 @@ pub use kept::{Kept, KeptTable};
 pub use pass::{Pass, PassSeat};
 pub use rule::Rule;
 pub use sequential::{Opening, Sequential};
-pub use view::{Stored, View};
+pub use view::{Share, Stored, View};
 pub use worn::Worn;

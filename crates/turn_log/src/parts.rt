@@ -1,6 +1,6 @@
 // Many objects of one kind, and a pass for each.
 ghost use Rattle.std.specs.Prelude.{◌≡◌, ◌<◌, [], length, slice_index_or, IfOk, IfErr, OnOk, false, ℕ};
-ghost use Rattle.turn_log.specs.Passes.{account, is_alone, untaken, unused, Extends, IsWorn, IsJoined};
+ghost use Rattle.turn_log.specs.Passes.{account, is_alone, lent, untaken, unused, Extends, IsSameBut, IsWorn, IsJoined};
 ghost use Rattle.turn_log.specs.Objects.{IsOf};
 ghost use Rattle.turn_log.specs.Parts.{AllOwned, ArePasses, AreSplit, AreTaken, ChangesAt, account_at};
 
@@ -46,7 +46,7 @@ fn split_at<T: Opening, R>(
     requires at { at < length objects.now.items }
     requires passes { ArePasses T.steps T.opening objects.now.items passes.old.items }
     ensures passes { ArePasses T.steps T.opening objects.now.items passes.new.items }
-    ensures same { ChangesAt passes.old.items at (λ old new. (account new ≡ account old) × (account result ≡ untaken (account old)) × (is_alone result ≡ false)) passes.new.items }
+    ensures same { ChangesAt passes.old.items at (λ old new. (account new ≡ lent (account old)) × (account result ≡ untaken (account old)) × (is_alone result ≡ false)) passes.new.items }
     ensures new { (k : _) → IsOf T.steps (slice_index_or objects.now.items at k) result }
 {
     let object = &objects[at];
@@ -103,7 +103,7 @@ pub fn split_parts<T: Opening, R>(
     requires passes { ArePasses T.steps T.opening objects.now.items passes.old.items }
     requires made { made.old.items ≡ [] }
     ensures passes { ArePasses T.steps T.opening objects.now.items passes.new.items }
-    ensures same { (n : ℕ) → account_at passes.new.items n ≡ account_at passes.old.items n }
+    ensures same { (n : ℕ) → IsSameBut (account_at passes.old.items n) (account_at passes.new.items n) }
     ensures split { OnOk result (AreSplit T.steps T.opening objects.now.items passes.old.items passes.new.items made.new.items (length objects.now.items)) }
 {
     for at in 0..objects.len() {

@@ -11,12 +11,22 @@ pub struct Stored<X: Drop, C, R> {
     pub reply: Option<Snapshot<R>>,
 }
 
+/// A share of an object: so many of so many equal units of it.
+pub struct Share {
+    /// The units that are held.
+    pub units: u64,
+    /// The units that there are in all.
+    pub total: u64,
+}
+
 /// What the rule keeps of a pass. It stands in the proofs alone: no value of it is ever made, so that no list takes memory.
 pub struct View<X, C, R> {
     /// The calls that were seen, a prefix of the list of all calls.
     pub seen: LinkedList<(C, R)>,
     /// The places in that list of the pass's own calls, rising.
     pub mine: LinkedList<u64>,
+    /// The pass's share of the object: the first pass has all of it, a split halves it, and a join adds.
+    pub share: Share,
     /// Whether this is the only pass of the object.
     pub alone: bool,
     /// The state in which the object began.

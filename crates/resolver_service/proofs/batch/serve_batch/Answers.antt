@@ -14,7 +14,7 @@ returns-in-Ok-clause-batch g c =
       counted = c.now-moment.ensures.counted;
       added = subst (Told (g.C.Clock.readings c.args.clock.now) (g.C.Clock.told c.args.clock.now) (g.C.Clock.told c.now-moment.new.self)) (sym c.now-moment.ensures.last) c.now-moment.ensures.told;
     })
-    (sym c.now-moment.ensures.last) c.in_ok-purge.ensures.purged c.add_desks.ensures.same c.in-Ok.ensures.made c.in-Ok.ensures.many c.serve_desks.ensures.serves
+    (sym c.now-moment.ensures.last) c.in_ok-purge.ensures.purged c.add_desks.ensures.same c.in-Ok.ensures.shared c.in-Ok.ensures.made c.in-Ok.ensures.many c.serve_desks.ensures.serves
 
 pub returns-in-Ok-clause-stopped : goal.returns-in-Ok-clause-stopped
 returns-in-Ok-clause-stopped g c =

@@ -1,6 +1,7 @@
 use Rattle.std.proofs.Common.{rules, sym, ap, subst, ◌<◌, List, [], ◌∷◌, ◌++◌, length, Some, None, true, false, ◌∙◌}
 use Rattle.turn_log.proofs.AfterCalls.{after_act, after_none, released, legal_more}
 use Rattle.turn_log.specs.Views.{view, event_of, value_of}
+use Rattle.turn_log.specs.declared.view.Share.{Share}
 use Rattle.turn_log.proofs.Steps.{counts, commits, releases, counted, handed, swapped, first_value, some_same}
 use mathlib.Core.Option.{none}
 use Rattle.atomic_table.specs.Table.{step}
@@ -22,7 +23,7 @@ pub fetch_add-requires : goal.fetch_add-requires
 fetch_add-requires g c =
     let S = g.T.Sequential.steps in
     let k = counted S (step 0 0 0 0 none) c.args.pass.now.seat.me c.take.new.seat.me c.load-count.new.seat.me c.load-count.result c.args.pass.now.idle.hands c.take.ensures.taken c.load-count.ensures.2 in
-    let v = view k.log c.args.pass.now.seat.me.0.mine c.args.pass.now.seat.me.0.alone c.args.pass.now.seat.me.0.first true true (Some k.x) in
+    let v = view k.log c.args.pass.now.seat.me.0.mine c.args.pass.now.seat.me.0.share c.args.pass.now.seat.me.0.alone c.args.pass.now.seat.me.0.first true true (Some k.x) in
     let m3 = swapped S c.load-count.new.seat.me c.exchange-value.new.seat.me v _ k.stored k.is c.exchange-value.ensures.3 in
     let m4 = swapped S c.exchange-value.new.seat.me c.exchange.new.seat.me v _ _ m3 c.exchange.ensures.3 in
     let same = some_same _ _ (sym c.in-Some.is ∙ (first_value S c.load-count.new.seat.me.1 _ k.stored _ [] c.exchange-value.ensures.2 (ap (λ m. m.1) k.is) ∙ k.value)) in
@@ -31,6 +32,7 @@ fetch_add-requires g c =
       search rules,
       search rules,
       commits S _ _ c.exchange.new.seat.me k.x c.act-reply.new.self c.args.call c.act-reply.result (ap (λ m. m.0.holds) m4) (ap (λ m. m.0.fresh) m4) (ap (λ m. m.0.now) m4)
+          (subst (λ (s : Share). 0 < s.units) (sym (ap (λ m. m.0.share) m4)) c.args.pass.now.own.share.some)
           (subst (λ (l : List _). length l < 4611686018427387904) (sym (ap (λ m. m.0.seen) m4)) small)
           (ap (λ m. event_of m.1) m4 ∙ (λ i. (c.of-made.ensures i, c.of.ensures i) ∷ []))
           (ap (λ m. value_of m.1) m4)
@@ -41,7 +43,7 @@ pub store-requires-2 : goal.store-requires-2
 store-requires-2 g c =
     let S = g.T.Sequential.steps in
     let k = counted S (step 0 0 0 0 none) c.args.pass.now.seat.me c.take.new.seat.me c.load-count.new.seat.me c.load-count.result c.args.pass.now.idle.hands c.take.ensures.taken c.load-count.ensures.2 in
-    let v = view k.log c.args.pass.now.seat.me.0.mine c.args.pass.now.seat.me.0.alone c.args.pass.now.seat.me.0.first true true (Some k.x) in
+    let v = view k.log c.args.pass.now.seat.me.0.mine c.args.pass.now.seat.me.0.share c.args.pass.now.seat.me.0.alone c.args.pass.now.seat.me.0.first true true (Some k.x) in
     let m3 = swapped S c.load-count.new.seat.me c.exchange-value.new.seat.me v _ k.stored k.is c.exchange-value.ensures.3 in
     let m4 = swapped S c.exchange-value.new.seat.me c.exchange.new.seat.me v _ _ m3 c.exchange.ensures.3 in
     let m5 = c.fetch_add.ensures.2 in (
@@ -56,7 +58,7 @@ invariant_of-pass g c =
     let p = c.args.pass.now in
     let v = p.seat.me.0 in
     let k = counted S (step 0 0 0 0 none) p.seat.me c.take.new.seat.me c.load-count.new.seat.me c.load-count.result p.idle.hands c.take.ensures.taken c.load-count.ensures.2 in
-    let a = after_none S v k.log true (Some k.x) (0, k.stored) c.load-count.new.seat.me c.store.new.seat.me p.own k.begins k.only k.is c.store.ensures.2 in
+    let a = after_none S v k.log true (Some k.x) (0, k.stored) c.load-count.new.seat.me c.store.new.seat.me p.own k.begins k.only k.covered k.is c.store.ensures.2 in
     record { idle = a.idle; own = a.own }
 
 pub invariant_of-pass-2 : goal.invariant_of-pass-2
@@ -65,12 +67,12 @@ invariant_of-pass-2 g c =
     let p = c.args.pass.now in
     let v = p.seat.me.0 in
     let k = counted S (step 0 0 0 0 none) p.seat.me c.take.new.seat.me c.load-count.new.seat.me c.load-count.result p.idle.hands c.take.ensures.taken c.load-count.ensures.2 in
-    let w = view k.log v.mine v.alone v.first true true (Some k.x) in
+    let w = view k.log v.mine v.share v.alone v.first true true (Some k.x) in
     let m3 = swapped S c.load-count.new.seat.me c.exchange-value.new.seat.me w _ k.stored k.is c.exchange-value.ensures.3 in
     let m4 = swapped S c.exchange-value.new.seat.me c.exchange.new.seat.me w _ _ m3 c.exchange.ensures.3 in
     let m6 = released S w _ c.exchange.new.seat.me c.fetch_add.new.seat.me c.store-2.new.seat.me m4 c.fetch_add.ensures.2 c.store-2.ensures.2 in
-    let is = m6 ∙ (λ i. (view (k.log ++ (c.of-made.ensures i, c.of.ensures i) ∷ []) (v.mine ++ length k.log ∷ []) v.alone v.first false false None, [])) in
-    let a = after_act S v k.log c.args.call c.act-reply.result c.store-2.new.seat.me p.own k.begins k.only is in
+    let is = m6 ∙ (λ i. (view (k.log ++ (c.of-made.ensures i, c.of.ensures i) ∷ []) (v.mine ++ length k.log ∷ []) v.share v.alone v.first false false None, [])) in
+    let a = after_act S v k.log c.args.call c.act-reply.result c.store-2.new.seat.me p.own k.begins k.only k.covered is in
     record { idle = a.idle; own = a.own }
 
 pub returns-clause-told : goal.returns-clause-told
@@ -79,12 +81,12 @@ returns-clause-told g c =
     let p = c.args.pass.now in
     let v = p.seat.me.0 in
     let k = counted S (step 0 0 0 0 none) p.seat.me c.take.new.seat.me c.load-count.new.seat.me c.load-count.result p.idle.hands c.take.ensures.taken c.load-count.ensures.2 in
-    let w = view k.log v.mine v.alone v.first true true (Some k.x) in
+    let w = view k.log v.mine v.share v.alone v.first true true (Some k.x) in
     let m3 = swapped S c.load-count.new.seat.me c.exchange-value.new.seat.me w _ k.stored k.is c.exchange-value.ensures.3 in
     let m4 = swapped S c.exchange-value.new.seat.me c.exchange.new.seat.me w _ _ m3 c.exchange.ensures.3 in
     let m6 = released S w _ c.exchange.new.seat.me c.fetch_add.new.seat.me c.store-2.new.seat.me m4 c.fetch_add.ensures.2 c.store-2.ensures.2 in
-    let is = m6 ∙ (λ i. (view (k.log ++ (c.of-made.ensures i, c.of.ensures i) ∷ []) (v.mine ++ length k.log ∷ []) v.alone v.first false false None, [])) in
-    let a = after_act S v k.log c.args.call c.act-reply.result c.store-2.new.seat.me p.own k.begins k.only is in
+    let is = m6 ∙ (λ i. (view (k.log ++ (c.of-made.ensures i, c.of.ensures i) ∷ []) (v.mine ++ length k.log ∷ []) v.share v.alone v.first false false None, [])) in
+    let a = after_act S v k.log c.args.call c.act-reply.result c.store-2.new.seat.me p.own k.begins k.only k.covered is in
     let log_is = k.begins.1 in
     let n = k.count in
     let small : length k.log < 4611686018427387904 = search (rules, n) in
@@ -95,6 +97,7 @@ returns-clause-told g c =
       mine = a.mine ∙ ap (λ (l : List _). v.mine ++ length l ∷ []) log_is;
       alone = a.alone;
       whole = a.whole;
+      share = a.share;
     }
 
 pub returns-clause-object : goal.returns-clause-object
@@ -103,12 +106,12 @@ returns-clause-object g c =
     let p = c.args.pass.now in
     let v = p.seat.me.0 in
     let k = counted S (step 0 0 0 0 none) p.seat.me c.take.new.seat.me c.load-count.new.seat.me c.load-count.result p.idle.hands c.take.ensures.taken c.load-count.ensures.2 in
-    let w = view k.log v.mine v.alone v.first true true (Some k.x) in
+    let w = view k.log v.mine v.share v.alone v.first true true (Some k.x) in
     let m3 = swapped S c.load-count.new.seat.me c.exchange-value.new.seat.me w _ k.stored k.is c.exchange-value.ensures.3 in
     let m4 = swapped S c.exchange-value.new.seat.me c.exchange.new.seat.me w _ _ m3 c.exchange.ensures.3 in
     let m6 = released S w _ c.exchange.new.seat.me c.fetch_add.new.seat.me c.store-2.new.seat.me m4 c.fetch_add.ensures.2 c.store-2.ensures.2 in
-    let is = m6 ∙ (λ i. (view (k.log ++ (c.of-made.ensures i, c.of.ensures i) ∷ []) (v.mine ++ length k.log ∷ []) v.alone v.first false false None, [])) in
-    let a = after_act S v k.log c.args.call c.act-reply.result c.store-2.new.seat.me p.own k.begins k.only is in
+    let is = m6 ∙ (λ i. (view (k.log ++ (c.of-made.ensures i, c.of.ensures i) ∷ []) (v.mine ++ length k.log ∷ []) v.share v.alone v.first false false None, [])) in
+    let a = after_act S v k.log c.args.call c.act-reply.result c.store-2.new.seat.me p.own k.begins k.only k.covered is in
     let same = some_same _ _ (sym c.in-Some.is ∙ (first_value S c.load-count.new.seat.me.1 _ k.stored _ [] c.exchange-value.ensures.2 (ap (λ m. m.1) k.is) ∙ k.value)) in
     record {
       table = c.store-2.ensures.0 ∙ (c.fetch_add.ensures.0 ∙ (c.exchange.ensures.0 ∙ (c.exchange-value.ensures.0 ∙ (c.load-count.ensures.0 ∙ (c.take.ensures.object.0 ∙ c.requires.table)))));
@@ -122,7 +125,7 @@ returns-then-count-ge-CALL_LIMIT-clause-whole g c = λ h.
     let p = c.args.pass.now in
     let v = p.seat.me.0 in
     let k = counted S (step 0 0 0 0 none) p.seat.me c.take.new.seat.me c.load-count.new.seat.me c.load-count.result p.idle.hands c.take.ensures.taken c.load-count.ensures.2 in
-    let a = after_none S v k.log true (Some k.x) (0, k.stored) c.load-count.new.seat.me c.store.new.seat.me p.own k.begins k.only k.is c.store.ensures.2 in
+    let a = after_none S v k.log true (Some k.x) (0, k.stored) c.load-count.new.seat.me c.store.new.seat.me p.own k.begins k.only k.covered k.is c.store.ensures.2 in
     (a.alone ∙ h.0, a.whole h.0)
 
 pub returns-clause-whole : goal.returns-clause-whole
@@ -131,10 +134,10 @@ returns-clause-whole g c = λ h.
     let p = c.args.pass.now in
     let v = p.seat.me.0 in
     let k = counted S (step 0 0 0 0 none) p.seat.me c.take.new.seat.me c.load-count.new.seat.me c.load-count.result p.idle.hands c.take.ensures.taken c.load-count.ensures.2 in
-    let w = view k.log v.mine v.alone v.first true true (Some k.x) in
+    let w = view k.log v.mine v.share v.alone v.first true true (Some k.x) in
     let m3 = swapped S c.load-count.new.seat.me c.exchange-value.new.seat.me w _ k.stored k.is c.exchange-value.ensures.3 in
     let m4 = swapped S c.exchange-value.new.seat.me c.exchange.new.seat.me w _ _ m3 c.exchange.ensures.3 in
     let m6 = released S w _ c.exchange.new.seat.me c.fetch_add.new.seat.me c.store-2.new.seat.me m4 c.fetch_add.ensures.2 c.store-2.ensures.2 in
-    let is = m6 ∙ (λ i. (view (k.log ++ (c.of-made.ensures i, c.of.ensures i) ∷ []) (v.mine ++ length k.log ∷ []) v.alone v.first false false None, [])) in
-    let a = after_act S v k.log c.args.call c.act-reply.result c.store-2.new.seat.me p.own k.begins k.only is in
+    let is = m6 ∙ (λ i. (view (k.log ++ (c.of-made.ensures i, c.of.ensures i) ∷ []) (v.mine ++ length k.log ∷ []) v.share v.alone v.first false false None, [])) in
+    let a = after_act S v k.log c.args.call c.act-reply.result c.store-2.new.seat.me p.own k.begins k.only k.covered is in
     (a.alone ∙ h.0, a.whole h.0)
