@@ -189,12 +189,18 @@ def by_curl():
 
 
 def listens():
-    """`FED_LISTEN` names the address, and another form of it starts nothing; `FED_LOG=off` leaves no lines."""
+    """`FED_LISTEN` names the address, and another form of it starts nothing; nor does one of `FED_FETCH_SECONDS`; `FED_LOG=off` leaves no
+    lines."""
     port = str(free_port())
     words = [FED, "authority", "--config", NODE, "--port", port, "--connections", "1"]
     for value in ("localhost", "127.0.0.1:80", "1.2.3", "256.0.0.1", "::1", ""):
         done = subprocess.run(words, env={**os.environ, "FED_LISTEN": value}, capture_output=True, timeout=PATIENCE, cwd=place)
         tell(f"FED_LISTEN={value}: {done}", (done.returncode, done.stdout) == (2, b"") and b"FED_LISTEN" in done.stderr)
+    for value in ("0", "3601", "030", "+30", "30 ", "1e2", "18446744073709551617", ""):
+        done = subprocess.run(words, env={**os.environ, "FED_FETCH_SECONDS": value}, capture_output=True, timeout=PATIENCE, cwd=place)
+        tell(f"FED_FETCH_SECONDS={value}: {done}", (done.returncode, done.stdout) == (2, b"") and b"FED_FETCH_SECONDS" in done.stderr)
+        done = subprocess.run([FED, "--version"], env={**os.environ, "FED_FETCH_SECONDS": value}, capture_output=True, timeout=PATIENCE)
+        tell(f"--version fetches nothing: {done}", (done.returncode, done.stderr) == (0, b""))
     for command in (["--version"], ["verify", OWN["pub"]]):
         done = subprocess.run([FED, *command], env={**os.environ, "FED_LISTEN": "no"}, input=b"", capture_output=True, timeout=PATIENCE)
         tell(f"{command} looks at no address: {done.returncode}", b"FED_LISTEN" not in done.stderr)

@@ -222,6 +222,7 @@ def no_route(entity):
 NO_PATH = f"no path came up to {TA}"
 RESET = "127.0.0.1:PORT: the connection was reset"
 SILENT = "127.0.0.1:PORT: not answered within 10 seconds"
+SPENT = "127.0.0.1:PORT: the time for all that one call fetches was over"
 UNJUDGED = f"the search ended before it judged a path that is valid: {RP} {IM} {TA}"
 
 
@@ -363,6 +364,12 @@ def faults():
     """A fetch that fails is told by its URL, and isn't taken for a page that isn't there."""
     for row, page, reason in (("a reset", "reset", RESET), ("silence", "silent", SILENT)):
         refused(f"the entity: {row}", {**USUAL, page_of(RP): page}, 7, "", CALLS[:1], *lost("fault", failed(RP)), reason)
+    with Web({**USUAL, page_of(RP): "silent"}) as web:
+        began = time.monotonic()
+        got = call(hosts_in(USUAL, web), FED_FETCH_SECONDS="1")
+        spent = time.monotonic() - began
+    wanted = (7, "", said(lost("fault", failed(RP), SPENT)).replace("PORT", str(web.port)))
+    tell(f"FED_FETCH_SECONDS=1: {got[:3]}, not {wanted}, in {spent:.1f} seconds", got[:3] == wanted and 1 <= spent < 9)
     refused("the superior: a reset", {**USUAL, page_of(IM): "reset"}, 7, "", CALLS[:2], *lost("fault", failed(IM), NO_PATH), RESET)
 
 

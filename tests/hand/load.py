@@ -275,7 +275,7 @@ def crowd(service, answers):
         with service.connect() as peer:
             for byte in request_for(RP):
                 peer.sendall(bytes([byte]))
-                time.sleep(0.05)
+                time.sleep(0.02)
             status, body = received(peer)
             tell(f"a client that drips: {status} {body[:200]}", status == 200)
 

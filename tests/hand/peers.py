@@ -136,14 +136,14 @@ fn run(rt: &HostRuntime, ip: [u8; 4], logs: bool) -> io::Result<()> {
         let (first, rest) = rest.split_once(' ').unwrap_or((rest, ""));
         let (callers, pieces) = rest.split_once(' ').unwrap_or(("", ""));
         if word == "serve" {
-            let mut net = RealNetwork::new(rt, ip, logs);
+            let mut net = RealNetwork::new(rt, rt.alloc(), ip, logs);
             if net.listen(port(first)).is_err() {
                 return println!(rt; "no port");
             }
             println!(rt; "listens")?;
             serve_all(rt, &mut net, number(callers), number(pieces))?;
         } else {
-            ask(rt, &mut RealNetwork::new(rt, ip, logs), port(first))?;
+            ask(rt, &mut RealNetwork::new(rt, rt.alloc(), ip, logs), port(first))?;
         }
     }
     Ok(())
@@ -263,9 +263,35 @@ def slow():
         except OSError:
             pass
         spent = time.monotonic() - start
-    tell(f"slow: ended after {spent:.1f} s", 29 < spent < 34)
+    tell(f"slow: ended after {spent:.1f} s", 4.5 < spent < 9)
     server.ask()
     server.ends("slow", ["read fault", "served"], shows(r"GET /\S* - 0", SERVED))
+
+
+def behind_others():
+    server = Server(61)
+    others = [server.call() for _ in range(60)]
+    for number, it in enumerate(others):
+        if number % 6 == 0:
+            it.sendall(HEAD[:8])
+    time.sleep(0.3)
+    start = time.monotonic()
+    server.ask()
+    spent = time.monotonic() - start
+    tell(f"behind 50 silent and 10 slow callers: {spent:.3f} s", spent < 0.2)
+    server.ends("behind others", ["served"] + ["read fault"] * 60, shows(SERVED, *[r"GET /pat - 0"] * 10, *["- - - 0"] * 50))
+    for it in others:
+        it.close()
+
+
+def in_their_order():
+    server = Server(2)
+    with server.call() as first, server.call() as second:
+        second.sendall(HEAD)
+        tell("who speaks first is served first", second.recv(65536)[:12] == b"HTTP/1.1 200")
+        first.sendall(HEAD)
+        tell("and then who came before", first.recv(65536)[:12] == b"HTTP/1.1 200")
+    server.ends("in their order", ["served"] * 2, shows(SERVED, SERVED))
 
 
 def not_taking():
@@ -345,8 +371,8 @@ def full_queue():
 
 
 folder = sys.argv[1] if len(sys.argv) > 1 else tempfile.mkdtemp()
-program = laid.built(folder, "peers", PROGRAM, ["fed_base", "fed_ports", "utc_dates", "plain_notes", "network_notes", "fed_net"], PROOFS)
-rows = [ordinary, control_bytes, quiet, silent, slow, not_taking, reset, listens_elsewhere, client, full_queue]
+program = laid.built(folder, "peers", PROGRAM, ["fed_base", "fed_ports", "utc_dates", "plain_notes", "network_notes", "waiting_callers", "fed_net"], PROOFS)
+rows = [ordinary, control_bytes, quiet, silent, slow, behind_others, in_their_order, not_taking, reset, listens_elsewhere, client, full_queue]
 status = laid.tried("peers", rows)
 if len(sys.argv) < 2:
     shutil.rmtree(folder)

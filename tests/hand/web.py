@@ -428,7 +428,7 @@ fn row(rt: &HostRuntime, logs: bool, line: &str) -> io::Result<()> {
     let (first, rest) = cut(rest);
     let (second, third) = cut(rest);
     let alloc = rt.alloc();
-    let mut net = RealNetwork::new(rt, [127, 0, 0, 1], logs);
+    let mut net = RealNetwork::new(rt, rt.alloc(), [127, 0, 0, 1], logs);
     match word {
         "serve" | "stream" => {
             let Ok(page) = filled(alloc, number(third)) else {
@@ -727,7 +727,7 @@ def pages():
 building = sys.argv[1:2] == ["--build"]
 keeps = sys.argv[2 if building else 1 :]
 folder = keeps[0] if keeps else tempfile.mkdtemp()
-program = laid.built(folder, "web", PROGRAM, ["fed_base", "fed_ports", "utc_dates", "plain_notes", "network_notes", "fed_net", "chunked_body", "http_messages", "http_plain", "http_stream"], PROOFS)
+program = laid.built(folder, "web", PROGRAM, ["fed_base", "fed_ports", "utc_dates", "plain_notes", "network_notes", "waiting_callers", "fed_net", "chunked_body", "http_messages", "http_plain", "http_stream"], PROOFS)
 if building:
     sys.exit(0)
 rows = [pages]

@@ -6,7 +6,8 @@
 //!
 //! `main` makes the real outside, calls [`run_with_notes`], and ends with its status. What a person reads goes to standard error, unless
 //! the environment has `FED_QUIET=1`. A service listens on 127.0.0.1, or on the IPv4 address in `FED_LISTEN`, and each connection leaves a
-//! line on standard error, unless the environment has `FED_LOG=off`, `no` or `0`. Before a service `main` says what starts, and of a
+//! line on standard error, unless the environment has `FED_LOG=off`, `no` or `0`. What one call fetches takes 30 seconds in all, or as
+//! many as the environment has in `FED_FETCH_SECONDS`. Before a service `main` says what starts, and of a
 //! configuration that is checked or started that others can read its ring. Behind its version it writes the commit and the target that the
 //! script `fed` wrote behind the program's bytes.
 #![tactic(auto)]
@@ -25,7 +26,7 @@ mod resolving;
 mod telling;
 mod top;
 
-use fed_net::RealNetwork;
+use fed_net::{FETCH_SECONDS, RealNetwork, fetch_seconds};
 use fed_ports::{Memory, RealClock, RealSink, RealSource, Seq, Text, listen_address};
 use fed_store::RealStore;
 use fed_words::{Call, Service, read_call};
@@ -35,7 +36,8 @@ use std::env::{Env, VarError};
 use std::io::{ErrorKind, IsTerminal};
 use std::process::ExitCode;
 use telling::{
-    FAULTY, ended, tell_of_address, tell_of_node, tell_of_waiting, with_build, with_ring,
+    FAULTY, ended, tell_of_address, tell_of_fetch_time, tell_of_node, tell_of_waiting, with_build,
+    with_ring,
 };
 use top::{run, run_with_notes};
 
@@ -75,6 +77,24 @@ fn address<R: Env + AllocGlobal>(rt: &R) -> Result<Option<[u8; 4]>, Memory> {
     }
 }
 
+// How many seconds all exchanges of one call take, or `None` where the environment names no such number.
+fn fetch_time<R: Env + AllocGlobal>(rt: &R) -> Result<Option<u64>, Memory> {
+    match env::var(rt, "FED_FETCH_SECONDS") {
+        Ok(value) => Ok(fetch_seconds(value.as_bytes())),
+        Err(VarError::NotPresent) => Ok(Some(FETCH_SECONDS)),
+        Err(VarError::NotUnicode) => Ok(None),
+        Err(VarError::OutOfMemory) => Err(Memory),
+    }
+}
+
+// Whether the words ask for what may ask others over the network.
+fn fetches(alloc: Global, words: &[Text]) -> bool {
+    match read_call(alloc, words) {
+        Ok(Call::Registration(_)) => true,
+        _ => serves(alloc, words),
+    }
+}
+
 // Whether the words ask for a service over the network.
 fn serves(alloc: Global, words: &[Text]) -> bool {
     match read_call(alloc, words) {
@@ -98,7 +118,22 @@ fn main(rt: HostRuntime) -> ExitCode {
         }
         return ExitCode::from(FAULTY);
     }
-    let mut net = RealNetwork::new(&rt, address.unwrap_or([127, 0, 0, 1]), is_logged(&rt));
+    let Ok(fetch_time) = fetch_time(&rt) else {
+        return ExitCode::from(5);
+    };
+    if fetch_time.is_none() && fetches(alloc, words.as_slice()) {
+        if !is_quiet(&rt) {
+            tell_of_fetch_time(&rt, alloc);
+        }
+        return ExitCode::from(FAULTY);
+    }
+    let mut net = RealNetwork::new(
+        &rt,
+        alloc,
+        address.unwrap_or([127, 0, 0, 1]),
+        is_logged(&rt),
+    );
+    net.set_fetch_seconds(fetch_time.unwrap_or(FETCH_SECONDS));
     let mut input = RealSource::new(rt.stdin());
     let mut out = RealSink::new(rt.stdout());
     let mut store = RealStore::new(&rt);

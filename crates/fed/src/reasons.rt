@@ -33,6 +33,16 @@ pub fn explain_listen<R: Env + AllocGlobal>(rt: &R, alloc: Global, notes: &mut N
     notes.say(about);
 }
 
+/// Says that the environment's `FED_FETCH_SECONDS` is no time for fetching.
+pub fn explain_fetch_time<R: Env + AllocGlobal>(rt: &R, alloc: Global, notes: &mut Notes) {
+    let about = Sentence::of(alloc, b"FED_FETCH_SECONDS");
+    let about = match env::var(rt, "FED_FETCH_SECONDS") {
+        Ok(value) => about.and(b"=").and(value.as_bytes()),
+        Err(_) => about,
+    };
+    notes.say(about.and(b" isn't a number of seconds from 1 to 3600, as 30"));
+}
+
 /// Says where the ring's file stands, whose change couldn't be told.
 pub fn explain_untold<R: Files>(rt: &R, alloc: Global, path: &str, notes: &mut Notes) {
     if fs::metadata(rt, path).is_ok() {

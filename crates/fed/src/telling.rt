@@ -2,7 +2,7 @@
 
 use crate::build::{is_version, tell_of_build};
 use crate::named_file::{explain_fault, is_open_file, value_of, warn_of_open, warn_of_open_file};
-use crate::reasons::{explain_listen, explain_unkept, explain_untold};
+use crate::reasons::{explain_fetch_time, explain_listen, explain_unkept, explain_untold};
 use fed_ports::{Address, Clock, RealClock, Sink, Text};
 use fed_store::RealStore;
 use fed_words::{Call, Inspection, Service, read_call};
@@ -47,6 +47,13 @@ pub(crate) fn tell_of_waiting<R: Eprint>(rt: &R, alloc: Global, words: &[Text]) 
 pub(crate) fn tell_of_address<R: Env + AllocGlobal + Eprint>(rt: &R, alloc: Global) {
     let mut notes = Notes::new(alloc, None);
     explain_listen(rt, alloc, &mut notes);
+    tell(rt, &notes);
+}
+
+/// Says that there is no such time for fetching.
+pub(crate) fn tell_of_fetch_time<R: Env + AllocGlobal + Eprint>(rt: &R, alloc: Global) {
+    let mut notes = Notes::new(alloc, None);
+    explain_fetch_time(rt, alloc, &mut notes);
     tell(rt, &notes);
 }
 

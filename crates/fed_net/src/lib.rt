@@ -5,18 +5,19 @@
 //! calls ends within the time that the crate's page gives for it.
 #![tactic(auto)]
 
+mod fetch_time;
 mod memory_connection;
 mod memory_connections;
 mod memory_link;
 mod memory_network;
 mod memory_peer;
 mod named_page;
-mod noted;
+mod real_callers;
 mod real_network;
 mod real_peer;
-mod request_ends;
 mod timed;
 
+pub use fetch_time::{FETCH_SECONDS, fetch_seconds};
 pub use memory_link::MemoryLink;
 pub use memory_network::MemoryNetwork;
 pub use memory_peer::MemoryPeer;

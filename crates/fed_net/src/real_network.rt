@@ -2,38 +2,35 @@
 
 ghost use Rattle.std.specs.Prelude.{◌≡◌, ◌≤◌, true, None, is_some, option_map, length, IfSome, IfNone};
 
+use crate::fetch_time::{FETCH_SECONDS, FetchTime};
+use crate::real_callers::RealCallers;
 use crate::real_peer::RealPeer;
-use crate::timed::{left, read, write};
+use crate::timed::{read, write};
 use fed_base::{Failed, Memory};
 use fed_ports::{Address, Network};
 use network_notes::{Failures, Reason};
 use std::alloc::Global;
-use std::io::ErrorKind;
-use std::net::{Ipv4Addr, Net, OpenListener, SocketAddr, SocketAddrV4, TcpListener, TcpStream};
-use std::time::{Clock as SystemClock, Duration, Instant};
+use std::net::{Ipv4Addr, Net, SocketAddr, SocketAddrV4, TcpListener, TcpStream};
+use std::time::{Clock as SystemClock, Duration};
 
 // In how many seconds a connection has to be opened.
 const CONNECT: u64 = 3;
 
-// In how many seconds an exchange has to be done.
-const EXCHANGE: u64 = 10;
-
-// How many connections that were gone before they were accepted are passed over in one call.
-const TRIES: u32 = 1024;
-
-/// The network of the system. Connecting takes at most 3 seconds, and an exchange 10 in all.
+/// The network of the system. Connecting takes at most 3 seconds, an exchange 10 in all, and all exchanges of one network 30, or as many
+/// seconds as were set: past them each call of an exchange fails at once.
 #[derive(Drop)]
 pub struct RealNetwork<
     'a,
     R: Net<Listener = TcpListener, Stream = TcpStream> + SystemClock + Eprint + Sync,
 > {
     rt: &'a R,
+    alloc: Global,
     ip: [u8; 4],
     logs: bool,
+    time: FetchTime,
     stream: Option<TcpStream>,
-    opened: Option<Instant>,
     to: Option<Address>,
-    listener: Option<TcpListener>,
+    callers: Option<RealCallers>,
     port: u16,
     faults: u64,
     failures: Failures,
@@ -45,17 +42,18 @@ impl<
 > RealNetwork<'a, R> {
     /// A network of which no call was made. It listens on the IPv4 address of these four numbers. Where `logs` says so, each answer
     /// of a peer leaves one line on standard error, and so does a peer that is settled without one.
-    pub fn new(rt: &'a R, ip: [u8; 4], logs: bool) -> RealNetwork<'a, R>
+    pub fn new(rt: &'a R, alloc: Global, ip: [u8; 4], logs: bool) -> RealNetwork<'a, R>
         ensures { ⟦<RealNetwork<'a, R> as Network>⟧.faults result ≡ 0 }
     {
         RealNetwork {
             rt,
+            alloc,
             ip,
             logs,
+            time: FetchTime::of_seconds(FETCH_SECONDS),
             stream: None,
-            opened: None,
             to: None,
-            listener: None,
+            callers: None,
             port: 0,
             faults: 0,
             failures: Failures::new(),
@@ -69,38 +67,55 @@ impl<
 }
 
 // Tells that an exchange with that address failed: it took too long, or the other side ended it.
-fn tell<R: SystemClock>(
-    rt: &R,
-    opened: Option<Instant>,
-    to: Option<Address>,
-    failures: &mut Failures,
-) {
+fn tell<R: SystemClock>(rt: &R, time: &FetchTime, to: Option<Address>, failures: &mut Failures) {
     if let Some(to) = to {
-        let reason = match left(rt, opened, EXCHANGE) {
+        let reason = match time.left(rt) {
             Some(_) => Reason::Broken,
+            None if time.is_over(rt) => Reason::Spent,
             None => Reason::Silent,
         };
         failures.add(to, reason);
     }
 }
 
+impl<
+    'a,
+    R: Net<Listener = TcpListener, Stream = TcpStream> + SystemClock + Eprint + Sync,
+> RealNetwork<'a, R> {
+    /// Sets how many seconds all its exchanges take, and all those of each network that it makes from now on.
+    pub fn set_fetch_seconds(&mut self, seconds: u64)
+        ensures faults { ⟦<RealNetwork<'a, R> as Network>⟧.faults self.new ≡ ⟦<RealNetwork<'a, R> as Network>⟧.faults self.old }
+        ensures port { ⟦<RealNetwork<'a, R> as Network>⟧.port self.new ≡ ⟦<RealNetwork<'a, R> as Network>⟧.port self.old }
+    {
+        self.time = FetchTime::of_seconds(seconds);
+    }
+}
+
+// A connection to that address, opened in that time and in no more than there is for it.
+fn connected<R: Net<Stream = TcpStream>>(
+    rt: &R,
+    to: &Address,
+    left: Option<Duration>,
+) -> Result<TcpStream, Reason> {
+    let Some(left) = left else {
+        return Err(Reason::Spent);
+    };
+    let most = Duration::from_secs(CONNECT);
+    match rt.connect_timeout(socket_address(to.ip, to.port), left.min(most)) {
+        Ok(stream) => {
+            let _ = stream.set_nodelay(true);
+            Ok(stream)
+        }
+        Err(error) => Err(match Reason::of(error.kind()) {
+            Reason::Unconnected if left < most => Reason::Spent,
+            reason => reason,
+        }),
+    }
+}
+
 fn socket_address(ip: [u8; 4], port: u16) -> SocketAddr {
     let [a, b, c, d] = ip;
     SocketAddr::V4(SocketAddrV4::new(Ipv4Addr::new(a, b, c, d), port))
-}
-
-// The next connection. One that was gone before it was accepted is passed over.
-fn next_caller(listener: &TcpListener) -> Option<(TcpStream, SocketAddr)> {
-    for _ in 0..TRIES {
-        match listener.accept() {
-            Ok(caller) => return Some(caller),
-            Err(error) => match error.kind() {
-                ErrorKind::ConnectionAborted | ErrorKind::Interrupted => {}
-                _ => return None,
-            },
-        }
-    }
-    None
 }
 
 impl<'a, R: Net<Listener = TcpListener, Stream = TcpStream> + SystemClock + Eprint + Sync> Network
@@ -111,7 +126,7 @@ impl<'a, R: Net<Listener = TcpListener, Stream = TcpStream> + SystemClock + Epri
 
     ghost is_open = { λ network. is_some network.stream ≡ true };
 
-    ghost port = { λ network. option_map (λ _. network.port) network.listener };
+    ghost port = { λ network. option_map (λ _. network.port) network.callers };
 
     ghost exchanges = { λ _. None };
 
@@ -121,18 +136,15 @@ impl<'a, R: Net<Listener = TcpListener, Stream = TcpStream> + SystemClock + Epri
 
     fn open(&mut self, to: &Address) -> Result<(), Failed> {
         self.stream = None;
-        self.opened = Instant::now(self.rt).ok();
         self.to = Some(*to);
-        let at = *to;
-        let to = socket_address(to.ip, to.port);
-        match self.rt.connect_timeout(to, Duration::from_secs(CONNECT)) {
+        self.time.begin(self.rt);
+        match connected(self.rt, to, self.time.left(self.rt)) {
             Ok(stream) => {
-                let _ = stream.set_nodelay(true);
                 self.stream = Some(stream);
                 Ok(())
             }
-            Err(error) => {
-                self.failures.add(at, Reason::of(error.kind()));
+            Err(reason) => {
+                self.failures.add(*to, reason);
                 self.faults = self.faults.saturating_add(1);
                 Err(Failed)
             }
@@ -143,10 +155,10 @@ impl<'a, R: Net<Listener = TcpListener, Stream = TcpStream> + SystemClock + Epri
         let Some(stream) = &mut self.stream else {
             unreachable!()
         };
-        match write(stream, left(self.rt, self.opened, EXCHANGE), piece) {
+        match write(stream, self.time.left(self.rt), piece) {
             Some(n) => Ok(n),
             None => {
-                tell(self.rt, self.opened, self.to, &mut self.failures);
+                tell(self.rt, &self.time, self.to, &mut self.failures);
                 self.faults = self.faults.saturating_add(1);
                 Err(Failed)
             }
@@ -157,10 +169,10 @@ impl<'a, R: Net<Listener = TcpListener, Stream = TcpStream> + SystemClock + Epri
         let Some(stream) = &mut self.stream else {
             unreachable!()
         };
-        match read(stream, left(self.rt, self.opened, EXCHANGE), into) {
+        match read(stream, self.time.left(self.rt), into) {
             Some(n) => Ok(n),
             None => {
-                tell(self.rt, self.opened, self.to, &mut self.failures);
+                tell(self.rt, &self.time, self.to, &mut self.failures);
                 self.faults = self.faults.saturating_add(1);
                 Err(Failed)
             }
@@ -169,12 +181,13 @@ impl<'a, R: Net<Listener = TcpListener, Stream = TcpStream> + SystemClock + Epri
 
     fn shut(&mut self) {
         self.stream = None;
+        self.time.end(self.rt);
     }
 
     fn listen(&mut self, to: u16) -> Result<(), Failed> {
         match self.rt.bind(socket_address(self.ip, to)) {
             Ok(listener) => {
-                self.listener = Some(listener);
+                self.callers = Some(RealCallers::new(self.rt, self.alloc, listener));
                 self.port = to;
                 Ok(())
             }
@@ -191,11 +204,11 @@ impl<'a, R: Net<Listener = TcpListener, Stream = TcpStream> + SystemClock + Epri
     }
 
     fn accept(&mut self) -> Result<RealPeer<'a, R>, Failed> {
-        let Some(listener) = &self.listener else {
+        let Some(callers) = &mut self.callers else {
             unreachable!()
         };
-        match next_caller(listener) {
-            Some((stream, from)) => Ok(RealPeer::new(self.rt, stream, from, self.logs)),
+        match callers.next(self.rt, self.logs) {
+            Some(peer) => Ok(peer),
             None => {
                 self.faults = self.faults.saturating_add(1);
                 Err(Failed)
@@ -208,15 +221,16 @@ impl<'a, R: Net<Listener = TcpListener, Stream = TcpStream> + SystemClock + Epri
         Ok(())
     }
 
-    fn another(&self, _alloc: Global) -> Result<Self, Memory> {
+    fn another(&self, alloc: Global) -> Result<Self, Memory> {
         Ok(RealNetwork {
             rt: self.rt,
+            alloc,
             ip: self.ip,
             logs: self.logs,
+            time: self.time.anew(),
             stream: None,
-            opened: None,
             to: None,
-            listener: None,
+            callers: None,
             port: 0,
             faults: 0,
             failures: Failures::new(),

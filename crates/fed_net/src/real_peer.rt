@@ -1,21 +1,18 @@
 // One end of an accepted connection of TCP. It tells no bytes.
 
-ghost use Rattle.std.specs.Prelude.{◌≡◌, None};
+ghost use Rattle.std.specs.Prelude.{◌≡◌, ◌≤◌, None, length, IfSome, IfNone};
 ghost use Rattle.std.proofs.Common.{refl};
 
-use crate::noted::Noted;
 use crate::timed::{left, read, write};
 use fed_base::Failed;
 use fed_ports::{Peer, Sink, Source};
 use std::io::Read;
 use std::net::{Shutdown, SocketAddr, TcpStream};
 use std::time::{Clock as SystemClock, Duration, Instant, SystemTime, UNIX_EPOCH};
+use waiting_callers::{Noted, RealCaller};
 
-// For how many seconds a peer may be silent while it is read from.
-const SILENCE: u64 = 10;
-
-// In how many seconds a peer has to send its request, from when it was accepted, or from the first byte of a later one.
-const REQUEST: u64 = 30;
+// In how many seconds a peer has to send the rest of its request, from when it was handed on, or from the first byte of a later one.
+const REQUEST: u64 = 5;
 
 // In how many seconds a peer whose connection was kept has to begin its next request.
 const IDLE: u64 = 1;
@@ -33,8 +30,8 @@ struct Whole {
     spent: Duration,
 }
 
-/// A caller over TCP. It fails where it is silent for 10 seconds, where it hasn't sent its request 30 seconds after it was accepted, and
-/// where it doesn't take its answer in 30 seconds. Once [`Sink::end`] says that its last answer was given it gets the end of it, though the
+/// A caller over TCP that was handed on. It fails where it hasn't sent its request 5 seconds after that, or was late before it, and where
+/// it doesn't take its answer in 30 seconds. Once [`Sink::end`] says that its last answer was given it gets the end of it, though the
 /// connection is kept until it is settled. Any other answer is over where more is read behind it, or is given and another request was read
 /// by then: these times begin anew with the first byte of the next request, and the peer fails where that doesn't come in a second.
 #[derive(Drop)]
@@ -43,6 +40,9 @@ pub struct RealPeer<'a, R: SystemClock + Eprint> {
     stream: TcpStream,
     from: SocketAddr,
     logs: bool,
+    ahead: Vec<u8>,
+    taken: usize,
+    is_late: bool,
     began: Option<Instant>,
     is_idle: bool,
     answered: Option<Instant>,
@@ -53,18 +53,22 @@ pub struct RealPeer<'a, R: SystemClock + Eprint> {
 }
 
 impl<'a, R: SystemClock + Eprint> RealPeer<'a, R> {
-    /// A peer that was accepted now. Where `logs` says so, each of its answers leaves one line on standard error.
-    pub fn new(rt: &'a R, stream: TcpStream, from: SocketAddr, logs: bool) -> RealPeer<'a, R>
+    /// A peer that is handed on now. Where `logs` says so, each of its answers leaves one line on standard error.
+    pub fn new(rt: &'a R, caller: RealCaller, logs: bool) -> RealPeer<'a, R>
         ensures reads { ⟦<RealPeer<'a, R> as Source>⟧.read_faults result ≡ 0 }
         ensures writes { ⟦<RealPeer<'a, R> as Sink>⟧.write_faults result ≡ 0 }
     {
-        // Small answers are sent at once. Where that can't be had they are only later.
-        let _ = stream.set_nodelay(true);
+        // Small answers are sent at once. Where that can't be had they are only later. Where the stream doesn't wait its peer fails.
+        let _ = caller.stream.set_nodelay(true);
+        let _ = caller.stream.set_nonblocking(false);
         RealPeer {
             rt,
-            stream,
-            from,
+            stream: caller.stream,
+            from: caller.from,
             logs,
+            ahead: caller.ahead,
+            taken: 0,
+            is_late: false,
             began: Instant::now(rt).ok(),
             is_idle: false,
             answered: None,
@@ -75,7 +79,59 @@ impl<'a, R: SystemClock + Eprint> RealPeer<'a, R> {
         }
     }
 
-    // How long ago the peer was accepted, or its request began.
+    /// A peer whose time to ask was over before it was handed on: reading from it fails.
+    pub fn late(rt: &'a R, caller: RealCaller, logs: bool) -> RealPeer<'a, R>
+        ensures reads { ⟦<RealPeer<'a, R> as Source>⟧.read_faults result ≡ 0 }
+        ensures writes { ⟦<RealPeer<'a, R> as Sink>⟧.write_faults result ≡ 0 }
+    {
+        RealPeer {
+            rt,
+            stream: caller.stream,
+            from: caller.from,
+            logs,
+            ahead: caller.ahead,
+            taken: 0,
+            is_late: true,
+            began: caller.came,
+            is_idle: false,
+            answered: None,
+            whole: None,
+            noted: caller.noted,
+            reads: 0,
+            writes: 0,
+        }
+    }
+
+    // Takes what came while the peer waited, where some of it is left.
+    fn take_ahead(&mut self, into: &mut [u8]) -> Option<usize>
+        ensures within { IfSome result (λ n. n ≤ length into.old) }
+        ensures buffer { IfNone result (into.new ≡ into.old) }
+        ensures reads { self.new.reads ≡ self.old.reads }
+        ensures writes { self.new.writes ≡ self.old.writes }
+    {
+        let left = self.ahead.get(self.taken..)?;
+        if left.is_empty() {
+            return None;
+        }
+        let n = left.len().min(into.len());
+        into[..n].copy_from_slice(&left[..n]);
+        self.taken = self.taken.saturating_add(n);
+        Some(n)
+    }
+
+    // Notes what was read, with which the next request begins where none had begun.
+    fn note(&mut self, bytes: &[u8])
+        ensures reads { self.new.reads ≡ self.old.reads }
+        ensures writes { self.new.writes ≡ self.old.writes }
+    {
+        if self.is_idle && !bytes.is_empty() {
+            self.is_idle = false;
+            self.began = Instant::now(self.rt).ok();
+        }
+        self.noted.read(bytes);
+    }
+
+    // How long ago the peer was handed on or its request began, or since when it waited where it is late.
     fn spent(&self) -> Duration {
         match self.began {
             Some(began) => began.elapsed(self.rt).unwrap_or(Duration::ZERO),
@@ -84,7 +140,7 @@ impl<'a, R: SystemClock + Eprint> RealPeer<'a, R> {
     }
 
     // Writes the line of an answer: the moment in seconds since 1970, the peer's address, the method and the path, the status, the bytes of
-    // the answer and the milliseconds since the peer was accepted or its request began.
+    // the answer and the milliseconds since the peer was handed on or its request began, or since it came where it is late.
     fn log(&self, spent: Duration) {
         if !self.logs {
             return;
@@ -149,13 +205,20 @@ impl<'a, R: SystemClock + Eprint> Source for RealPeer<'a, R> {
     ghost read_faults = { λ peer. peer.reads };
 
     fn take(&mut self, into: &mut [u8]) -> Result<usize, Failed> {
+        if self.is_late {
+            self.reads = self.reads.saturating_add(1);
+            return Err(Failed);
+        }
         self.go_on();
+        if let Some(n) = self.take_ahead(into) {
+            self.note(into.get(..n).unwrap_or(&[]));
+            return Ok(n);
+        }
         let wait = left(
             self.rt,
             self.began,
-            if self.is_idle { IDLE } else { REQUEST },
+            Duration::from_secs(if self.is_idle { IDLE } else { REQUEST }),
         );
-        let wait = wait.map(|wait| wait.min(Duration::from_secs(SILENCE)));
         match read(&mut self.stream, wait, into) {
             Some(n) => {
                 if self.is_idle && n > 0 {
@@ -187,7 +250,7 @@ impl<'a, R: SystemClock + Eprint> Sink for RealPeer<'a, R> {
         if self.answered.is_none() {
             self.answered = Instant::now(self.rt).ok();
         }
-        let wait = left(self.rt, self.answered, ANSWER);
+        let wait = left(self.rt, self.answered, Duration::from_secs(ANSWER));
         match write(&mut self.stream, wait, piece) {
             Some(n) => {
                 self.noted.given(&piece[..n]);

@@ -9,10 +9,10 @@ use std::time::{Clock as SystemClock, Duration, Instant};
 // How many bytes a reading takes at most.
 const PIECE: usize = 8192;
 
-/// What is left of so many seconds since then. `None` where nothing is left, and where the system's clock failed.
-pub fn left<R: SystemClock>(rt: &R, since: Option<Instant>, seconds: u64) -> Option<Duration> {
+/// What is left of so much time since then. `None` where nothing is left, and where the system's clock failed.
+pub fn left<R: SystemClock>(rt: &R, since: Option<Instant>, time: Duration) -> Option<Duration> {
     let spent = since?.elapsed(rt).ok()?;
-    let left = Duration::from_secs(seconds).checked_sub(spent)?;
+    let left = time.checked_sub(spent)?;
     if left.is_zero() { None } else { Some(left) }
 }
 

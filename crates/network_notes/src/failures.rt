@@ -17,6 +17,8 @@ pub enum Reason {
     Unreachable,
     /// The exchange wasn't done within 10 seconds.
     Silent,
+    /// The time that all exchanges have together was over.
+    Spent,
     /// The other side reset or shut the connection.
     Broken,
     /// Another program listens at the address.

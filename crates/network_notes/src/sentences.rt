@@ -21,6 +21,7 @@ fn failure_sentence(alloc: Global, failure: &Failure) -> Sentence {
         Reason::Unconnected => about.and(b": not connected within 3 seconds"),
         Reason::Unreachable => about.and(b": no way leads there"),
         Reason::Silent => about.and(b": not answered within 10 seconds"),
+        Reason::Spent => about.and(b": the time for all that one call fetches was over"),
         Reason::Broken => about.and(b": the connection was reset"),
         Reason::InUse => about.and(b": in use by another program"),
         Reason::Forbidden if failure.at.port < 1024 => {

@@ -74,6 +74,11 @@ impl Noted {
         self.waiting > 1
     }
 
+    /// Whether a request is there whole that isn't answered, head and body.
+    pub fn is_whole(&self) -> bool {
+        self.waiting > 0
+    }
+
     /// Notes what was read, up to the end of the first line that isn't empty: whoever reads a request passes over those before it. What
     /// stands behind the request is of another.
     pub fn read(&mut self, bytes: &[u8]) {
