@@ -13,11 +13,11 @@ lattices=${*:2}
 rounds=3
 place=$(mktemp -d)
 trap 'rm -rf "$place"' EXIT
-(cd crates/climb_rows && rt run <stdin >"$place/told" 2>"$place/log") || {
+(cd crates/rows_climb && rt run <stdin >"$place/told" 2>"$place/log") || {
     tail -n 5 "$place/log" >&2
     exit 1
 }
-program=crates/climb_rows/out/climb_rows
+program=crates/rows_climb/out/rows_climb
 names=
 
 # named COUNT: sets the names of so many entities

@@ -13,18 +13,18 @@ place=$(mktemp -d)
 trap 'rm -rf "$place"' EXIT
 programs=${2:-$place/programs}
 
-# The program: that of `turn_rows`, whose callers here write nothing down, with a main of its own.
+# The program: that of `rows_turn`, whose callers here write nothing down, with a main of its own.
 lay() {
     mkdir -p "$place/turns/crates"
-    for crate in fed_base turn_log turn_rows; do
+    for crate in fed_base turn_log rows_turn; do
         mkdir "$place/turns/crates/$crate"
         cp -R "crates/$crate/src" "crates/$crate/specs" "crates/$crate/proofs" "$place/turns/crates/$crate/"
     done
     cp HANDLES "$place/turns/"
     # the rows of nine objects aren't timed
-    (cd "$place/turns/crates/turn_rows" && rm -r src/counter.rt src/nine.rt specs/Counts.antt proofs/nine && sed -i '/pub mod Counts/d' specs/Lib.antt)
-    sed -i 's/told.enter(call, reply)?;/let _reply = reply;/' "$place/turns/crates/turn_rows/src/worker.rt"
-    cat >"$place/turns/crates/turn_rows/src/main.rt" <<'PROGRAM'
+    (cd "$place/turns/crates/rows_turn" && rm -r src/counter.rt src/nine.rt specs/Counts.antt proofs/nine && sed -i '/pub mod Counts/d' specs/Lib.antt)
+    sed -i 's/told.enter(call, reply)?;/let _reply = reply;/' "$place/turns/crates/rows_turn/src/worker.rt"
+    cat >"$place/turns/crates/rows_turn/src/main.rt" <<'PROGRAM'
 //! Times calls by threads. Each line of the input is `turn` or `mutex`, how many threads, and how many calls each makes; the program writes the
 //! line and the nanoseconds of a call, in the mean.
 #![tactic(auto)]
@@ -34,7 +34,7 @@ mod team;
 mod worker;
 
 ghost use Rattle.turn_log.specs.Objects.{IsOf};
-ghost use Rattle.turn_rows.specs.Tallies.{TallyStep};
+ghost use Rattle.rows_turn.specs.Tallies.{TallyStep};
 
 use crate::tally::{Call, Tally};
 use crate::team::{open_eight, open_four, open_two, run_eight, run_four, run_two};
@@ -164,7 +164,7 @@ PROGRAM
     cat >"$place/turns/crates.txt" <<'LIST'
 fed_base:
 turn_log: fed_base atomic_table
-turn_rows: fed_base turn_log atomic_table
+rows_turn: fed_base turn_log atomic_table
 LIST
     git init -q "$place/turns"
 }
@@ -173,11 +173,11 @@ mkdir -p "$programs"
 if [ ! -x "$programs/turn_times" ]; then
     lay
     echo "building turn_times" >&2
-    (cd "$place/turns/crates/turn_rows" && rt run </dev/null >"$place/build.log" 2>&1) || {
+    (cd "$place/turns/crates/rows_turn" && rt run </dev/null >"$place/build.log" 2>&1) || {
         tail -n 5 "$place/build.log" >&2
         exit 1
     }
-    cp "$place/turns/crates/turn_rows/out/turn_rows" "$programs/turn_times"
+    cp "$place/turns/crates/rows_turn/out/rows_turn" "$programs/turn_times"
 fi
 
 of_processor() { sed -n "s/^$1[[:space:]]*: //p" /proc/cpuinfo 2>/dev/null | head -n 1; }

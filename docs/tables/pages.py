@@ -1,4 +1,4 @@
-"""The pages of `fed help`, as crates/fed_help writes them, taken apart: from them come the synopsis and the commands of fed(1), the table of
+"""The pages of `fed help`, as crates/cli_help writes them, taken apart: from them come the synopsis and the commands of fed(1), the table of
 README.md, and the head of each command in docs/COMMANDS.md."""
 
 import re
@@ -12,7 +12,7 @@ PLAIN = ("isn't of its form", "is malformed"), ("a command's words", "a command'
 
 
 def text_of(top, name):
-    with open(f"{top}/crates/fed_help/src/{name}.rt", encoding="utf-8") as it:
+    with open(f"{top}/crates/cli_help/src/{name}.rt", encoding="utf-8") as it:
         return it.read()
 
 

@@ -18,7 +18,7 @@ PARTS = ["One call", "Definitions", "What is proved", "What is tested"]
 # network while a link has that, and nothing is done over it
 OTHERS = {"fed": 1, "heeded_reply": 1, "resolve_call": 1, "resolver_service": 2}
 # the crates that make sentences of whatever they are handed, and what they don't stand on, since it opens rings or holds their seeds
-NOTES, SEEDED = {"plain_notes", "statement_notes", "chain_notes", "word_notes", "fed_notes", "resolve_notes"}, {"key_ring", "slh_dsa", "sign_many"}
+NOTES, SEEDED = {"plain_notes", "statement_notes", "chain_notes", "cli_notes", "file_notes", "resolve_notes"}, {"key_ring", "slh_dsa", "sign_many"}
 faults = []
 
 

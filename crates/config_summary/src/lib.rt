@@ -2,7 +2,7 @@
 //!
 //! [`summary`] tells an entity, its keys and their ends, its trust marks, the entities below it, its trust anchors and routes, what it
 //! serves where, and what ends within 30 days (OpenID Federation 1.0 sections 3 and 8). [`first_fault`] finds the first of its trust marks
-//! that is none of its own. `fed_inspect` shows the node of `fed check-config` by them.
+//! that is none of its own. `cli_inspect` shows the node of `fed check-config` by them.
 #![tactic(auto)]
 
 mod ends;

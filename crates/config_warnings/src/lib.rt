@@ -2,7 +2,7 @@
 //!
 //! [`warnings`] lists the members and operators that nobody reads, the policies that refuse every chain, the sets without a key that
 //! verifies anything, the trust anchors without a route, the routes that are never taken, and a signer that has ended (OpenID Federation
-//! 1.0 sections 3, 6 and 9). `config_notes` says them to a person, and `fed_inspect` ends by them where `check-config` is strict.
+//! 1.0 sections 3, 6 and 9). `config_notes` says them to a person, and `cli_inspect` ends by them where `check-config` is strict.
 #![tactic(auto)]
 
 mod all;

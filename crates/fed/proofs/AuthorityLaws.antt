@@ -17,8 +17,8 @@ use Rattle.node_service.specs.Ends.{At, Ends}
 use Rattle.node_files.specs.Orders.{Order}
 use Rattle.std.specs.Prelude.{Bool, List, None, Option}
 use Rattle.resolver_service.specs.Batches.{ServiceViews}
-use Rattle.fed_words.specs.declared.service.Service.{Service}
-use Rattle.fed_words.specs.declared.service.Service.TheVariants.{Authority}
+use Rattle.cli_words.specs.declared.service.Service.{Service}
+use Rattle.cli_words.specs.declared.service.Service.TheVariants.{Authority}
 use Rattle.fed.specs.Authorities.{HasNoNode, Outside, RunsAuthority, WritesLine, input_line}
 use Rattle.fed.specs.Services.{RunsService}
 

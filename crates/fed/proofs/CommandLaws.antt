@@ -1,15 +1,15 @@
 -- What is done where the words ask for no service.
 use Rattle.std.proofs.Common.{◌≡◌, sym, subst}
 use Rattle.std.specs.Prelude.{ℕ, Option, Some, None}
-use Rattle.fed_commands.specs.Runs.{IsRun, World}
-use Rattle.fed_commands.proofs.TopLaws.{run_unread}
-use Rattle.fed_inspect.specs.Inspections.{Inspects}
-use Rattle.fed_inspect.proofs.InspectLaws.{uninspected}
-use Rattle.fed_words.specs.Calls.{command_in, inspection_in}
-use Rattle.fed_words.specs.declared.call.Call.{Call}
-use Rattle.fed_words.specs.declared.call.Call.TheVariants as call
-use Rattle.fed_words.specs.declared.command.Command.{Command}
-use Rattle.fed_words.specs.declared.inspection.Inspection.{Inspection}
+use Rattle.cli_commands.specs.Runs.{IsRun, World}
+use Rattle.cli_commands.proofs.TopLaws.{run_unread}
+use Rattle.cli_inspect.specs.Inspections.{Inspects}
+use Rattle.cli_inspect.proofs.InspectLaws.{uninspected}
+use Rattle.cli_words.specs.Calls.{command_in, inspection_in}
+use Rattle.cli_words.specs.declared.call.Call.{Call}
+use Rattle.cli_words.specs.declared.call.Call.TheVariants as call
+use Rattle.cli_words.specs.declared.command.Command.{Command}
+use Rattle.cli_words.specs.declared.inspection.Inspection.{Inspection}
 use Rattle.fed.specs.Commands.{DoesAs}
 
 module _ {S D C : Type 0} (asked : Call) (before after : World S D C) (status : ℕ) where

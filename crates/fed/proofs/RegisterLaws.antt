@@ -11,7 +11,7 @@ use Rattle.statement_shelf.specs.declared.calls.BookReply.{BookReply}
 use Rattle.client_register.specs.declared.fault.RegisterFault.TheVariants.{Form, Chain, NoType, NoChain, Spent, Fault, Memory}
 use Rattle.client_register.specs.declared.fault.RegisterFault.{RegisterFault}
 use Rattle.client_register.specs.declared.registered.Registered.{Registered}
-use Rattle.fed_words.specs.declared.registration.Registration.{Registration}
+use Rattle.cli_words.specs.declared.registration.Registration.{Registration}
 use Rattle.register_once.specs.declared.stop.RegisterStop.{RegisterStop}
 use Rattle.register_once.specs.declared.stop.RegisterStop.TheVariants as stop
 use Rattle.register_once.specs.Registering.{Wanted}

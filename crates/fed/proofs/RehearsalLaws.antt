@@ -13,8 +13,8 @@ use Rattle.rehearsal.specs.declared.fault.RehearsalFault.TheVariants.{Worn, Memo
 use Rattle.rehearsal.specs.declared.summary.Summary.{Summary}
 use Rattle.rehearsal.specs.Rehearsals.{HoldsWornBy}
 use Rattle.resolver_service.specs.Batches.{ServiceViews}
-use Rattle.fed_words.specs.declared.service.Service.{Service}
-use Rattle.fed_words.specs.declared.service.Service.TheVariants.{Rehearse}
+use Rattle.cli_words.specs.declared.service.Service.{Service}
+use Rattle.cli_words.specs.declared.service.Service.TheVariants.{Rehearse}
 use Rattle.fed.specs.Authorities.{Outside}
 use Rattle.fed.specs.Rehearsals.{IsRehearsedAs, IsToldBy}
 use Rattle.fed.specs.Resolving.{HoldsBy, Written, written_in}

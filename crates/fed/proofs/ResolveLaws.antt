@@ -23,8 +23,8 @@ use Rattle.heeded_reply.specs.declared.reply.Heard.{Heard}
 use Rattle.heeded_reply.specs.Calls.{outcome_of}
 use Rattle.resolve_call.specs.Calls.{HoldsWorn, Question, WornBy}
 use Rattle.resolver_service.specs.Batches.{ServiceViews}
-use Rattle.fed_words.specs.declared.service.Service.{Service}
-use Rattle.fed_words.specs.declared.service.Service.TheVariants.{Authority, Rehearse, Resolve, Resolver}
+use Rattle.cli_words.specs.declared.service.Service.{Service}
+use Rattle.cli_words.specs.declared.service.Service.TheVariants.{Authority, Rehearse, Resolve, Resolver}
 use Rattle.fed.specs.Authorities.{Outside, RunsAuthority, WritesLine}
 use Rattle.rehearsal.specs.declared.fault.RehearsalFault.TheVariants as rehearsal_fault
 use Rattle.fed.specs.Rehearsals.{RunsRehearsal}

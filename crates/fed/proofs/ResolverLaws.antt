@@ -13,8 +13,8 @@ use Rattle.resolver_service.specs.declared.ending.ResolverEnd.{ResolverEnd}
 use Rattle.resolver_service.specs.declared.ending.ResolverEnd.TheVariants as ends
 use Rattle.resolver_service.specs.Batches.{ServiceViews}
 use Rattle.resolver_service.specs.Ends.{At, Ends, EndsBy}
-use Rattle.fed_words.specs.declared.service.Service.{Service}
-use Rattle.fed_words.specs.declared.service.Service.TheVariants.{Resolver}
+use Rattle.cli_words.specs.declared.service.Service.{Service}
+use Rattle.cli_words.specs.declared.service.Service.TheVariants.{Resolver}
 use Rattle.fed.specs.Authorities.{Outside, WritesLine}
 use Rattle.fed.specs.Resolvers.{HasCountedAt, JoinsBy, RunsResolver}
 use Rattle.fed.specs.Services.{RunsService}

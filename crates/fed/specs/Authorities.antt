@@ -3,8 +3,8 @@ use Rattle.std.specs.Prelude.{◌≡◌, ◌⊎◌, ℕ, List, [], ◌∷◌, �
 use Rattle.fed_ports.specs.Bytes.{Appends}
 use Rattle.fed_ports.specs.Exchanges.{Exchange}
 use Rattle.authority_core.specs.Nodes.{Node}
-use Rattle.fed_commands.specs.Answers.{Tells}
-pub use Rattle.fed_inspect.specs.Outputs.{WritesLine}
+use Rattle.cli_commands.specs.Answers.{Tells}
+pub use Rattle.cli_inspect.specs.Outputs.{WritesLine}
 use Rattle.node_service.specs.Connections.{Connection}
 use Rattle.node_service.specs.Ends.{At, HasDropped, HasFailed, HasServed}
 use Rattle.node_files.specs.Orders.{Order}

@@ -1,7 +1,7 @@
 -- What the calls are asked for, as definitions see it.
 use Rattle.fed.specs.declared.ports.Order.{Order}
 use Rattle.fed.specs.declared.resolving.Question.{Question}
-use Rattle.fed_words.specs.declared.registration.Registration.{Registration}
+use Rattle.cli_words.specs.declared.registration.Registration.{Registration}
 use Rattle.node_files.specs.Orders.{Order as Served}
 use Rattle.register_once.specs.Registering.{Wanted}
 use Rattle.resolve_call.specs.Calls.{Question as Asked}

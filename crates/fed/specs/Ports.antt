@@ -1,6 +1,6 @@
 -- What the outside shows at one moment.
 use Rattle.std.specs.Borrow.{MutBor}
-use Rattle.fed_commands.specs.Runs.{Views, World, world}
+use Rattle.cli_commands.specs.Runs.{Views, World, world}
 use Rattle.fed_ports.specs.declared.clock.Clock.{Ghosts as ClockShows}
 use Rattle.fed_ports.specs.declared.network.Network.{Ghosts as NetworkShows}
 use Rattle.fed_ports.specs.declared.sink.Sink.{Ghosts as SinkShows}

@@ -4,7 +4,7 @@ use Rattle.chain_check.specs.declared.verdict.Verdict.TheVariants.{Refused}
 use Rattle.client_register.specs.declared.fault.RegisterFault.{RegisterFault}
 use Rattle.client_register.specs.declared.fault.RegisterFault.TheVariants.{Form, Chain, NoType, NoChain, Spent, Fault, Memory}
 use Rattle.client_register.specs.declared.registered.Registered.{Registered}
-use Rattle.fed_commands.specs.Checks.{lines_of}
+use Rattle.cli_commands.specs.Checks.{lines_of}
 use Rattle.node_files.specs.Moments.{at_moment}
 use Rattle.resolve_call.specs.Ports.{around as around_call}
 use Rattle.register_once.specs.declared.registering.RegisterOutcome.{RegisterOutcome}

@@ -11,8 +11,8 @@ use Rattle.statement_shelf.specs.declared.calls.BookReply.{BookReply}
 use Rattle.node_service.specs.Streams.{IsAnsweredBy}
 use Rattle.resolver_service.specs.Batches.{ServiceViews}
 use Rattle.resolve_call.specs.Calls.{Question}
-use Rattle.fed_words.specs.declared.service.Service.{Service}
-use Rattle.fed_words.specs.declared.service.Service.TheVariants.{Authority, Rehearse, Resolve, Resolver}
+use Rattle.cli_words.specs.declared.service.Service.{Service}
+use Rattle.cli_words.specs.declared.service.Service.TheVariants.{Authority, Rehearse, Resolve, Resolver}
 use Rattle.fed.specs.Authorities.{Outside, RunsAuthority}
 use Rattle.fed.specs.Heeding.{RunsHeed}
 use Rattle.fed.specs.Rehearsals.{RunsRehearsal}

@@ -7,7 +7,7 @@ ghost use Rattle.fed.specs.Ports.{node_views, peer_seen, ports_found, ports_left
 ghost use Rattle.node_service.specs.Streams.{IsAnsweredBy};
 
 use crate::ports::{Order, Ports};
-use fed_inspect::write_line;
+use cli_inspect::write_line;
 use fed_ports::{Clock, Memory, Network, OpensLedgers, Sink, Store, Text};
 use node_service::{ServiceEnd, serve_authority};
 use plain_notes::{Notes, explain_memory};

@@ -9,7 +9,7 @@ ghost use Rattle.fed.specs.Services.{RunsResolving};
 
 use crate::ports::Ports;
 use crate::resolving::{Question, resolve, tell_fault, tell_refusal};
-use fed_inspect::write_line;
+use cli_inspect::write_line;
 use fed_ports::{Clock, Network, OpensLedgers, Sink, Store};
 use fed_resolver::{Outcome, Reply, ResolveRequest};
 use heeded_reply::{Heard, HeededReply, explain_marks, heed_once, reply_lines};

@@ -1,7 +1,7 @@
 //! Layer 7, the program: `fed`, an authority and trust chain resolver of OpenID Federation 1.0.
 //!
 //! [`run`] does what the words ask for, over any source, sink, store, network and clock: a service answers others over the network, a
-//! registration reads an input and asks others, and any other command is done by `fed_commands`. It carries what is proved of the program.
+//! registration reads an input and asks others, and any other command is done by `cli_commands`. It carries what is proved of the program.
 //! [`run_with_notes`] does the same, and hands what a person is to read of it to one more sink.
 //!
 //! `main` makes the real outside, calls [`run_with_notes`], and ends with its status. What a person reads goes to standard error, unless
@@ -13,29 +13,25 @@
 #![tactic(auto)]
 
 mod authority;
-mod build;
 mod heeding;
-mod named_file;
 mod performing;
 mod ports;
-mod reasons;
 mod registering;
 mod rehearsing;
 mod resolver;
 mod resolving;
-mod telling;
 mod top;
 
+use cli_words::{Call, Service, read_call};
 use fed_net::{FETCH_SECONDS, RealNetwork, fetch_seconds};
 use fed_ports::{Memory, RealClock, RealSink, RealSource, Seq, Text, listen_address};
 use fed_store::RealStore;
-use fed_words::{Call, Service, read_call};
 use std::alloc::Global;
 use std::env;
 use std::env::{Env, VarError};
 use std::io::{ErrorKind, IsTerminal};
 use std::process::ExitCode;
-use telling::{
+use system_notes::{
     FAULTY, ended, tell_of_address, tell_of_fetch_time, tell_of_node, tell_of_waiting, with_build,
     with_ring,
 };

@@ -1,8 +1,8 @@
 // What the words ask for, done.
 
 ghost use Rattle.std.specs.Prelude.{◌≡◌, IfSome, None};
-ghost use Rattle.fed_commands.specs.Runs.{views};
-ghost use Rattle.fed_words.specs.Calls.{command_of, inspection_of, registration_of, service_of};
+ghost use Rattle.cli_commands.specs.Runs.{views};
+ghost use Rattle.cli_words.specs.Calls.{command_of, inspection_of, registration_of, service_of};
 ghost use Rattle.fed.specs.Commands.{DoesAs};
 ghost use Rattle.fed.specs.Orders.{wanted_of};
 ghost use Rattle.fed.specs.Ports.{all_views, node_views, ports_found, ports_left, with_input, world_found, world_left};
@@ -17,16 +17,16 @@ use crate::registering::register;
 use crate::rehearsing::rehearse;
 use crate::resolver::serve_as_resolver;
 use crate::resolving::Question;
-use fed_commands::perform_command;
-use fed_inspect::inspect;
+use cli_commands::perform_command;
+use cli_inspect::inspect;
+use cli_notes::explain_command;
+use cli_words::{Call, Service, read_call};
 use fed_ports::{Clock, Network, OpensLedgers, Seq, Sink, Source, Store, Text};
 use fed_resolver::ResolveRequest;
-use fed_words::{Call, Service, read_call};
 use plain_notes::{Notes, explain_memory};
 use std::alloc::Global;
 use std::sync::Wait;
 use std::thread::Threads;
-use word_notes::explain_command;
 
 /// Does what the words ask for, adds what a person is to read of it to the notes, and gives the exit status.
 pub(crate) fn perform<

@@ -3,7 +3,7 @@
 ghost use Rattle.std.specs.Prelude.{◌≡◌, IfErr, IfOk, IfSome, None};
 ghost use Rattle.chain_check.specs.Verdicts.{CanBeWritten};
 ghost use Rattle.client_register.specs.Answers.{CanBeTold};
-ghost use Rattle.fed_commands.specs.Checks.{lines_of};
+ghost use Rattle.cli_commands.specs.Checks.{lines_of};
 ghost use Rattle.register_once.specs.Registering.{HasCountedAll};
 ghost use Rattle.fed.specs.Orders.{wanted_of};
 ghost use Rattle.fed.specs.Ports.{node_views, ports_found, ports_left, with_input, written_to};
@@ -12,11 +12,11 @@ ghost use Rattle.fed.specs.Resolving.{HoldsBy, line_of};
 
 use crate::ports::Ports;
 use chain_check::Verdict;
+use cli_commands::verdict_lines;
+use cli_inspect::write_line;
+use cli_words::Registration;
 use client_register::{RegisterFault, Registered};
-use fed_commands::verdict_lines;
-use fed_inspect::write_line;
 use fed_ports::{Clock, Network, OpensLedgers, Sink, Source, Store};
-use fed_words::Registration;
 use plain_notes::{Notes, explain_memory};
 use register_once::{RegisterOrder, RegisterOutcome, RegisterStop, register_once};
 use statement_shelf::FedPass;

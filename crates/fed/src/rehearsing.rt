@@ -5,7 +5,7 @@ ghost use Rattle.fed.specs.Ports.{written_to};
 ghost use Rattle.fed.specs.Rehearsals.{IsSummaryTold, IsRehearsedAs};
 ghost use Rattle.fed.specs.Resolving.{HoldsBy};
 
-use fed_inspect::write_line;
+use cli_inspect::write_line;
 use fed_ports::{OpensLedgers, Sink};
 use plain_notes::{Notes, explain_memory, explain_worn};
 use rehearsal::{RehearsalFault, Summary};

@@ -10,7 +10,7 @@ ghost use Rattle.resolver_service.specs.declared.ending.ResolverEnd.TheVariants 
 
 use crate::authority::served_line;
 use crate::ports::{Order, Passes, Ports};
-use fed_inspect::write_line;
+use cli_inspect::write_line;
 use fed_ports::{Clock, Network, OpensLedgers, Sink, Store};
 use plain_notes::{Notes, explain_memory, explain_worn};
 use resolver_service::{ResolverEnd, serve_resolver};

@@ -6,7 +6,7 @@ ghost use Rattle.fed.specs.Ports.{node_views, ports_found, ports_left, written_t
 ghost use Rattle.fed.specs.Resolving.{HoldsBy, IsReplyTold, IsTold, IsToldBy, RunsResolve};
 
 use crate::ports::Ports;
-use fed_inspect::write_line;
+use cli_inspect::write_line;
 use fed_ports::{Clock, Network, OpensLedgers, Sink, Store, Text};
 use fed_resolver::{Outcome, Refusal, Reply, ResolveRequest};
 use node_files::NodeFault;

@@ -1,9 +1,9 @@
 // The top calls.
 
 ghost use Rattle.std.specs.Prelude.{◌≡◌, IfSome, None};
-ghost use Rattle.fed_commands.specs.Noted.{HandsNotes};
-ghost use Rattle.fed_commands.specs.Runs.{views, world};
-ghost use Rattle.fed_words.specs.Calls.{command_of, inspection_of, registration_of, service_of};
+ghost use Rattle.cli_commands.specs.Noted.{HandsNotes};
+ghost use Rattle.cli_commands.specs.Runs.{views, world};
+ghost use Rattle.cli_words.specs.Calls.{command_of, inspection_of, registration_of, service_of};
 ghost use Rattle.fed.specs.Commands.{DoesAs};
 ghost use Rattle.fed.specs.Orders.{wanted_of};
 ghost use Rattle.fed.specs.Ports.{all_views, node_seen, node_views, with_input};
@@ -13,7 +13,7 @@ ghost use Rattle.fed.specs.Services.{RunsService};
 
 use crate::performing::perform;
 use crate::ports::{Passes, Ports};
-use fed_commands::hand_notes;
+use cli_commands::hand_notes;
 use fed_ports::{Clock, Network, OpensLedgers, Seq, Sink, Source, Store, Text};
 use plain_notes::Notes;
 use statement_shelf::FedPass;
@@ -24,8 +24,8 @@ use std::thread::Threads;
 /// Does all that the program does, and answers its exit status.
 ///
 /// The words are those after the program's name. Where they ask for a service, others are answered over the network, and for `resolve`
-/// others are asked; `rehearse` does both in memory. What is only to be shown is shown by [`fed_inspect::inspect`], and any other command
-/// is done by [`fed_commands::perform_command`]; these have their statuses.
+/// others are asked; `rehearse` does both in memory. What is only to be shown is shown by [`cli_inspect::inspect`], and any other command
+/// is done by [`cli_commands::perform_command`]; these have their statuses.
 ///
 /// | Status | A service ends so | Written |
 /// |---|---|---|

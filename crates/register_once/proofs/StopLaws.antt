@@ -1,9 +1,9 @@
 -- The counts of faults, by why what was posted isn't looked at.
 use Rattle.std.proofs.Common.{◌≡◌, ℕ, Err, sym, subst}
 use Rattle.fed_base.specs.Counts.{Rose}
-use Rattle.fed_commands.specs.Answers.{StopsAs}
-use Rattle.fed_commands.specs.declared.answer.Stop.{Stop}
-use Rattle.fed_commands.specs.declared.answer.Stop.TheVariants.{Source, Store, Memory}
+use Rattle.cli_commands.specs.Answers.{StopsAs}
+use Rattle.cli_commands.specs.declared.answer.Stop.{Stop}
+use Rattle.cli_commands.specs.declared.answer.Stop.TheVariants.{Source, Store, Memory}
 use Rattle.register_once.specs.Registering.{CountsSource, CountsStore}
 use Rattle.register_once.specs.Stops.{of_input}
 

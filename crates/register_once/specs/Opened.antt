@@ -13,7 +13,7 @@ use Rattle.client_register.specs.declared.posted.Posted.TheVariants.{Configurati
 use Rattle.client_register.specs.Answers.{Registers}
 use Rattle.client_register.specs.Registrations.{registrar, request}
 use Rattle.client_register.specs.Requests.{IsPosted, posted_in}
-use Rattle.fed_commands.specs.Answers.{IsTextRead}
+use Rattle.cli_commands.specs.Answers.{IsTextRead}
 use Rattle.node_files.specs.NodeFiles.{IsNodeOf, IsResolver}
 use Rattle.node_files.specs.ResolvingParts.{ArePartsOf, booked_keys}
 use Rattle.node_files.specs.declared.fault.NodeFault.{NodeFault}

@@ -26,7 +26,7 @@ use Rattle.resolve_round.specs.declared.request.ResolveRequest.{ResolveRequest}
 use Rattle.resolve_round.specs.Acts.{HasCounted}
 use Rattle.fed_resolver.specs.declared.outcome.Outcome.{Outcome}
 use Rattle.fed_resolver.specs.declared.outcome.Refusal.{Refusal}
-use Rattle.fed_commands.specs.Answers.{IsTextRead}
+use Rattle.cli_commands.specs.Answers.{IsTextRead}
 use Rattle.node_files.specs.Moments.{NodeAt}
 use Rattle.node_files.specs.NodeFiles.{IsNodeOf, IsResolver}
 use Rattle.node_files.specs.ResolvingParts.{configured_keys}

@@ -1,6 +1,6 @@
 -- Why what was posted isn't looked at, by what failed before it.
-use Rattle.fed_commands.specs.declared.answer.Stop.{Stop}
-use Rattle.fed_commands.specs.declared.answer.Stop.TheVariants as input
+use Rattle.cli_commands.specs.declared.answer.Stop.{Stop}
+use Rattle.cli_commands.specs.declared.answer.Stop.TheVariants as input
 use Rattle.node_files.specs.declared.fault.NodeFault.{NodeFault}
 use Rattle.node_files.specs.declared.fault.NodeFault.TheVariants as node
 use Rattle.register_once.specs.declared.stop.RegisterStop.{RegisterStop}

@@ -6,7 +6,7 @@ use client_register::{Found, RegisterFault, Registered};
 use entity_statement::{SignedStatement, Statement};
 use fed_base::{Duplicate, Seq, Text};
 use fed_json::{copied_texts, read_tree};
-use fed_notes::explain_unless_list;
+use file_notes::explain_unless_list;
 use plain_notes::{Notes, Sentence};
 use statement_notes::explain_text;
 use std::alloc::Global;

@@ -12,11 +12,11 @@ ghost use Rattle.register_once.specs.Registering.{CountsSource, CountsStore, IsS
 use crate::notes::explain_no_anchor;
 use crate::order::RegisterOrder;
 use crate::stop::RegisterStop;
+use cli_commands::read_text;
 use entity_id::EntityId;
 use fed_base::{Duplicate, Memory, Text};
-use fed_commands::read_text;
-use fed_notes::explain_long_input;
 use fed_ports::{Source, Store};
+use file_notes::explain_long_input;
 use jwk_set::JwkSet;
 use node_files::{NodeFault, Parts, open_resolver, parts_of};
 use plain_notes::Notes;

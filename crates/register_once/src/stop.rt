@@ -2,8 +2,8 @@
 
 ghost use Rattle.std.specs.Prelude.{◌≡◌};
 
+use cli_commands::Stop;
 use fed_base::Memory;
-use fed_commands::Stop;
 use node_files::NodeFault;
 
 /// Why what was posted isn't looked at.

@@ -2,7 +2,7 @@
 //!
 //! The calls `explain_..` find the fault again in what their caller has at hand, and say it in [`Notes`](plain_notes::Notes);
 //! [`warn_of_statement`] says what looks wrong in claims that are accepted. None of them can fail: where memory is wanting, less is said.
-//! `fed_notes` says by them what is wrong with files and with standard input, and `chain_notes` what is wrong with the texts of a chain.
+//! `file_notes` says by them what is wrong with files and with standard input, and `chain_notes` what is wrong with the texts of a chain.
 #![tactic(auto)]
 
 mod claims;

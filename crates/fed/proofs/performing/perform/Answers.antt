@@ -1,6 +1,6 @@
 use Rattle.std.proofs.Common.{rules, ◌≡◌, ◌∙◌, Some, ap, refl, sym, arith, lit<}
-use Rattle.fed_words.specs.Calls.{call_of, command_of, inspection_of, registration_at, registration_of, service_in, service_of}
-use Rattle.fed_words.specs.declared.call.Call.TheVariants as call
+use Rattle.cli_words.specs.Calls.{call_of, command_of, inspection_of, registration_at, registration_of, service_in, service_of}
+use Rattle.cli_words.specs.declared.call.Call.TheVariants as call
 use Rattle.fed.proofs.CommandLaws.{does-done, does-nothing, does-shown}
 use Rattle.fed.proofs.RegisterLaws.{unread_registration}
 use Rattle.fed.proofs.ResolveLaws.{holds-none, small-other, unread_words}

@@ -1,5 +1,0 @@
-use Rattle.climb_rows.proofs.FollowingLaws.{begun-follows}
-use Rattle.climb_rows.proofs.rows.searched.Goals as goal
-
-pub driven-told-requires : goal.driven-told-requires
-driven-told-requires c = begun-follows _ _ _ c.args.bounds c.args.case.now.calls c.in_ok-session.ensures c.requires

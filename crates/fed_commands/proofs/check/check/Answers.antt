@@ -1,5 +1,0 @@
-use Rattle.std.proofs.Common.{rules}
-use Rattle.fed_commands.proofs.check.check.Goals as goal
-
-pub returns-clause-checked : goal.returns-clause-checked
-returns-clause-checked g c = search rules

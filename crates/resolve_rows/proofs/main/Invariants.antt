@@ -1,5 +1,0 @@
-use Rattle.statement_shelf.specs.Passes.{IsPassOfAll}
-use Rattle.resolve_rows.proofs.main.Given as goal
-
-abbrev pub invariant-loop-line : goal.invariant-loop-line
-invariant-loop-line g l = IsPassOfAll l.commons l.pass

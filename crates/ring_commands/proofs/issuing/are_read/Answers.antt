@@ -1,5 +1,0 @@
-use Rattle.std.proofs.Common.{rules}
-use Rattle.ring_commands.proofs.issuing.are_read.Goals as goal
-
-pub returns-in-Mark : goal.returns-in-Mark
-returns-in-Mark c = search rules

@@ -1,6 +1,0 @@
-use Rattle.turn_log.specs.Groups.{AreOf}
-use Rattle.turn_rows.specs.Counts.{CountStep, none_counted}
-use Rattle.turn_rows.proofs.nine.call_each.Given as goal
-
-abbrev pub invariant-loop-at : goal.invariant-loop-at
-invariant-loop-at g l = AreOf CountStep none_counted CountStep l.nine l.pass
