@@ -56,8 +56,26 @@ def started(command, config, *sentences):
         with connected(running, port):
             pass
         out, err = running.communicate(timeout=PATIENCE)
-        lines = said("n.json", sentences[:-1]) + f"fed: {sentences[-1].replace('PORT', str(port))}\n"
+        begun = sentences[-1].replace("PORT", str(port))
+        lines = said("n.json", sentences[:-1]) + f"fed: {begun}\nfed: {begun.split(' ')[0]} ends after 1 connection, as many as --connections says\n"
         compare(f"{command} starts", (running.returncode, out.decode(), err.decode()), (0, "served 1\n", lines))
+
+
+def ended(config, count):
+    """How a node ends: behind all its connections, with output that can't be written, quietly, and by a port where it never listened."""
+    written("n.json", config)
+    served = f"fed: {TA} ends after {count} connections, as many as --connections says\n"
+    full = f"fed: standard output can't be written to its end; is the disk full, or the reader gone?\n{served}"
+    for row, output, more, status, lines in [("all", None, {}, 0, served), ("quiet", None, {"FED_QUIET": "1"}, 0, ""), ("full", "/dev/full", {}, 4, full)]:
+        port = free_port()
+        words = [FED, "authority", "--config", "n.json", "--port", str(port), "--connections", str(count)]
+        out = open(output or os.devnull, "wb")
+        with out, subprocess.Popen(words, stdout=out, stderr=subprocess.PIPE, env={**ENVIRONMENT, "FED_LOG": "off", **more}) as running:
+            for _ in range(count):
+                with connected(running, port):
+                    pass
+            err = running.communicate(timeout=PATIENCE)[1].decode()
+            compare(f"{row} end", (running.returncode, "".join(line for line in err.splitlines(True) if " starts on " not in line)), (status, lines))
 
 
 def changed(config, path, value):
@@ -173,6 +191,7 @@ def main():
         started("authority", {**config, "subordinate": [], "subordinates": []}, unknown("subordinate", "subordinates"),
                 f"{TA} starts on 127.0.0.1:PORT, 0 subordinates, {signs}")
         started("resolver", resolver, f"https://op.example starts on 127.0.0.1:PORT, 0 subordinates, 1 trust anchor, {signs}")
+        ended(config, 3)
         os.chdir(TOP)
     return ROWS.end()
 

@@ -8,8 +8,9 @@ ghost use Rattle.authority_core.specs.Configurations.{node_in};
 ghost use Rattle.node_files.specs.NodeFiles.{Answers, Counts, IsAuthorityAlone, IsNodeFor, IsNodeOf, IsReadAs, IsResolver, IsRingFor, IsRingOf, fault_of};
 
 use crate::fault::NodeFault;
-use crate::notes::{explain_member, explain_no_json, explain_no_resolver, explain_resolver};
+use crate::notes::{explain_no_resolver, explain_resolver, explain_text};
 use authority_core::Registry;
+use config_faults::{explain_config, explain_length};
 use fed_json::{Json, TreeFault, object_members, read_tree, text_at};
 use fed_ports::{Memory, Store, StoreFault, Text};
 use file_notes::{explain_absent_file, explain_long_file, explain_ring_file};
@@ -62,7 +63,7 @@ fn read_config(
     match read_tree(alloc, bytes.as_slice()) {
         Ok(tree) => Ok(tree),
         Err(TreeFault::Syntax) => {
-            explain_no_json(alloc, name, notes);
+            explain_text(alloc, name, bytes.as_slice(), notes);
             Err(NodeFault::Input)
         }
         Err(TreeFault::Memory) => Err(NodeFault::Memory),
@@ -147,14 +148,16 @@ fn ring_for<D: Store>(
     }
 }
 
-// Says which member is the first that isn't of its form.
-fn explain_config(alloc: Global, name: &Text, config: &Json, notes: &mut Notes)
+// Says why there is no node: the first member that isn't of its form, or what the node would state at too great a length.
+fn explain_refusal(alloc: Global, name: &Text, config: &Json, member: &Text, notes: &mut Notes)
     requires { IsWellFormed config.now }
 {
     match NodeConfig::read(alloc, config) {
-        Ok(read) => drop(read),
-        Err(ConfigFault::Shape(member)) => explain_member(alloc, name, &member, notes),
-        Err(ConfigFault::Memory) => {}
+        Ok(read) => {
+            drop(read);
+            explain_length(alloc, name, config, member, notes);
+        }
+        Err(_) => explain_config(alloc, name, config, notes),
     }
 }
 
@@ -173,7 +176,7 @@ fn registry(
     match Registry::read(alloc, config, ring) {
         Ok(registry) => Ok(registry),
         Err(ConfigFault::Shape(member)) => {
-            explain_member(alloc, name, &member, notes);
+            explain_refusal(alloc, name, config, &member, notes);
             Err(NodeFault::Input)
         }
         Err(ConfigFault::Memory) => Err(NodeFault::Memory),

@@ -24,15 +24,24 @@ pub struct Start<'a> {
 }
 
 /// Says what is warned of the node of the configuration file, and then who starts where, what it knows, and by which key it signs until
-/// when. Where the file or the ring that it names isn't of its form nothing is said.
-pub fn tell_of_start<D: Store>(alloc: Global, start: &Start, store: &mut D, notes: &mut Notes) {
+/// when, and gives the node's identifier. Where the file or the ring that it names isn't of its form nothing is said.
+pub fn tell_of_start<D: Store>(
+    alloc: Global,
+    start: &Start,
+    store: &mut D,
+    notes: &mut Notes,
+) -> Option<Text> {
     let Ok(Some(text)) = store.load(alloc, start.config) else {
-        return;
+        return None;
     };
-    if let Ok(tree) = read_tree(alloc, text.as_slice()) {
-        let source = ConfigText { text, tree };
-        tell_of_node(alloc, start, &source, store, notes);
-        drop(source);
+    match read_tree(alloc, text.as_slice()) {
+        Ok(tree) => {
+            let source = ConfigText { text, tree };
+            let node = tell_of_node(alloc, start, &source, store, notes);
+            drop(source);
+            node
+        }
+        Err(_) => None,
     }
 }
 
@@ -42,18 +51,23 @@ fn tell_of_node<D: Store>(
     source: &ConfigText,
     store: &mut D,
     notes: &mut Notes,
-)
+) -> Option<Text>
     requires { IsWellFormed source.now.tree }
 {
     let Ok(config) = NodeConfig::read(alloc, &source.tree) else {
-        return;
+        return None;
     };
-    if let Some(keys) = keys_of(alloc, &config.ring, store) {
-        warn_of_node(alloc, start, source, &config, keys.as_slice(), notes);
-        notes.say(started(alloc, start, &config, keys.as_slice()));
-        drop(keys);
-    }
+    let node = match keys_of(alloc, &config.ring, store) {
+        Some(keys) => {
+            warn_of_node(alloc, start, source, &config, keys.as_slice(), notes);
+            notes.say(started(alloc, start, &config, keys.as_slice()));
+            drop(keys);
+            Text::of(alloc, config.id.text()).ok()
+        }
+        None => None,
+    };
     drop(config);
+    node
 }
 
 // The keys of the ring's file of that name.

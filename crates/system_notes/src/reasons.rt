@@ -16,6 +16,11 @@ const ROOM: usize = 8192;
 pub(crate) fn explain_listen<R: Env + AllocGlobal>(rt: &R, alloc: Global, notes: &mut Notes) {
     let about = Sentence::of(alloc, b"FED_LISTEN");
     let about = match env::var(rt, "FED_LISTEN") {
+        Ok(value) if value.as_str() == "socket" => {
+            about.and(
+                b"=socket wants a socket of IPv4 on standard input, as systemd hands one over",
+            )
+        }
         Ok(value) => {
             let is_long = value.as_bytes().contains(&b':');
             let about = about

@@ -1,6 +1,7 @@
 // What is said to a person beside the notes of a call: what starts, what is waited for, and what the system tells of files and the network.
 
 use crate::build::{is_version, tell_of_build};
+use crate::ending::{Started, explain_end};
 use crate::named_file::{explain_fault, is_open_file, value_of, warn_of_open, warn_of_open_file};
 use crate::reasons::{explain_fetch_time, explain_listen, explain_unkept, explain_untold};
 use cli_notes::{explain_waiting, page_meant};
@@ -12,6 +13,7 @@ use node_start::{Start, ring_name, tell_of_start};
 use plain_notes::{Notes, explain_sink};
 use std::alloc::Global;
 use std::env::Env;
+use std::fs::File;
 use std::io::Eprint;
 use std::rt::Files;
 use std::str;
@@ -57,52 +59,94 @@ pub fn tell_of_fetch_time<R: Env + AllocGlobal + Eprint>(rt: &R, alloc: Global) 
     tell(rt, &notes);
 }
 
-// The file of the node's configuration, and the port, where the words ask for a service that listens.
-fn listening(alloc: Global, words: &[Text]) -> Option<(Text, u16)> {
+// What the words ask for, where that is a service that listens.
+#[derive(Drop)]
+struct Asked {
+    // The file of the node's configuration.
+    config: Text,
+    port: u16,
+    connections: u64,
+}
+
+fn listening(alloc: Global, words: &[Text]) -> Option<Asked> {
     match read_call(alloc, words) {
         Ok(
             Call::Service(
                 Service::Authority {
                     config_file,
                     port,
+                    connections,
                     ..
                 }
                 | Service::Resolver {
                     config_file,
                     port,
+                    connections,
                     ..
                 },
             ),
-        ) => Some((config_file, port)),
+        ) => Some(Asked {
+            config: config_file,
+            port,
+            connections,
+        }),
         _ => None,
     }
 }
 
-/// Says what a node that starts is, and what looks wrong in its configuration.
-pub fn tell_of_node<R: Files + Eprint + SystemClock + AllocGlobal + Sync>(
+/// Says what a node that starts is, and what looks wrong in its configuration, and gives the node that starts.
+pub fn tell_of_node<R: Files<File = File> + Eprint + SystemClock + AllocGlobal + Sync>(
     rt: &R,
     alloc: Global,
     words: &[Text],
     ip: [u8; 4],
-) {
-    let Some((config, port)) = listening(alloc, words) else {
-        return;
-    };
+) -> Option<Started> {
+    let asked = listening(alloc, words)?;
     let mut notes = Notes::new(alloc, None);
     let mut store = RealStore::new(rt);
     let mut clock = RealClock::new(rt);
+    let address = Address {
+        ip,
+        port: asked.port,
+    };
     let start = Start {
-        config: &config,
-        address: Address { ip, port },
+        config: &asked.config,
+        address,
         moment: clock.now(),
     };
-    tell_of_start(alloc, &start, &mut store, &mut notes);
-    if let Some(ring) = ring_name(alloc, &config, &mut store) {
+    let node = tell_of_start(alloc, &start, &mut store, &mut notes);
+    if let Some(ring) = ring_name(alloc, &asked.config, &mut store) {
         warn_of_open(rt, alloc, &ring, &mut notes);
         drop(ring);
     }
     tell(rt, &notes);
-    drop(config);
+    started(node, address, asked.connections)
+}
+
+fn started(node: Option<Text>, address: Address, connections: u64) -> Option<Started> {
+    match node {
+        Some(id) => Some(Started {
+            id,
+            address,
+            connections,
+        }),
+        None => None,
+    }
+}
+
+// Says why a node that started ends.
+fn tell_of_end<R: Eprint>(
+    rt: &R,
+    alloc: Global,
+    node: &Option<Started>,
+    failures: &Failures,
+    status: u8,
+) {
+    if let Some(node) = node {
+        let mut notes = Notes::new(alloc, None);
+        explain_end(alloc, node, failures, status, &mut notes);
+        tell(rt, &notes);
+    }
 }
 
 // Writes the page for which words that give no command ask all the same.
@@ -145,7 +189,7 @@ fn keeps(words: &[Text]) -> bool {
 }
 
 // The name of the ring of the configuration that the words check, and whether what is warned of is refused.
-fn checked_ring<R: Files + Eprint + AllocGlobal>(
+fn checked_ring<R: Files<File = File> + Eprint + AllocGlobal>(
     rt: &R,
     alloc: Global,
     words: &[Text],
@@ -170,7 +214,7 @@ fn checked_ring<R: Files + Eprint + AllocGlobal>(
 }
 
 /// The status of a check that was passed: 1 where it is strict, and others than its owner can read the ring.
-pub fn with_ring<R: Files + Eprint + AllocGlobal>(
+pub fn with_ring<R: Files<File = File> + Eprint + AllocGlobal>(
     rt: &R,
     alloc: Global,
     words: &[Text],
@@ -187,7 +231,7 @@ pub fn with_ring<R: Files + Eprint + AllocGlobal>(
 }
 
 // Warns of the ring of the configuration that the words check, where others than its owner can read it.
-fn warn_of_checked_ring<R: Files + Eprint + AllocGlobal>(
+fn warn_of_checked_ring<R: Files<File = File> + Eprint + AllocGlobal>(
     rt: &R,
     alloc: Global,
     words: &[Text],
@@ -200,7 +244,7 @@ fn warn_of_checked_ring<R: Files + Eprint + AllocGlobal>(
 }
 
 // Says what the system tells of the file that the words name.
-fn tell_of_file<R: Files + AllocGlobal + Eprint>(
+fn tell_of_file<R: Files<File = File> + AllocGlobal + Eprint>(
     rt: &R,
     alloc: Global,
     words: &[Text],
@@ -232,18 +276,20 @@ pub fn with_build<R: Files, K: Sink>(rt: &R, words: &[Text], out: &mut K, status
     }
 }
 
-/// Says what the system tells of files and of the network, writes what was asked for otherwise than by a command and what the program was
-/// built from, and gives the status.
-pub fn ended<R: Files + AllocGlobal + Eprint, K: Sink>(
+/// Says what the system tells of files and of the network, and why the node that started ends, where one did; writes what was asked for
+/// otherwise than by a command and what the program was built from, and gives the status.
+pub fn ended<R: Files<File = File> + AllocGlobal + Eprint, K: Sink>(
     rt: &R,
     alloc: Global,
     words: &[Text],
+    node: &Option<Started>,
     failures: &Failures,
     out: &mut K,
     status: u8,
 ) -> u8 {
     tell_of_file(rt, alloc, words, status);
     tell_of_network(rt, alloc, failures);
+    tell_of_end(rt, alloc, node, failures, status);
     if status == FAULTY {
         tell_of_page(rt, alloc, words);
     }
