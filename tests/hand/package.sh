@@ -34,7 +34,7 @@ chroot "$2/merged" sh -c '
     dpkg --force-depends -i /tmp/fed.deb >/dev/null 2>&1 && echo installed
     /usr/bin/fed --version | head -n 1
     stat -c "%a %U" /var/lib/fed
-    ls /lib/systemd/system/fed-*.service
+    ls /lib/systemd/system/fed-*
     grep -hc "^ExecStart.*=/usr/bin/fed " /lib/systemd/system/fed-*.service
     dpkg -L fed | while read -r name; do [ -d "$name" ] || echo "$name"; done >/tmp/files
     dpkg -r fed >/dev/null 2>&1 && echo removed
@@ -45,7 +45,9 @@ tell "installed, run and removed" "$(cat "$place/said")" "installed
 $(./fed --version | head -n 1)
 700 fed
 /lib/systemd/system/fed-authority@.service
+/lib/systemd/system/fed-authority@.socket
 /lib/systemd/system/fed-resolver@.service
+/lib/systemd/system/fed-resolver@.socket
 2
 2
 removed

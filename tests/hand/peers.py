@@ -9,6 +9,7 @@ Each row starts a program of its own over `fed_net::RealNetwork`, as a server on
 It prints what differs, and fails where anything does.
 """
 
+import json
 import os
 import re
 import shutil
@@ -28,14 +29,15 @@ if {"-h", "--help"} & set(sys.argv[1:]):
     sys.exit(print(__doc__))
 
 HEAD = b"GET /path?sub=https://rp.example HTTP/1.1\r\nHost: a\r\n\r\n"
-LINE = r"\d{10,} 127\.0\.0\.1:\d+ %s \d+\n"
+MOMENT = r"\d{4}-\d\d-\d\dT\d\d:\d\d:\d\d\.\d{3}Z"
+LINE = MOMENT + r" 127\.0\.0\.1:\d+ %s \d+\n"
 
 PROGRAM = r'''//! Serves callers over TCP, or asks an address. The line of the input is `serve PORT CALLERS PIECES` or `ask PORT`.
 #![tactic(auto)]
 
 ghost use Rattle.std.specs.Prelude.{◌≡◌, ◌<◌, is_some, length, true};
 
-use fed_net::RealNetwork;
+use fed_net::{Log, RealNetwork};
 use fed_ports::{Address, Network, Peer, listen_address};
 use std::env;
 use std::io;
@@ -129,30 +131,34 @@ fn port(word: &str) -> u16 {
     word.parse::<u16>().unwrap_or(0)
 }
 
-fn run(rt: &HostRuntime, ip: [u8; 4], logs: bool) -> io::Result<()> {
+fn run(rt: &HostRuntime, ip: [u8; 4], log: Log) -> io::Result<()> {
     for line in rt.lines(rt.alloc()) {
         let line = line?;
         let (word, rest) = line.as_str().split_once(' ').unwrap_or(("", ""));
         let (first, rest) = rest.split_once(' ').unwrap_or((rest, ""));
         let (callers, pieces) = rest.split_once(' ').unwrap_or(("", ""));
         if word == "serve" {
-            let mut net = RealNetwork::new(rt, rt.alloc(), ip, logs);
+            let mut net = RealNetwork::new(rt, rt.alloc(), ip, log);
             if net.listen(port(first)).is_err() {
                 return println!(rt; "no port");
             }
             println!(rt; "listens")?;
             serve_all(rt, &mut net, number(callers), number(pieces))?;
         } else {
-            ask(rt, &mut RealNetwork::new(rt, rt.alloc(), ip, logs), port(first))?;
+            ask(rt, &mut RealNetwork::new(rt, rt.alloc(), ip, log), port(first))?;
         }
     }
     Ok(())
 }
 
 fn main(rt: HostRuntime) -> io::Result<ExitCode> {
-    let logs = match env::var(&rt, "FED_LOG") {
-        Ok(word) => word.as_str() != "off",
-        Err(_) => true,
+    let log = match env::var(&rt, "FED_LOG") {
+        Ok(word) => match word.as_str() {
+            "off" => Log::Off,
+            "json" => Log::Json,
+            _ => Log::Lines,
+        },
+        Err(_) => Log::Lines,
     };
     let ip = match env::var(&rt, "FED_LISTEN") {
         Ok(word) => listen_address(word.as_bytes()),
@@ -162,7 +168,7 @@ fn main(rt: HostRuntime) -> io::Result<ExitCode> {
         eprintln!(rt; "FED_LISTEN isn't an IPv4 address")?;
         return Ok(ExitCode::from(2));
     };
-    run(&rt, ip, logs)?;
+    run(&rt, ip, log)?;
     Ok(ExitCode::from(0))
 }
 '''
@@ -234,6 +240,37 @@ def quiet():
     server = Server(1, FED_LOG="off")
     server.ask()
     server.ends("no log", ["served"], "")
+
+
+def objects():
+    """The log in JSON, with a dash as `null` and what stands there as it was sent."""
+    server = Server(2, FED_LOG="json")
+    server.ask(b"GET /a\"b\\c\x07?sub=https://rp.example HTTP/1.1\r\nHost: a\r\n\r\n")
+    with server.call() as peer:
+        peer.shutdown(socket.SHUT_WR)
+        peer.recv(1)
+    _, err = server.program.communicate(timeout=60)
+    lines = [json.loads(line) for line in err.decode().splitlines()]
+    tell(f"objects: {err!r}", all(re.fullmatch(MOMENT, it.pop("time")) and it.pop("peer").startswith("127.0.0.1:") and it.pop("ms") < 60000 for it in lines))
+    wanted = [{"method": "GET", "path": '/a"b\\c*', "status": 200, "bytes": 4096}, {"method": None, "path": None, "status": None, "bytes": 0}]
+    tell(f"objects: {lines}", lines == wanted)
+
+
+def resolving():
+    """Of what resolves, the entity that was asked for."""
+    for form, told in (("sub=https%3A%2F%2Frp.example&trust_anchor=x", "https://rp.example"), ("trust_anchor=x&sub=https://a/%22%5c%0a+b", "https://a/****b"),
+                       ("sub=%4", "%4"), ("trust_anchor=x", "-")):
+        server = Server(1)
+        server.ask(f"GET /fed/resolve?{form} HTTP/1.1\r\nHost: a\r\n\r\n".encode())
+        server.ends(f"resolving {form}", ["served"], MOMENT + r" 127\.0\.0\.1:\d+ GET /fed/resolve 200 4096 \d+ " + re.escape(told) + "\n")
+
+
+def own_time():
+    """The milliseconds of an answer are its own, however late its caller is settled."""
+    server = Server(1)
+    server.ask()
+    _, err = server.program.communicate(timeout=60)
+    tell(f"its own time: {err!r}", int(err.split()[-1]) < 1000)
 
 
 def silent():
@@ -372,7 +409,7 @@ def full_queue():
 
 folder = sys.argv[1] if len(sys.argv) > 1 else tempfile.mkdtemp()
 program = laid.built(folder, "peers", PROGRAM, ["fed_base", "fed_ports", "utc_dates", "plain_notes", "network_notes", "waiting_callers", "fed_net"], PROOFS)
-rows = [ordinary, control_bytes, quiet, silent, slow, behind_others, in_their_order, not_taking, reset, listens_elsewhere, client, full_queue]
+rows = [ordinary, control_bytes, quiet, objects, resolving, own_time, silent, slow, behind_others, in_their_order, not_taking, reset, listens_elsewhere, client, full_queue]
 status = laid.tried("peers", rows)
 if len(sys.argv) < 2:
     shutil.rmtree(folder)

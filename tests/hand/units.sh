@@ -31,8 +31,9 @@ for name in fed renew.sh; do
     printf '#!/bin/sh\n' >"/usr/local/bin/$name"
     chmod 755 "/usr/local/bin/$name"
 done
-cp examples/*.service examples/*.timer /etc/systemd/system/
-systemd-analyze verify --man=no fed-authority@8300.service fed-resolver@8310.service fed-renew.service fed-renew.timer
+cp examples/*.service examples/*.socket examples/*.timer /etc/systemd/system/
+systemd-analyze verify --man=no fed-authority@8300.socket fed-authority@8300.service fed-resolver@8310.socket fed-resolver@8310.service \
+    fed-renew.service fed-renew.timer
 END
     ) || true
     tell "the units, as systemd reads them" "$said" ""

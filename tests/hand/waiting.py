@@ -3,11 +3,12 @@
 
     behind 50 callers that are silent and 10 that send a byte now and then, at an authority and at a resolver of four workers
     behind a question for an entity whose 31 hints lead to one silent host, at the same process and at another one
-    while two processes of one node come to the end of their connections, one behind the other, and are started again a second later
+    while a node comes to the ends of its connections and is started again a second later, on a socket that stays open as examples/*.socket have it
 
-and how much memory 256 waiting callers take. The two processes stand behind nginx as examples/nginx.conf has it, or, where nginx is missing, behind
-a relay that asks the other one where a connection is refused. Prints each figure beside its bound, and fails where one is over it."""
+and how much memory 256 waiting callers take. What is waited is the time up to the answer without what the answer itself took, by the node's log:
+a machine with other work signs slowly. Prints each figure beside its bound, and fails where one is over it."""
 
+import json
 import os
 import shutil
 import socket
@@ -23,12 +24,10 @@ if {"-h", "--help"} & set(sys.argv[1:]):
 
 sys.path.insert(0, f"{os.path.dirname(os.path.dirname(os.path.abspath(__file__)))}/lib")
 import laid  # noqa: E402
-import resolving  # noqa: E402
 from laid import Host, free_port  # noqa: E402
 from resolving import FED, KEYS, RESOLVER, RP, TA, USUAL, Web, own, page_of, place, sealed, written  # noqa: E402
 
 SILENT, DRIPPING, HINTS, PLACES = 50, 10, 31, 256
-NGINX = shutil.which("nginx", path=os.environ.get("PATH", "") + ":/usr/sbin:/usr/local/sbin")
 LIST = b"GET /list HTTP/1.1\r\nHost: ta.example\r\nConnection: close\r\n\r\n"
 
 
@@ -45,7 +44,9 @@ class Process:
     def __init__(self, command, config, port=None, connections=1_000_000):
         self.port = port or free_port()
         words = [FED, command, "--config", config, "--port", str(self.port), "--connections", str(connections)]
-        self.running = subprocess.Popen(words, cwd=place, stdout=subprocess.DEVNULL, stderr=subprocess.DEVNULL)
+        self.log = f"{place}/log-{self.port}"
+        with open(self.log, "wb") as log:
+            self.running = subprocess.Popen(words, cwd=place, stdout=subprocess.DEVNULL, stderr=log, env={**os.environ, "FED_LOG": "json"})
         laid.started.append(self.running)
 
     def __enter__(self):
@@ -64,24 +65,44 @@ class Process:
             self.running.terminate()
         self.running.wait()
 
+    def took(self):
+        """How many seconds each answer took itself, by the port of its caller, as far as its line is written."""
+        with open(self.log, encoding="ascii") as log:
+            lines = [json.loads(line) for line in log if line.startswith("{") and line.endswith("\n")]
+        return {int(line["peer"].rpartition(":")[2]): line["ms"] / 1000 for line in lines if line["status"] is not None}
+
+    def waits(self, answers):
+        """How long each of these callers waited. The lines of a batch come once it is over."""
+        end = time.monotonic() + 60
+        while not {it.port for it in answers} <= self.took().keys() and time.monotonic() < end:
+            time.sleep(0.2)
+        took = self.took()
+        return [it.seconds - took[it.port] for it in answers]
+
     def memory(self):
         """Its resident memory, in MB."""
         with open(f"/proc/{self.running.pid}/status", encoding="ascii") as it:
             return int(next(line for line in it if line.startswith("VmRSS")).split()[1]) / 1024
 
 
-def asked(port, request, patience=120):
-    """How many seconds it takes until the whole answer is there, and its status."""
-    began = time.monotonic()
-    with socket.create_connection(("127.0.0.1", port), timeout=patience) as it:
-        it.sendall(request)
-        got = b""
-        while piece := it.recv(65536):
-            got += piece
-            head, stop, body = got.partition(b"\r\n\r\n")
-            if stop and len(body) >= int(head.lower().partition(b"content-length: ")[2].partition(b"\r")[0] or 0):
-                break
-    return time.monotonic() - began, int(got[9:12] or 0)
+class Asked:
+    """One request: how many seconds it took until the whole answer was there, its status, and the port of the caller."""
+
+    def __init__(self, port, request, patience=120):
+        began = time.monotonic()
+        with socket.create_connection(("127.0.0.1", port), timeout=patience) as it:
+            self.port = it.getsockname()[1]
+            it.sendall(request)
+            got = b""
+            while piece := it.recv(65536):
+                got += piece
+                head, stop, body = got.partition(b"\r\n\r\n")
+                if stop and len(body) >= int(head.lower().partition(b"content-length: ")[2].partition(b"\r")[0] or 0):
+                    break
+        self.seconds, self.status = time.monotonic() - began, int(got[9:12] or 0)
+
+    def __repr__(self):
+        return f"{self.status} in {self.seconds:.2f} s"
 
 
 def question(subject):
@@ -148,16 +169,16 @@ def resolver_over(web, silent):
     routes = [{"host": host, "ip": "127.0.0.1", "port": web.port} for host in sorted({*hosts, "leaf.example"})]
     routes += [{"host": "silent.example", "ip": "127.0.0.1", "port": silent.port}]
     return {"entity_id": RESOLVER, "ring": "resolver.ring", "lifetime": 3600,
-            "resolver": {"anchors": [{"entity_id": TA, "jwks": {"keys": [KEYS[TA]]}}], "routes": routes, "workers": 4}}
+            "resolver": {"anchors": [{"entity_id": TA, "jwks": {"keys": [KEYS[TA]]}}], "routes": routes, "age": 3600, "workers": 4,
+                         "control": {"keys": []}}}
 
 
 def behind_a_crowd(what, process, request):
-    asked(process.port, request)                            # what is looked up for the first time isn't what is tried
-    alone = min(asked(process.port, request)[0] for _ in range(3))
     with Crowd(process.port, SILENT, DRIPPING):
-        spent = [asked(process.port, request) for _ in range(20)]
-    laid.tell(f"{what}: {spent}", all(status == 200 for _, status in spent))
-    figure(f"{what}, behind {SILENT} silent and {DRIPPING} dripping callers a good one waits", max(it for it, _ in spent) - alone, 0.2, "s")
+        answers = [Asked(process.port, request) for _ in range(21)]
+        waits = process.waits(answers)
+    laid.tell(f"{what}: {answers}", all(it.status == 200 for it in answers))
+    figure(f"{what}, behind {SILENT} silent and {DRIPPING} dripping callers a good one waits", max(waits), 0.2, "s")
 
 
 def memory_of(what, process):
@@ -167,93 +188,78 @@ def memory_of(what, process):
 
 
 def silent_hints(first, second):
-    leaf = question("https://leaf.example")
-    slow = threading.Thread(target=lambda: [asked(first.port, leaf) for _ in range(1)], daemon=True)
-    slow.start()
+    """One asks for the leaf, and four others behind it for an entity that is known: three beside it in its batch, and one in the next."""
+    slow, others, elsewhere = [], [], []
+
+    def asks(answers, process, subject):
+        answers.append(Asked(process.port, question(subject)))
+
+    def begun(*given):
+        thread = threading.Thread(target=asks, args=given, daemon=True)
+        thread.start()
+        return thread
+
+    threads = [begun(slow, first, "https://leaf.example")]
     time.sleep(0.5)
-    spent = []
-    askers = [threading.Thread(target=lambda: spent.append(asked(first.port, question(RP))), daemon=True) for _ in range(4)]
-    for asker in askers:
-        asker.start()
-    elsewhere, status = asked(second.port, question(RP))
-    for asker in askers:
-        asker.join()
-    slow.join()
-    laid.tell(f"behind silent hints: {spent} {status}", all(it == 200 for _, it in spent) and status == 200)
-    figure(f"{HINTS} hints to a silent host hold the next callers of the same process", max(it for it, _ in spent), 31, "s")
-    figure("and one of another process", elsewhere, 2, "s")
+    threads += [begun(others, first, RP) for _ in range(4)] + [begun(elsewhere, second, RP)]
+    for thread in threads:
+        thread.join()
+    statuses = [it.status for it in slow + others + elsewhere]
+    laid.tell(f"behind silent hints: {slow} {others} {elsewhere}", statuses == [503, 200, 200, 200, 200, 200])
+    with Crowd(first.port, 4, 0), Crowd(second.port, 4, 0):             # they fill the last batch, whose lines come then
+        figure(f"{HINTS} hints to a silent host hold the next callers of the same process", max(first.waits(others)), 31, "s")
+        figure("and one of another process", max(second.waits(elsewhere)), 0.5, "s")
 
 
 # ---- the end of connections
 
-def kept_running(ports, over):
-    """Two processes of one node that come to their ends at different times, each started again a second later, as systemd does."""
-    def keep(port, connections):
-        while not over.is_set():
-            process = Process("authority", "ta.json", port, connections)
-            while process.running.poll() is None and not over.wait(0.01):
-                pass
-            if process.running.poll() is None:
-                process.running.terminate()
-            process.running.wait()
-            over.wait(1)
-    return [threading.Thread(target=keep, args=(port, connections), daemon=True) for port, connections in zip(ports, (90, 70))]
-
-
-def relayed(ports):
-    """Hands what is asked on to one of the two, and to the other where that one refuses the connection."""
-    turn = [0]
-
-    def serve(_, peer, given):
-        turn[0] += 1
-        for port in (ports[turn[0] % 2], ports[(turn[0] + 1) % 2]):
-            try:
-                with socket.create_connection(("127.0.0.1", port), timeout=60) as other:
-                    other.sendall(given)
-                    while more := other.recv(65536):
-                        peer.sendall(more)
-                return
-            except ConnectionRefusedError:
-                pass
-    return Host(serve)
-
-
-def nginx_before(ports):
-    front = free_port()
-    with open(f"{place}/front.conf", "w", encoding="utf-8") as it:
-        it.write(f"""worker_processes 1; daemon off; pid {place}/front.pid; error_log {place}/front.errors;
-            events {{ worker_connections 256; }}
-            http {{ access_log off; upstream authority {{ {' '.join(f'server 127.0.0.1:{port} max_fails=1 fail_timeout=1s;' for port in ports)} }}
-            server {{ listen 127.0.0.1:{front}; location / {{ proxy_pass http://authority; proxy_set_header Connection close;
-            proxy_next_upstream error timeout http_502 http_503 non_idempotent; }} }} }}""")
-    running = subprocess.Popen([NGINX, "-p", place, "-e", f"{place}/front.errors", "-c", f"{place}/front.conf"], stderr=subprocess.DEVNULL)
-    laid.started.append(running)
-    return front
+def kept_running(listener, connections, over, ends):
+    """A node of so many connections on a socket that stays open, started again a second after each end, as systemd does."""
+    words = [FED, "authority", "--config", "ta.json", "--port", str(listener.getsockname()[1]), "--connections", str(connections)]
+    while not over.is_set():
+        running = subprocess.Popen(words, cwd=place, env={**os.environ, "FED_LISTEN": "socket"}, stdin=listener, stdout=subprocess.DEVNULL,
+                                   stderr=subprocess.DEVNULL)
+        laid.started.append(running)
+        while running.poll() is None and not over.wait(0.01):
+            pass
+        if running.poll() is None:
+            running.terminate()
+        elif running.returncode == 0:
+            ends.append(time.monotonic())
+        running.wait()
+        over.wait(1)
 
 
 def ends():
-    ports, over = [free_port(), free_port()], threading.Event()
-    keepers = kept_running(ports, over)
-    for keeper in keepers:
+    over, came_to_end, refused, spent = threading.Event(), [], [], []
+    with socket.create_server(("127.0.0.1", free_port()), backlog=4096) as listener:
+        port = listener.getsockname()[1]
+        keeper = threading.Thread(target=kept_running, args=(listener, 60, over, came_to_end), daemon=True)
         keeper.start()
-    time.sleep(3)
-    host = None if NGINX else relayed(ports)
-    front = nginx_before(ports) if NGINX else host.port
-    time.sleep(1)
-    refused, end, number = 0, time.monotonic() + 20, 0
-    while time.monotonic() < end:
-        number += 1
-        try:
-            refused += asked(front, LIST)[1] != 200
-        except OSError:
-            refused += 1
-        time.sleep(0.02)
-    over.set()
-    for keeper in keepers:
+        end = time.monotonic() + 30
+
+        def call():
+            while time.monotonic() < end:
+                try:
+                    answer = Asked(port, LIST, 20)
+                    spent.append(answer.seconds)
+                    if answer.status != 200:
+                        refused.append(answer.status)
+                except OSError as error:
+                    refused.append(error)
+                time.sleep(0.02)
+
+        callers = [threading.Thread(target=call, daemon=True) for _ in range(4)]
+        for caller in callers:
+            caller.start()
+        for caller in callers:
+            caller.join()
+        over.set()
         keeper.join()
-    if host:
-        host.__exit__()
-    figure(f"of {number} callers while processes end at their connections, refused behind {'nginx' if NGINX else 'a relay'}", refused, 0, "callers")
+    laid.tell(f"the node came to {len(came_to_end)} ends of its connections", len(came_to_end) >= 5)
+    laid.tell(f"refused: {refused[:5]}", not refused)
+    figure(f"of {len(spent)} callers over {len(came_to_end)} ends of a node, refused or cut off", len(refused), 0, "callers")
+    figure("and the one who waited longest", max(spent, default=99), 5, "s")
 
 
 def main():
@@ -266,7 +272,7 @@ def main():
             behind_a_crowd("an authority", authority, LIST)
             memory_of("an authority", authority)
         with Process("resolver", "resolver.json") as first, Process("resolver", "resolver.json") as second:
-            asked(second.port, question(RP))
+            Asked(second.port, question(RP))
             behind_a_crowd("a resolver", first, question(RP))
             memory_of("a resolver", first)
             silent_hints(first, second)

@@ -44,7 +44,7 @@ ghost use Rattle.std.proofs.Common.{refl};
 ghost use Rattle.http_plain.specs.Responses.{HasReason};
 
 use fed_base::{Duplicate, Failed, Memory, Seq, Text};
-use fed_net::{MemoryNetwork, RealNetwork};
+use fed_net::{Log, MemoryNetwork, RealNetwork};
 use fed_ports::{Address, Link, LinkFault, MemorySink, Network, Page, Peer, Sink, Source};
 use http_plain::{
     HttpLink, Incoming, Media, Method, ReadEnd, Request, Response, Route, read_request,
@@ -423,12 +423,12 @@ fn count(rt: &HostRuntime, read: Result<u64, Memory>) -> io::Result<()> {
     }
 }
 
-fn row(rt: &HostRuntime, logs: bool, line: &str) -> io::Result<()> {
+fn row(rt: &HostRuntime, log: Log, line: &str) -> io::Result<()> {
     let (word, rest) = cut(line);
     let (first, rest) = cut(rest);
     let (second, third) = cut(rest);
     let alloc = rt.alloc();
-    let mut net = RealNetwork::new(rt, rt.alloc(), [127, 0, 0, 1], logs);
+    let mut net = RealNetwork::new(rt, rt.alloc(), [127, 0, 0, 1], log);
     match word {
         "serve" | "stream" => {
             let Ok(page) = filled(alloc, number(third)) else {
@@ -457,13 +457,13 @@ fn row(rt: &HostRuntime, logs: bool, line: &str) -> io::Result<()> {
 }
 
 fn main(rt: HostRuntime) -> io::Result<()> {
-    let logs = match env::var(&rt, "FED_LOG") {
-        Ok(word) => word.as_str() != "off",
-        Err(_) => true,
+    let log = match env::var(&rt, "FED_LOG") {
+        Ok(word) if word.as_str() == "off" => Log::Off,
+        _ => Log::Lines,
     };
     for line in rt.lines(rt.alloc()) {
         let line = line?;
-        row(&rt, logs, line.as_str())?;
+        row(&rt, log, line.as_str())?;
     }
     Ok(())
 }
@@ -534,7 +534,7 @@ class Served:
         """The program waits for no more callers, answered all and noted them so."""
         out, err = self.program.communicate(timeout=MOST)
         tell(f"{what}: wrote {out!r}, status {self.program.returncode}", out == b"" and self.program.returncode == 0)
-        found = [re.sub(r"^\d{10,} 127\.0\.0\.1:\d+ (.*) \d+$", r"\1", line) for line in err.decode().split("\n")[:-1]]
+        found = [re.sub(r"^[\dT:.Z-]+ 127\.0\.0\.1:\d+ (.*) \d+$", r"\1", line) for line in err.decode().split("\n")[:-1]]
         wanted = [re.sub(" (OK|Bad Request) ", " ", it) for it in self.noted]
         tell(f"{what}: the log is {found}, not {wanted}", found == wanted)
 

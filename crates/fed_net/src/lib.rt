@@ -5,7 +5,6 @@
 //! calls ends within the time that the crate's page gives for it.
 #![tactic(auto)]
 
-mod fetch_time;
 mod memory_connection;
 mod memory_connections;
 mod memory_link;
@@ -22,5 +21,6 @@ pub use memory_link::MemoryLink;
 pub use memory_network::MemoryNetwork;
 pub use memory_peer::MemoryPeer;
 pub use named_page::NamedPage;
-pub use real_network::RealNetwork;
+pub use real_network::{RealNetwork, handed_over};
 pub use real_peer::RealPeer;
+pub use waiting_callers::Log;

@@ -6,7 +6,7 @@ use std::io::{Eprint, ErrorKind};
 use std::net::{OpenListener, SocketAddr, TcpListener, TcpStream};
 use std::thread;
 use std::time::{Clock as SystemClock, Duration, Instant};
-use waiting_callers::{RealCaller, Waiting};
+use waiting_callers::{Log, RealCaller, Waiting};
 
 // How many connections are accepted, and how many that were gone before they were accepted are passed over, between two looks.
 const TRIES: u32 = 1024;
@@ -91,7 +91,7 @@ impl RealCallers {
     pub fn next<'a, R: SystemClock + Eprint>(
         &mut self,
         rt: &'a R,
-        logs: bool,
+        log: Log,
     ) -> Option<RealPeer<'a, R>> {
         let mut pause = FIRST_PAUSE;
         for _ in 0..u64::MAX {
@@ -99,10 +99,10 @@ impl RealCallers {
             let now = self.moment(rt);
             self.waiting.look(now);
             if let Some(waiter) = self.waiting.hand_on() {
-                return Some(RealPeer::new(rt, waiter.caller, logs));
+                return Some(RealPeer::new(rt, waiter.caller, log));
             }
             if let Some(waiter) = self.waiting.let_go(now) {
-                return Some(RealPeer::late(rt, waiter.caller, logs));
+                return Some(RealPeer::late(rt, waiter.caller, log));
             }
             if !self.waiting.is_empty() {
                 thread::sleep(rt, Duration::from_micros(pause));

@@ -2,16 +2,18 @@
 
 ghost use Rattle.std.specs.Prelude.{◌≡◌, ◌≤◌, true, None, is_some, option_map, length, IfSome, IfNone};
 
-use crate::fetch_time::{FETCH_SECONDS, FetchTime};
 use crate::real_callers::RealCallers;
 use crate::real_peer::RealPeer;
 use crate::timed::{read, write};
 use fed_base::{Failed, Memory};
 use fed_ports::{Address, Network};
+use fetch_time::{FETCH_SECONDS, FetchTime};
 use network_notes::{Failures, Reason};
 use std::alloc::Global;
 use std::net::{Ipv4Addr, Net, SocketAddr, SocketAddrV4, TcpListener, TcpStream};
+use std::os::fd::AsFd;
 use std::time::{Clock as SystemClock, Duration};
+use waiting_callers::Log;
 
 // In how many seconds a connection has to be opened.
 const CONNECT: u64 = 3;
@@ -26,10 +28,11 @@ pub struct RealNetwork<
     rt: &'a R,
     alloc: Global,
     ip: [u8; 4],
-    logs: bool,
+    log: Log,
     time: FetchTime,
     stream: Option<TcpStream>,
     to: Option<Address>,
+    handed: Option<TcpListener>,
     callers: Option<RealCallers>,
     port: u16,
     faults: u64,
@@ -40,19 +43,20 @@ impl<
     'a,
     R: Net<Listener = TcpListener, Stream = TcpStream> + SystemClock + Eprint + Sync,
 > RealNetwork<'a, R> {
-    /// A network of which no call was made. It listens on the IPv4 address of these four numbers. Where `logs` says so, each answer
-    /// of a peer leaves one line on standard error, and so does a peer that is settled without one.
-    pub fn new(rt: &'a R, alloc: Global, ip: [u8; 4], logs: bool) -> RealNetwork<'a, R>
+    /// A network of which no call was made. It listens on the IPv4 address of these four numbers. Each answer of a peer leaves such a line
+    /// on standard error, and so does a peer that is settled without one.
+    pub fn new(rt: &'a R, alloc: Global, ip: [u8; 4], log: Log) -> RealNetwork<'a, R>
         ensures { ⟦<RealNetwork<'a, R> as Network>⟧.faults result ≡ 0 }
     {
         RealNetwork {
             rt,
             alloc,
             ip,
-            logs,
+            log,
             time: FetchTime::of_seconds(FETCH_SECONDS),
             stream: None,
             to: None,
+            handed: None,
             callers: None,
             port: 0,
             faults: 0,
@@ -89,6 +93,37 @@ impl<
     {
         self.time = FetchTime::of_seconds(seconds);
     }
+
+    /// Sets the socket on which it listens, in the place of one of its own: whoever has it open keeps those that call, whether the program
+    /// runs or not.
+    pub fn set_listener(&mut self, listener: TcpListener)
+        ensures faults { ⟦<RealNetwork<'a, R> as Network>⟧.faults self.new ≡ ⟦<RealNetwork<'a, R> as Network>⟧.faults self.old }
+        ensures port { ⟦<RealNetwork<'a, R> as Network>⟧.port self.new ≡ ⟦<RealNetwork<'a, R> as Network>⟧.port self.old }
+    {
+        self.handed = Some(listener);
+    }
+}
+
+// A listener at that port: on the socket that was handed over, where one was, and else on one of its own at that address.
+fn listener<R: Net<Listener = TcpListener, Stream = TcpStream>>(
+    rt: &R,
+    handed: Option<TcpListener>,
+    ip: [u8; 4],
+    to: u16,
+) -> Result<TcpListener, Reason> {
+    match handed {
+        Some(listener) => {
+            if port_of(&listener) == Some(to) {
+                Ok(listener)
+            } else {
+                Err(Reason::Elsewhere)
+            }
+        }
+        None => match rt.bind(socket_address(ip, to)) {
+            Ok(listener) => Ok(listener),
+            Err(error) => Err(Reason::of(error.kind())),
+        },
+    }
 }
 
 // A connection to that address, opened in that time and in no more than there is for it.
@@ -110,6 +145,23 @@ fn connected<R: Net<Stream = TcpStream>>(
             Reason::Unconnected if left < most => Reason::Spent,
             reason => reason,
         }),
+    }
+}
+
+// The port at which a socket of IPv4 listens.
+fn port_of(listener: &TcpListener) -> Option<u16> {
+    match listener.local_addr() {
+        Ok(SocketAddr::V4(at)) => Some(at.port()),
+        _ => None,
+    }
+}
+
+/// The socket that the input is, and its address, where it is one of IPv4: `systemd` hands one over so (`StandardInput=socket`).
+pub fn handed_over<F: AsFd>(input: &F) -> Option<(TcpListener, [u8; 4])> {
+    let listener = TcpListener::from(input.as_fd().try_clone_to_owned().ok()?);
+    match listener.local_addr() {
+        Ok(SocketAddr::V4(at)) => Some((listener, at.ip().octets())),
+        _ => None,
     }
 }
 
@@ -185,18 +237,18 @@ impl<'a, R: Net<Listener = TcpListener, Stream = TcpStream> + SystemClock + Epri
     }
 
     fn listen(&mut self, to: u16) -> Result<(), Failed> {
-        match self.rt.bind(socket_address(self.ip, to)) {
+        match listener(self.rt, self.handed.take(), self.ip, to) {
             Ok(listener) => {
                 self.callers = Some(RealCallers::new(self.rt, self.alloc, listener));
                 self.port = to;
                 Ok(())
             }
-            Err(error) => {
+            Err(reason) => {
                 let at = Address {
                     ip: self.ip,
                     port: to,
                 };
-                self.failures.add(at, Reason::of(error.kind()));
+                self.failures.add(at, reason);
                 self.faults = self.faults.saturating_add(1);
                 Err(Failed)
             }
@@ -207,7 +259,7 @@ impl<'a, R: Net<Listener = TcpListener, Stream = TcpStream> + SystemClock + Epri
         let Some(callers) = &mut self.callers else {
             unreachable!()
         };
-        match callers.next(self.rt, self.logs) {
+        match callers.next(self.rt, self.log) {
             Some(peer) => Ok(peer),
             None => {
                 self.faults = self.faults.saturating_add(1);
@@ -226,10 +278,11 @@ impl<'a, R: Net<Listener = TcpListener, Stream = TcpStream> + SystemClock + Epri
             rt: self.rt,
             alloc,
             ip: self.ip,
-            logs: self.logs,
+            log: self.log,
             time: self.time.anew(),
             stream: None,
             to: None,
+            handed: None,
             callers: None,
             port: 0,
             faults: 0,

@@ -3,13 +3,14 @@
 ghost use Rattle.std.specs.Prelude.{◌≡◌, ◌≤◌, None, length, IfSome, IfNone};
 ghost use Rattle.std.proofs.Common.{refl};
 
-use crate::timed::{left, read, write};
+use crate::timed::{read, write};
 use fed_base::Failed;
 use fed_ports::{Peer, Sink, Source};
+use fetch_time::left;
 use std::io::Read;
 use std::net::{Shutdown, SocketAddr, TcpStream};
-use std::time::{Clock as SystemClock, Duration, Instant, SystemTime, UNIX_EPOCH};
-use waiting_callers::{Noted, RealCaller};
+use std::time::{Clock as SystemClock, Duration, Instant};
+use waiting_callers::{Log, LogLine, Noted, NotedAnswer, RealCaller};
 
 // In how many seconds a peer has to send the rest of its request, from when it was handed on, or from the first byte of a later one.
 const REQUEST: u64 = 5;
@@ -39,7 +40,7 @@ pub struct RealPeer<'a, R: SystemClock + Eprint> {
     rt: &'a R,
     stream: TcpStream,
     from: SocketAddr,
-    logs: bool,
+    log: Log,
     ahead: Vec<u8>,
     taken: usize,
     is_late: bool,
@@ -47,14 +48,16 @@ pub struct RealPeer<'a, R: SystemClock + Eprint> {
     is_idle: bool,
     answered: Option<Instant>,
     whole: Option<Whole>,
+    is_last: bool,
     noted: Noted,
+    answer: NotedAnswer,
     reads: u64,
     writes: u64,
 }
 
 impl<'a, R: SystemClock + Eprint> RealPeer<'a, R> {
-    /// A peer that is handed on now. Where `logs` says so, each of its answers leaves one line on standard error.
-    pub fn new(rt: &'a R, caller: RealCaller, logs: bool) -> RealPeer<'a, R>
+    /// A peer that is handed on now. Each of its answers leaves such a line on standard error.
+    pub fn new(rt: &'a R, caller: RealCaller, log: Log) -> RealPeer<'a, R>
         ensures reads { ⟦<RealPeer<'a, R> as Source>⟧.read_faults result ≡ 0 }
         ensures writes { ⟦<RealPeer<'a, R> as Sink>⟧.write_faults result ≡ 0 }
     {
@@ -65,7 +68,7 @@ impl<'a, R: SystemClock + Eprint> RealPeer<'a, R> {
             rt,
             stream: caller.stream,
             from: caller.from,
-            logs,
+            log,
             ahead: caller.ahead,
             taken: 0,
             is_late: false,
@@ -73,14 +76,16 @@ impl<'a, R: SystemClock + Eprint> RealPeer<'a, R> {
             is_idle: false,
             answered: None,
             whole: None,
+            is_last: false,
             noted: Noted::new(),
+            answer: NotedAnswer::new(),
             reads: 0,
             writes: 0,
         }
     }
 
     /// A peer whose time to ask was over before it was handed on: reading from it fails.
-    pub fn late(rt: &'a R, caller: RealCaller, logs: bool) -> RealPeer<'a, R>
+    pub fn late(rt: &'a R, caller: RealCaller, log: Log) -> RealPeer<'a, R>
         ensures reads { ⟦<RealPeer<'a, R> as Source>⟧.read_faults result ≡ 0 }
         ensures writes { ⟦<RealPeer<'a, R> as Sink>⟧.write_faults result ≡ 0 }
     {
@@ -88,7 +93,7 @@ impl<'a, R: SystemClock + Eprint> RealPeer<'a, R> {
             rt,
             stream: caller.stream,
             from: caller.from,
-            logs,
+            log,
             ahead: caller.ahead,
             taken: 0,
             is_late: true,
@@ -96,7 +101,9 @@ impl<'a, R: SystemClock + Eprint> RealPeer<'a, R> {
             is_idle: false,
             answered: None,
             whole: None,
+            is_last: false,
             noted: caller.noted,
+            answer: NotedAnswer::new(),
             reads: 0,
             writes: 0,
         }
@@ -139,25 +146,15 @@ impl<'a, R: SystemClock + Eprint> RealPeer<'a, R> {
         }
     }
 
-    // Writes the line of an answer: the moment in seconds since 1970, the peer's address, the method and the path, the status, the bytes of
-    // the answer and the milliseconds since the peer was handed on or its request began, or since it came where it is late.
-    fn log(&self, spent: Duration) {
-        if !self.logs {
-            return;
-        }
-        let now = match SystemTime::now(self.rt) {
-            Ok(now) => now
-                .duration_since(UNIX_EPOCH)
-                .map_or(0, |since| since.as_secs()),
-            Err(_) => 0,
+    // Writes the line of an answer that took that time, or of a peer that was given none.
+    fn tell(&self, spent: Duration) {
+        let line = LogLine {
+            from: self.from,
+            request: &self.noted,
+            answer: &self.answer,
+            spent,
         };
-        let (method, path) = self.noted.request();
-        let status = self.noted.status();
-        let bytes = self.noted.bytes();
-        let from = self.from;
-        let millis = spent.as_millis();
-        // Nothing is left to be done where standard error can't be written.
-        let _ = eprintln!(self.rt; "{now} {from} {method} {path} {status} {bytes} {millis}");
+        line.write(self.rt, self.log);
     }
 
     // Begins anew behind an answer that is over and wasn't the last: it leaves its line, and the next request is waited for.
@@ -168,8 +165,12 @@ impl<'a, R: SystemClock + Eprint> RealPeer<'a, R> {
         let Some(whole) = self.whole else {
             return;
         };
-        self.log(whole.spent);
+        if self.is_last {
+            return;
+        }
+        self.tell(whole.spent);
         self.noted.next();
+        self.answer = NotedAnswer::new();
         self.is_idle = !self.noted.has_begun();
         self.began = whole.at;
         self.answered = None;
@@ -180,7 +181,12 @@ impl<'a, R: SystemClock + Eprint> RealPeer<'a, R> {
     /// is taken away, so that the peer still gets the end of its answer.
     pub fn close(self) {
         if !self.is_idle {
-            self.log(self.spent());
+            let whole = self.whole;
+            let spent = match whole {
+                Some(whole) => whole.spent,
+                None => self.spent(),
+            };
+            self.tell(spent);
         }
         let mut stream = self.stream;
         let _ = stream.shutdown(Shutdown::Write);
@@ -253,7 +259,7 @@ impl<'a, R: SystemClock + Eprint> Sink for RealPeer<'a, R> {
         let wait = left(self.rt, self.answered, Duration::from_secs(ANSWER));
         match write(&mut self.stream, wait, piece) {
             Some(n) => {
-                self.noted.given(&piece[..n]);
+                self.answer.give(&piece[..n]);
                 self.whole = if n == piece.len() {
                     Some(Whole {
                         at: Instant::now(self.rt).ok(),
@@ -272,7 +278,7 @@ impl<'a, R: SystemClock + Eprint> Sink for RealPeer<'a, R> {
     }
 
     fn end(&mut self) {
-        self.whole = None;
+        self.is_last = true;
         // Where it can't be shut now the peer gets its end when it is settled.
         let _ = self.stream.shutdown(Shutdown::Write);
     }

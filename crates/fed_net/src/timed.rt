@@ -4,17 +4,10 @@ ghost use Rattle.std.specs.Prelude.{◌≡◌, ◌≤◌, length, IfSome, IfNone
 
 use std::io::{Read, Write};
 use std::net::TcpStream;
-use std::time::{Clock as SystemClock, Duration, Instant};
+use std::time::Duration;
 
 // How many bytes a reading takes at most.
 const PIECE: usize = 8192;
-
-/// What is left of so much time since then. `None` where nothing is left, and where the system's clock failed.
-pub fn left<R: SystemClock>(rt: &R, since: Option<Instant>, time: Duration) -> Option<Duration> {
-    let spent = since?.elapsed(rt).ok()?;
-    let left = time.checked_sub(spent)?;
-    if left.is_zero() { None } else { Some(left) }
-}
 
 /// Reads what comes in that time. `None` where nothing came or the reading failed.
 pub fn read(stream: &mut TcpStream, wait: Option<Duration>, into: &mut [u8]) -> Option<usize>

@@ -4,6 +4,7 @@
 //! and keeps one in the place of the one that it read, on the disk, or leaves it as it is. `main` hands it to `run`.
 #![tactic(auto)]
 
+mod file_lock;
 mod real_store;
 
 pub use real_store::RealStore;

@@ -3,10 +3,11 @@
 ghost use Rattle.std.specs.Prelude.{◌≡◌, None};
 ghost use Rattle.fed_ports.specs.Stores.{Loads};
 
+use crate::file_lock::FileLock;
 use fed_base::{Duplicate, Failed, Memory, Text};
 use fed_ports::{ReadEnd, RealSource, Store, StoreFault, read_all};
 use std::alloc::Global;
-use std::fs::{OpenFile, OpenOptions};
+use std::fs::{File, OpenFile, OpenOptions};
 use std::io::{Eprint, ErrorKind, Write};
 use std::os::unix::fs::OpenOptionsExt;
 use std::rt::Files;
@@ -18,13 +19,13 @@ use std::{fs, io, str};
 /// is kept. So of programs that change a file at once, none undoes what another has done. What a user can do about a failure is said on
 /// standard error.
 #[derive(Drop)]
-pub struct RealStore<'a, R: Files + AllocGlobal + Eprint> {
+pub struct RealStore<'a, R: Files<File = File> + AllocGlobal + Eprint> {
     rt: &'a R,
     seen: Option<Seen>,
     faults: u64,
 }
 
-impl<'a, R: Files + AllocGlobal + Eprint> RealStore<'a, R> {
+impl<'a, R: Files<File = File> + AllocGlobal + Eprint> RealStore<'a, R> {
     /// A store that has not failed yet.
     pub fn new(rt: &'a R) -> RealStore<'a, R>
         ensures { ⟦<RealStore<'a, R> as Store>⟧.store_faults result ≡ 0 }
@@ -200,7 +201,7 @@ fn write_down<F: Write + OpenFile + Drop>(mut file: F, bytes: &[u8]) -> io::Resu
 }
 
 // Keeps the file where what was seen still stands in its place, under its lock.
-fn replace<R: Files + Eprint>(
+fn replace<R: Files<File = File> + Eprint>(
     rt: &R,
     alloc: Global,
     name: &Text,
@@ -208,22 +209,20 @@ fn replace<R: Files + Eprint>(
     seen: &Option<Seen>,
 ) -> Option<()> {
     let path = str::from_utf8(name.as_slice()).ok()?;
-    let mut lock = name.copy(alloc).ok()?;
-    lock.append(b".lock").ok()?;
-    let lock = str::from_utf8(lock.as_slice()).ok()?;
-    if !take_lock(rt, lock) {
-        return None;
-    }
+    let mut beside = name.copy(alloc).ok()?;
+    beside.append(b".lock").ok()?;
+    let beside = str::from_utf8(beside.as_slice()).ok()?;
+    let lock = FileLock::take(rt, beside)?;
     let kept = if is_link(rt, path) || !still_stands(rt, alloc, name, path, seen) {
         None
     } else {
         keep_file(rt, alloc, name, bytes)
     };
-    leave_lock(rt, lock);
+    lock.leave(rt, beside);
     kept
 }
 
-impl<'a, R: Files + AllocGlobal + Eprint> Store for RealStore<'a, R> {
+impl<'a, R: Files<File = File> + AllocGlobal + Eprint> Store for RealStore<'a, R> {
     ghost files = { λ _. None };
 
     ghost store_faults = { λ store. store.faults };
@@ -250,31 +249,5 @@ impl<'a, R: Files + AllocGlobal + Eprint> Store for RealStore<'a, R> {
                 Err(Failed)
             }
         }
-    }
-}
-
-// Takes the lock of that name, a file of its own that is made where there is none, or says why it can't be taken.
-fn take_lock<R: Files + Eprint>(rt: &R, lock: &str) -> bool {
-    let mut how = OpenOptions::new();
-    how.write(true).create_new(true).mode(0o600);
-    match how.open(rt, lock) {
-        Ok(_) => true,
-        Err(error) => {
-            if error.kind() == ErrorKind::AlreadyExists {
-                let _ = eprintln!(rt;
-                    "fed: {lock} is there: another program is changing the file, or one ended before it was done; where none runs, remove {lock} and try again"
-                );
-            }
-            false
-        }
-    }
-}
-
-// Gives the lock back, or says that it stays.
-fn leave_lock<R: Files + Eprint>(rt: &R, lock: &str) {
-    if fs::remove_file(rt, lock).is_err() {
-        let _ = eprintln!(rt;
-            "fed: {lock} could not be removed; remove it before the file is changed again"
-        );
     }
 }

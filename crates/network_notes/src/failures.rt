@@ -27,6 +27,8 @@ pub enum Reason {
     Forbidden,
     /// The address is none of this machine.
     NotHere,
+    /// The socket that was handed over is at another address.
+    Elsewhere,
     /// Anything else.
     Other,
 }

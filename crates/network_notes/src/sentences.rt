@@ -29,6 +29,7 @@ fn failure_sentence(alloc: Global, failure: &Failure) -> Sentence {
         }
         Reason::Forbidden => about.and(b": permission denied"),
         Reason::NotHere => about.and(b": this machine has no such address"),
+        Reason::Elsewhere => about.and(b": the socket that was handed over is at another port"),
         Reason::Other => about.and(b": the system refused it"),
     }
 }

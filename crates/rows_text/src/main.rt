@@ -17,6 +17,7 @@ mod store_rows;
 use fed_base::{Memory, OpensLedgers, Text};
 use spelling::{cut, spelled};
 use std::alloc::Global;
+use std::fs::File;
 use std::io::{self, Eprint, Print};
 use std::rt::Files;
 use std::time::Clock;
@@ -49,7 +50,7 @@ fn answer(alloc: Global, kind: &str, given: &str) -> Result<Text, Memory> {
 }
 
 // What is answered to a row.
-fn answer_row<R: Files + AllocGlobal + Eprint + Clock + OpensLedgers + Sync>(
+fn answer_row<R: Files<File = File> + AllocGlobal + Eprint + Clock + OpensLedgers + Sync>(
     rt: &R,
     alloc: Global,
     row: &str,

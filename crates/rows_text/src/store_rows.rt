@@ -5,6 +5,7 @@ use fed_base::{Memory, Seq, Text};
 use fed_ports::{Clock, MemoryStore, NamedFile, RealClock, Store, StoreFault};
 use fed_store::RealStore;
 use std::alloc::Global;
+use std::fs::File;
 use std::io::Eprint;
 use std::rt::Files;
 use std::time::Clock as SystemClock;
@@ -60,7 +61,7 @@ pub fn memory(alloc: Global, given: &str) -> Result<Text, Memory> {
 }
 
 /// The same of a file of that name in the folder where the program runs.
-pub fn real<R: Files + AllocGlobal + Eprint>(
+pub fn real<R: Files<File = File> + AllocGlobal + Eprint>(
     rt: &R,
     alloc: Global,
     given: &str,

@@ -3,20 +3,25 @@
 //! [`Waiting`] keeps up to 256 [`Caller`]s in the order in which they came. It looks at each of them, hands on the first whose request is
 //! there, and lets go of those that said nothing for 10 seconds, or whose request wasn't there 5 seconds after it was seen to begin. So
 //! nobody is served before there is something to serve, and who is silent holds nobody up. A [`RealCaller`] is one over the system's TCP
-//! (RFC 9293), and [`Noted`] has what the log tells of it. `fed_net` accepts them.
+//! (RFC 9293). [`Noted`] and [`NotedAnswer`] have what the log tells of a request and its answer, in a [`LogLine`]. `fed_net` accepts them.
 #![tactic(auto)]
 
 mod caller;
+mod log_line;
 mod look;
 mod noted;
+mod noted_answer;
 mod real_caller;
 mod request_ends;
+mod spelled;
 mod waiter;
 mod waiting;
 
 pub use caller::Caller;
+pub use log_line::{Log, LogLine};
 pub use look::Look;
 pub use noted::Noted;
+pub use noted_answer::NotedAnswer;
 pub use real_caller::RealCaller;
 pub use waiter::{REQUEST, SILENCE, Waiter};
 pub use waiting::{MOST_CALLERS, Waiting};

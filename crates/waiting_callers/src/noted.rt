@@ -1,55 +1,29 @@
-// What the log says of one answer on a connection.
+// What the log says of one request on a connection.
 
 use crate::request_ends::RequestEnds;
+use crate::spelled::{cut, or_dash, shown};
 use std::str;
 
 // How many bytes of a request are kept for the log.
-const KEPT: usize = 256;
+const KEPT: usize = 768;
 
-// How many bytes of an answer there are up to the end of its status, as in `HTTP/1.1 200`.
-const STATUS_END: usize = 12;
-
-/// The beginning of the first line of the request that is to be answered, that of its answer up to the status, and how many bytes of the
-/// answer were given.
+/// The beginning of the first line of the request that is to be answered, and how far those behind it have come.
 #[derive(Drop)]
 pub struct Noted {
     request: [u8; KEPT],
     kept: usize,
     ended: bool,
-    answer: [u8; STATUS_END],
-    given: u64,
     ends: RequestEnds,
     waiting: u64,
 }
 
-// A byte as the log shows it: an ASCII letter, digit or sign as it is, and any other as a star.
-fn shown(byte: u8) -> u8 {
-    if byte == b' ' || byte.is_ascii_graphic() {
-        byte
-    } else {
-        b'*'
-    }
-}
-
-// The text before that sign and the text behind it, or the whole text.
-fn cut(text: &str, sign: char) -> (&str, &str) {
-    text.split_once(sign).unwrap_or((text, ""))
-}
-
-// The text, or a dash where it is empty.
-fn or_dash(text: &str) -> &str {
-    if text.is_empty() { "-" } else { text }
-}
-
 impl Noted {
-    /// Nothing was read or given yet.
+    /// Nothing was read yet.
     pub fn new() -> Noted {
         Noted {
             request: [0; KEPT],
             kept: 0,
             ended: false,
-            answer: [b' '; STATUS_END],
-            given: 0,
             ends: RequestEnds::new(),
             waiting: 0,
         }
@@ -60,8 +34,6 @@ impl Noted {
         self.waiting = self.waiting.saturating_sub(1);
         self.kept = 0;
         self.ended = self.has_begun();
-        self.answer = [b' '; STATUS_END];
-        self.given = 0;
     }
 
     /// Whether something was read of a request that isn't answered.
@@ -102,34 +74,31 @@ impl Noted {
         }
     }
 
-    /// Notes what was given.
-    pub fn given(&mut self, bytes: &[u8]) {
-        for byte in bytes {
-            if self.given < STATUS_END as u64 {
-                self.answer[self.given as usize] = shown(*byte);
-            }
-            self.given = self.given.saturating_add(1);
-        }
+    // The method and the target of the request, as they were sent.
+    fn line(&self) -> (&str, &str) {
+        let text = str::from_utf8(self.request.get(..self.kept).unwrap_or(&[])).unwrap_or("");
+        let (method, rest) = cut(text, ' ');
+        let (target, _) = cut(rest, ' ');
+        (method, target)
     }
 
     /// The method and the path, each a dash where there is none. The path ends before its query.
     pub fn request(&self) -> (&str, &str) {
-        let text = str::from_utf8(self.request.get(..self.kept).unwrap_or(&[])).unwrap_or("");
-        let (method, rest) = cut(text, ' ');
-        let (target, _) = cut(rest, ' ');
+        let (method, target) = self.line();
         let (path, _) = cut(target, '?');
         (or_dash(method), or_dash(path))
     }
 
-    /// The status of the answer, or a dash.
-    pub fn status(&self) -> &str {
-        let text = str::from_utf8(&self.answer).unwrap_or("");
-        let (_, status) = cut(text, ' ');
-        or_dash(status.trim_ascii())
-    }
-
-    /// How many bytes were given.
-    pub fn bytes(&self) -> u64 {
-        self.given
+    /// The value of the first member of that name in the query, as it was sent.
+    pub fn asked(&self, name: &str) -> Option<&str> {
+        let (_, target) = self.line();
+        let (_, query) = cut(target, '?');
+        for member in query.split('&') {
+            let (its, value) = cut(member, '=');
+            if its == name {
+                return Some(value);
+            }
+        }
+        None
     }
 }

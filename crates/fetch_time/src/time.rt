@@ -2,7 +2,6 @@
 
 ghost use Rattle.std.specs.Prelude.{◌≤◌, IfSome};
 
-use crate::timed::left;
 use std::str;
 use std::time::{Clock as SystemClock, Duration, Instant};
 
@@ -29,6 +28,13 @@ pub fn fetch_seconds(text: &[u8]) -> Option<u64>
     } else {
         None
     }
+}
+
+/// What is left of so much time since then. `None` where nothing is left, and where the system's clock failed.
+pub fn left<R: SystemClock>(rt: &R, since: Option<Instant>, time: Duration) -> Option<Duration> {
+    let spent = since?.elapsed(rt).ok()?;
+    let left = time.checked_sub(spent)?;
+    if left.is_zero() { None } else { Some(left) }
 }
 
 /// The time of a network's exchanges: how much all of them have, how much is gone of it, and when the one that is open was opened.
