@@ -6,16 +6,17 @@ _fed() {
         *[\<\>]*) before=--files ;;
     esac
     case $COMP_CWORD:$before in
-        1:*) offered='verify keygen issue rotate public check show check-config authority resolver resolve register rehearse help --help --version' ;;
-        2:help) offered='verify keygen issue rotate public check show check-config authority resolver resolve register rehearse help' ;;
+        1:*) offered='verify keygen issue rotate public check check-reply show check-config authority resolver resolve register rehearse help --help --version' ;;
+        2:help) offered='verify keygen issue rotate public check check-reply show check-config authority resolver resolve register rehearse help' ;;
         *:--act) offered='add retire revoke' ;;
         *:--alg) offered='128s 128f' ;;
+        *:--claims) offered='yes' ;;
         *:--heed) offered='yes' ;;
         *:--reason) offered='unspecified compromised superseded' ;;
         *:--stream) offered='yes' ;;
         *:--strict) offered='yes' ;;
         *:--typ) offered='entity-statement+jwt trust-mark+jwt trust-mark-delegation+jwt' ;;
-        *:--config | *:--keys | *:--ring | *:--files)
+        *:--anchor-keys | *:--config | *:--keys | *:--ring | *:--files)
             compopt -o filenames 2>/dev/null
             mapfile -t COMPREPLY < <(compgen -f -- "$word")
             return
@@ -29,6 +30,7 @@ _fed() {
                 authority:) offered='--config --port --connections --stream' ;;
                 check:) offered='--anchor --keys --at' ;;
                 check-config:) offered='--config --at --strict' ;;
+                check-reply:) offered='--keys --anchor --anchor-keys --at' ;;
                 issue:) offered='--ring --typ --workers' ;;
                 keygen:) offered='--ring --at --exp --alg' ;;
                 public:) offered='--ring --kid' ;;
@@ -40,6 +42,7 @@ _fed() {
                 rotate:add) offered='--ring --act --at --exp --alg' ;;
                 rotate:retire) offered='--ring --act --kid' ;;
                 rotate:revoke) offered='--ring --act --kid --at --reason' ;;
+                show:) offered='--claims' ;;
             esac
             for ((at = 2; at < COMP_CWORD; at++)); do
                 [[ ${COMP_WORDS[at]} == --* ]] && offered=" $offered " && offered=${offered/ ${COMP_WORDS[at]} / }

@@ -1,9 +1,9 @@
 #!/usr/bin/env python3
-"""Asks a resolver over HTTP, and checks the chain of its reply.
+"""Asks a resolver over HTTP, and checks its reply, or where the resolver's keys aren't known the chain of the reply alone.
 
-python3 asking.py ENDPOINT ANCHOR KEYS ENTITY"""
+python3 asking.py ENDPOINT ANCHOR KEYS ENTITY [RESOLVER]    KEYS and RESOLVER are files with the anchor's and the resolver's key sets"""
 import http.client, json, sys, urllib.error, urllib.parse, urllib.request
-from client import PATIENCE, Refused, Unknown, checked, claims_of
+from client import PATIENCE, Refused, Unknown, checked, checked_reply, claims_of
 
 FAULTS = OSError, http.client.HTTPException, LookupError, ValueError, TypeError, RecursionError
 
@@ -28,12 +28,14 @@ def fault_of(error):
     return kind(word or f"status {error.code}")
 
 
-def resolved_by(endpoint, anchor, keys, entity):
+def resolved_by(endpoint, anchor, keys, entity, resolver=None):
     question = urllib.parse.urlencode({"sub": entity, "trust_anchor": anchor})
     try:
         with opener.open(f"{endpoint}?{question}", timeout=PATIENCE) as reply:
-            chain = claims_of(reply.read(4194304).decode())["trust_chain"]
-        return checked(chain, entity, anchor, keys)
+            text = reply.read(4194304).decode()
+        if resolver:
+            return checked_reply(text, entity, resolver, anchor, keys)
+        return checked(claims_of(text)["trust_chain"], entity, anchor, keys)
     except urllib.error.HTTPError as error:
         raise fault_of(error) from None
     except FAULTS as error:

@@ -32,7 +32,15 @@ def claims_of(text):
 
 def checked(chain, entity, anchor, keys):
     """Gives the end of a chain and the metadata that it resolves to, where it is valid for this entity."""
-    status, said = fed("check", "--anchor", anchor, "--keys", keys, given=json.dumps(chain))
+    return found(entity, *fed("check", "--anchor", anchor, "--keys", keys, given=json.dumps(chain)))
+
+
+def checked_reply(text, entity, resolver, anchor, keys):
+    """Gives the end and the metadata of a reply of the resolver with these keys, where it is of this entity and says what its chain says."""
+    return found(entity, *fed("check-reply", "--keys", resolver, "--anchor", anchor, "--anchor-keys", keys, given=text))
+
+
+def found(entity, status, said):
     if status:
         raise Refused(said.strip())
     line, metadata = said.split("\n")[:2]

@@ -49,7 +49,9 @@ pub fn verdict_lines(alloc: Global, verdict: &Verdict) -> Result<Text, Memory>
     }
 }
 
-fn append_reason(alloc: Global, line: &mut Text, reason: &Reason) -> Result<(), Memory>
+/// Appends a reason: its name, and where policies are the reason the entity type and the parameter as JSON strings and the operators by
+/// name.
+pub fn append_reason(alloc: Global, line: &mut Text, reason: &Reason) -> Result<(), Memory>
     requires { HasUtf8Names reason.now }
     ensures { OnOk result (line.new ≡ line.old ++ reason_text reason.now) }
 {
@@ -102,14 +104,16 @@ fn append_parameter(
     line.push(b' ')
 }
 
+/// Appends a number in decimal digits.
 #[tactic(auto, using(crate::proofs::VerdictLaws::whole_number, crate::proofs::VerdictLaws::compact_number_of))]
-fn append_number(alloc: Global, line: &mut Text, n: u64) -> Result<(), Memory>
+pub fn append_number(alloc: Global, line: &mut Text, n: u64) -> Result<(), Memory>
     ensures { OnOk result (line.new ≡ line.old ++ decimal n) }
 {
     append_tree(alloc, line, &Json::Int(n as i128))
 }
 
-fn append_tree(alloc: Global, line: &mut Text, tree: &Json) -> Result<(), Memory>
+/// Appends a tree in compact form.
+pub fn append_tree(alloc: Global, line: &mut Text, tree: &Json) -> Result<(), Memory>
     requires { IsWhole tree.now }
     ensures { OnOk result (line.new ≡ line.old ++ compact tree.now) }
 {

@@ -1,6 +1,6 @@
 -- The words that name a command, and the page of each.
 use Rattle.std.specs.Prelude.{ℕ, List, codes, bytes_eq, find, Bool, Option}
-use Rattle.cli_help.specs.declared.answer_pages.TheConstants.{CHECK, HELP_PAGE, SHOW, VERIFY}
+use Rattle.cli_help.specs.declared.answer_pages.TheConstants.{CHECK, CHECK_REPLY, HELP_PAGE, SHOW, VERIFY}
 use Rattle.cli_help.specs.declared.key_pages.TheConstants.{ISSUE, KEYGEN, PUBLIC, ROTATE}
 use Rattle.cli_help.specs.declared.node_pages.TheConstants.{AUTHORITY, CHECK_CONFIG, REGISTER, REHEARSE, RESOLVE, RESOLVER}
 use Rattle.cli_help.specs.declared.verb.TheConstants.{VERBS}
@@ -12,6 +12,7 @@ abbrev pub word_of : Verb → List ℕ
 word_of verb.Authority = codes "authority"
 word_of verb.Check = codes "check"
 word_of verb.CheckConfig = codes "check-config"
+word_of verb.CheckReply = codes "check-reply"
 word_of verb.Help = codes "help"
 word_of verb.Issue = codes "issue"
 word_of verb.Keygen = codes "keygen"
@@ -37,6 +38,7 @@ abbrev pub page_of : Verb → List ℕ
 page_of verb.Authority = AUTHORITY.now
 page_of verb.Check = CHECK.now
 page_of verb.CheckConfig = CHECK_CONFIG.now
+page_of verb.CheckReply = CHECK_REPLY.now
 page_of verb.Help = HELP_PAGE.now
 page_of verb.Issue = ISSUE.now
 page_of verb.Keygen = KEYGEN.now

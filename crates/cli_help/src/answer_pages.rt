@@ -44,13 +44,43 @@ example  fed check --anchor https://ta.example --keys examples/ta.keys.json \\
              --at 1800000000 < examples/rp.chain.json
 ";
 
+/// The page of `check-reply`.
+pub(crate) const CHECK_REPLY: &[u8] =
+    b"fed check-reply --keys FILE --anchor ID --anchor-keys FILE [--at T] < REPLY
+
+Checks a resolver's reply: its signature, its chain up to a trust anchor, and
+that what it says is what the chain says.
+
+options  --keys FILE         a file with the resolver's keys, a JWK Set
+         --anchor ID         the anchor's identifier, a URL
+         --anchor-keys FILE  a file with the anchor's keys, a JWK Set
+         --at T              the moment for which it is checked, in seconds
+                             since 1970; without it, now. The chain is checked
+                             for the reply's iat
+input    the reply, a text in JWS compact serialization
+output   valid <sub> <exp>  the reply can be acted on until exp; a second line
+                            has its metadata. A line `unchecked <place>` follows
+                            for each trust mark, by its place from 0 on, whose
+                            signature isn't checked: its issuer is neither the
+                            entity nor the anchor, so that no key of it is known
+         refused R          the first thing that is wrong: R is Form, Signature,
+                            Chain <place> .., Subject, Metadata, End,
+                            Mark <place> .. or Times
+         input              a file or the input is malformed
+status   0 valid, 1 refused, 2 words or input, 3 the input can't be read, 4 the
+         output can't be written, 5 memory was wanting, 6 a file can't be read
+example  fed check-reply --keys resolver.keys --anchor https://ta.example \\
+             --anchor-keys ta.keys < reply.jwt
+";
+
 /// The page of `show`.
-pub(crate) const SHOW: &[u8] = b"fed show < TEXT
+pub(crate) const SHOW: &[u8] = b"fed show [--claims yes] < TEXT
 
 Shows what a signed text, a chain or a key set says: header and claims indented,
 moments with their dates, keys by their thumbprints. Nothing is verified.
 
-options  none
+options  --claims yes  of a signed text its claims alone, for programs: the JSON
+                       object that was signed, byte for byte, and a line end
 input    a text in JWS compact serialization; a chain, a JSON list of such
          texts; or a JWK Set
 output   the parts, and then what they are: an entity's configuration, a
@@ -67,12 +97,12 @@ example  fed show < examples/rp.jwt
 /// The page of `help`.
 pub(crate) const HELP_PAGE: &[u8] = b"fed help COMMAND
 
-Shows how a command is called: its words, its input, what it writes, its
+Shows how a command is called: its arguments, its input, what it writes, its
 statuses, and an example.
 
-argument COMMAND      verify, keygen, issue, rotate, public, check, show,
-                      check-config, authority, resolver, resolve, register,
-                      rehearse or help
+argument COMMAND      verify, keygen, issue, rotate, public, check,
+                      check-reply, show, check-config, authority, resolver,
+                      resolve, register, rehearse or help
 input    none is read
 output   the page
 status   0 shown, 2 there is no such command, 4 the output can't be written, 5

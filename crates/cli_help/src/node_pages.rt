@@ -35,7 +35,8 @@ keys, and the status of its trust marks.
 
 options  --config FILE   the configuration; man 5 fed-config
          --port P        the port, 1 to 65535, of 127.0.0.1, or of the address
-                         in the environment variable FED_LISTEN
+                         in the environment variable FED_LISTEN; with
+                         FED_LISTEN=socket, of the socket on standard input
          --connections N how many connections are answered, 1 to 1000000, one
                          after the other
          --stream yes    a connection may ask up to 100 times, as nginx in front
@@ -45,7 +46,8 @@ input    none is read
 output   served N        all were answered
          input           the configuration or its ring isn't there or is
                          malformed, or it has the member resolver
-         Each connection leaves a line on standard error, unless FED_LOG=off.
+         Each answer leaves a line on standard error: an object of JSON with
+         FED_LOG=json, and none with FED_LOG=off, no or 0.
 status   0 served, 2 words or input, 4 the output can't be written, 5 memory was
          wanting, 6 a file can't be read, 7 the port can't be listened on, or
          nobody can be accepted
@@ -62,17 +64,19 @@ anchors.
 options  --config FILE   the configuration, with the member resolver; man 5
                          fed-config
          --port P        the port, 1 to 65535, of 127.0.0.1, or of the address
-                         in the environment variable FED_LISTEN
+                         in the environment variable FED_LISTEN; with
+                         FED_LISTEN=socket, of the socket on standard input
          --connections N how many connections are answered, 1 to 1000000, as
                          many at once as the configuration has workers
 input    none is read
 output   served N        all were answered
          input           the configuration or its ring isn't there or is
                          malformed, or it lacks the member resolver
-         Each connection leaves a line on standard error, unless FED_LOG=off.
+         Each answer leaves a line on standard error: an object of JSON with
+         FED_LOG=json, and none with FED_LOG=off, no or 0.
 status   0 served, 2 words or input, 4 the output can't be written, 5 memory was
          wanting, 6 a file can't be read, 7 the port can't be listened on, or
-         nobody can be accepted, 8 a counter is at its end
+         nobody can be accepted, 8 2^62 calls were counted
 example  fed resolver --config node.json --port 8301 --connections 1000000
 ";
 
@@ -80,7 +84,8 @@ example  fed resolver --config node.json --port 8301 --connections 1000000
 pub(crate) const RESOLVE: &[u8] = b"fed resolve --config FILE --sub ID --anchor ID [--heed yes]
 
 Resolves an entity up to a trust anchor, as the resolver of a configuration: it
-asks the authorities over HTTP, and writes a signed reply.
+asks the authorities over HTTP, for 30 seconds in all or FED_FETCH_SECONDS, and
+writes a signed reply.
 
 options  --config FILE the configuration, with the member resolver
          --sub ID      the entity, a URL
@@ -100,7 +105,7 @@ output   a line        the reply in JWS compact serialization
                        malformed, or it lacks the member resolver
 status   0 resolved, 1 refused, 2 words or input, 4 the output can't be written,
          5 memory was wanting, 6 a file can't be read, 7 no valid chain was
-         found and a fetch failed, 8 a counter is at its end, 9 no valid
+         found and a fetch failed, 8 2^62 calls were counted, 9 no valid
          chain was found before a bound of the search
 example  fed resolve --config node.json --sub https://rp.example \\
              --anchor https://ta.example
@@ -110,8 +115,8 @@ example  fed resolve --config node.json --sub https://rp.example \\
 pub(crate) const REGISTER: &[u8] = b"fed register --config FILE --anchor ID < POSTED
 
 Registers a relying party, as the node of a configuration: a posted chain is
-checked, the chain of a posted configuration is first looked for over HTTP, and
-a signed registration is written.
+checked, the chain of a posted configuration is first looked for over HTTP, for
+30 seconds in all or FED_FETCH_SECONDS, and a signed registration is written.
 
 options  --config FILE the configuration, with the member resolver
          --anchor ID   one of the configuration's trust anchors
@@ -130,8 +135,8 @@ output   a line             the registration in JWS compact serialization
                             input is too long
 status   0 registered, 1 refused, 2 words or input, 3 the input can't be read, 4
          the output can't be written, 5 memory was wanting, 6 a file can't be
-         read, 7 no chain was found and a fetch failed, 8 a counter is at its
-         end, 9 no chain was found before a bound of the search
+         read, 7 no chain was found and a fetch failed, 8 2^62 calls were
+         counted, 9 no chain was found before a bound of the search
 example  fed register --config resolver.json --anchor https://ta.example \\
              < rp.jwt
 ";
@@ -153,6 +158,6 @@ output   params N      as asked for
                        is 0
          valid         the chain was checked by itself, and is valid
 status   0 done, 2 words, 4 the output can't be written, 5 memory was wanting,
-         8 a counter is at its end
+         8 2^62 calls were counted
 example  fed rehearse --params 3
 ";

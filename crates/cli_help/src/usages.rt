@@ -37,7 +37,9 @@ pub enum OptionName {
     Act,
     Alg,
     Anchor,
+    AnchorKeys,
     At,
+    Claims,
     Config,
     Connections,
     Exp,
@@ -62,7 +64,9 @@ impl OptionName {
             OptionName::Act => b"--act",
             OptionName::Alg => b"--alg",
             OptionName::Anchor => b"--anchor",
+            OptionName::AnchorKeys => b"--anchor-keys",
             OptionName::At => b"--at",
+            OptionName::Claims => b"--claims",
             OptionName::Config => b"--config",
             OptionName::Connections => b"--connections",
             OptionName::Exp => b"--exp",
@@ -88,12 +92,14 @@ impl OptionName {
             OptionName::Alg => b"ALG",
             OptionName::Anchor | OptionName::Sub => b"ID",
             OptionName::At | OptionName::Exp => b"T",
-            OptionName::Config | OptionName::Keys | OptionName::Ring => b"FILE",
+            OptionName::AnchorKeys | OptionName::Config | OptionName::Keys | OptionName::Ring =>
+                b"FILE",
             OptionName::Connections | OptionName::Params => b"N",
             OptionName::Kid => b"KID",
             OptionName::Port => b"P",
             OptionName::Reason => b"R",
-            OptionName::Heed | OptionName::Stream | OptionName::Strict => b"yes",
+            OptionName::Claims | OptionName::Heed | OptionName::Stream | OptionName::Strict =>
+                b"yes",
             OptionName::Typ => b"TYP",
             OptionName::Workers => b"W",
         }
@@ -106,13 +112,18 @@ impl OptionName {
             OptionName::Alg => Form::Alg,
             OptionName::Anchor | OptionName::Sub => Form::Identifier,
             OptionName::At | OptionName::Exp => Form::Moment,
-            OptionName::Config | OptionName::Keys | OptionName::Kid | OptionName::Ring =>
-                Form::Word,
+            OptionName::AnchorKeys
+            | OptionName::Config
+            | OptionName::Keys
+            | OptionName::Kid
+            | OptionName::Ring => Form::Word,
             OptionName::Connections => Form::Connections,
             OptionName::Params => Form::Params,
             OptionName::Port => Form::Port,
             OptionName::Reason => Form::Reason,
-            OptionName::Heed | OptionName::Stream | OptionName::Strict => Form::Yes,
+            OptionName::Claims | OptionName::Heed | OptionName::Stream | OptionName::Strict => {
+                Form::Yes
+            }
             OptionName::Typ => Form::TextType,
             OptionName::Workers => Form::Workers,
         }
@@ -134,7 +145,7 @@ pub struct Usage {
 }
 
 /// All commands but `verify` and `help`, which take one word, and the flags, which stand alone.
-pub const USAGES: [Usage; 14] = [
+pub const USAGES: [Usage; 15] = [
     Usage {
         verb: Verb::Keygen,
         act: "",
@@ -196,10 +207,17 @@ pub const USAGES: [Usage; 14] = [
         input: "CHAIN",
     },
     Usage {
+        verb: Verb::CheckReply,
+        act: "",
+        needed: &[OptionName::Keys, OptionName::Anchor, OptionName::AnchorKeys],
+        free: &[OptionName::At],
+        input: "REPLY",
+    },
+    Usage {
         verb: Verb::Show,
         act: "",
         needed: &[],
-        free: &[],
+        free: &[OptionName::Claims],
         input: "TEXT",
     },
     Usage {

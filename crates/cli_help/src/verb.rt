@@ -4,7 +4,7 @@ ghost use Rattle.std.specs.Prelude.{◌≡◌, Some, find};
 ghost use Rattle.std.specs.Option.{option_copied};
 ghost use Rattle.cli_help.specs.Verbs.{is_called, page_of, verb_of, word_of};
 
-use crate::answer_pages::{CHECK, HELP_PAGE, SHOW, VERIFY};
+use crate::answer_pages::{CHECK, CHECK_REPLY, HELP_PAGE, SHOW, VERIFY};
 use crate::key_pages::{ISSUE, KEYGEN, PUBLIC, ROTATE};
 use crate::node_pages::{AUTHORITY, CHECK_CONFIG, REGISTER, REHEARSE, RESOLVE, RESOLVER};
 
@@ -14,6 +14,7 @@ pub enum Verb {
     Authority,
     Check,
     CheckConfig,
+    CheckReply,
     Help,
     Issue,
     Keygen,
@@ -28,13 +29,14 @@ pub enum Verb {
 }
 
 /// All of them, in the order of `fed --help`.
-pub const VERBS: [Verb; 14] = [
+pub const VERBS: [Verb; 15] = [
     Verb::Verify,
     Verb::Keygen,
     Verb::Issue,
     Verb::Rotate,
     Verb::Public,
     Verb::Check,
+    Verb::CheckReply,
     Verb::Show,
     Verb::CheckConfig,
     Verb::Authority,
@@ -64,6 +66,7 @@ impl Verb {
             Verb::Authority => b"authority",
             Verb::Check => b"check",
             Verb::CheckConfig => b"check-config",
+            Verb::CheckReply => b"check-reply",
             Verb::Help => b"help",
             Verb::Issue => b"issue",
             Verb::Keygen => b"keygen",
@@ -87,6 +90,7 @@ impl Verb {
             Verb::Authority => AUTHORITY,
             Verb::Check => CHECK,
             Verb::CheckConfig => CHECK_CONFIG,
+            Verb::CheckReply => CHECK_REPLY,
             Verb::Help => HELP_PAGE,
             Verb::Issue => ISSUE,
             Verb::Keygen => KEYGEN,

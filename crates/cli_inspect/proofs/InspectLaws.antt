@@ -1,6 +1,6 @@
 -- From the ends of an inspection to its clauses.
 use Rattle.std.proofs.Common.{◌≡◌, ◌⊎◌, ◌≤◌, ℕ, List, refl, sym, ap, ◌∙◌, subst, inl, inr, arith}
-use Rattle.std.specs.Prelude.{Option, None, Some, Result, Ok, Err, MatchResult, false, true}
+use Rattle.std.specs.Prelude.{Option, None, Some, Result, Ok, Err, MatchResult, false, true, not, is_some, unwrap_or}
 use Rattle.fed_ports.specs.Bytes.{Appends}
 use Rattle.fed_ports.specs.Stores.{Files}
 use Rattle.fed_ports.specs.Times.{IsOneReading}
@@ -11,21 +11,28 @@ use Rattle.cli_commands.specs.declared.answer.Stop.TheVariants.{Source, Store, M
 use Rattle.cli_rings.specs.declared.reply.Reply.{Reply}
 use Rattle.cli_commands.proofs.TopLaws.{stopped_range, stopped_sink, stopped_source, stopped_store}
 use Rattle.cli_words.specs.declared.inspection.Inspection.{Inspection}
-use Rattle.cli_words.specs.declared.inspection.Inspection.TheVariants.{Public, Show, Config, Help}
+use Rattle.cli_words.specs.declared.inspection.Inspection.TheVariants.{Public, Show, Config, Help, Reply as ReplyCheck}
 use Rattle.cli_inspect.specs.Outputs.{WritesLine}
+use Rattle.cli_inspect.specs.ReplyChecks.{IsReplyReport}
 use Rattle.cli_inspect.specs.Inspections.{Inspects, IsInspected, reads_clock, reads_file, reads_input}
 use Rattle.cli_inspect.proofs.OnceLaws.{inspected_once}
 
 -- ---- the moment
 
+moment_by : (at : Option ℕ) (moment last : ℕ) → (not (is_some at) ≡ true → moment ≡ last) → unwrap_or at moment ≡ unwrap_or at last
+moment_by None moment last same = same refl
+moment_by (Some at) moment last same = refl
+
 -- what an inspection is told at a moment it is told at the clock's last reading, where it reads the clock
 pub inspected_at : (i : Inspection) (files : Option Files) (left left' : Option (List ℕ)) (moment last : ℕ) (reply : Reply) → (reads_clock i ≡ true → moment ≡ last)
     → IsInspected i moment files left left' reply → IsInspected i last files left left' reply
 inspected_at (Public ring kid) files left left' moment last reply same is = is
-inspected_at Show files left left' moment last reply same is = is
+inspected_at (Show claims) files left left' moment last reply same is = is
 inspected_at (Config config None strict) files left left' moment last reply same is = subst (λ t. IsInspected (Config config None strict) t files left left' reply) (same refl) is
 inspected_at (Config config (Some at) strict) files left left' moment last reply same is = is
 inspected_at (Help verb) files left left' moment last reply same is = is
+inspected_at (ReplyCheck asked) files left left' moment last reply same is =
+    subst (λ t. IsReplyReport files asked t left left' reply) (moment_by asked.at moment last same) is
 
 -- ---- statuses
 

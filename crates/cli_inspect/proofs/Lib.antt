@@ -1,4 +1,5 @@
 mod ConfigLaws
 mod OnceLaws
 mod PublicLaws
+mod SteadyLaws
 pub mod InspectLaws

@@ -1,5 +1,5 @@
 -- An inspection has one reply, where the files and the input are told.
-use Rattle.std.proofs.Common.{◌≡◌, ◌≤◌, ◌<◌, ℕ, List, length, Option, Some, None, Result, Ok, Err, refl, sym, ap, ◌∙◌, subst, unwrap_or, arith}
+use Rattle.std.proofs.Common.{◌≡◌, ◌≤◌, ◌<◌, ℕ, List, length, Bool, Option, Some, None, Result, Ok, Err, refl, sym, ap, ◌∙◌, subst, unwrap_or, arith}
 use Rattle.std.specs.Prelude.{[]}
 use Rattle.fed_ports.specs.Stores.{Files, IsFile, file_limit}
 use Rattle.key_ring.specs.Files.{IsRingFile, Opens, repeated_in}
@@ -14,11 +14,17 @@ use Rattle.cli_commands.specs.Answers.{MayBe, text_of}
 use Rattle.cli_rings.specs.RingFiles.{IsRingFound}
 use Rattle.cli_rings.specs.declared.reply.Reply.{Reply}
 use Rattle.cli_rings.proofs.RingLaws.{found_once}
+use Rattle.jwk_set.specs.declared.jwk.Jwk.{Jwk}
+use Rattle.reply_check.proofs.VerdictLaws.{reply-one}
+use Rattle.reply_check.specs.Verdicts.{Case, case_of}
+use Rattle.cli_inspect.specs.Reports.{IsReport, report_of}
 use Rattle.cli_words.specs.declared.inspection.Inspection.{Inspection}
-use Rattle.cli_words.specs.declared.inspection.Inspection.TheVariants.{Public, Show, Config, Help}
+use Rattle.cli_words.specs.declared.inspection.Inspection.TheVariants.{Public, Show, Config, Help, Reply as ReplyCheck}
+use Rattle.cli_words.specs.declared.inspection.ReplyAsked.{ReplyAsked}
 use Rattle.config_warnings.specs.declared.source.ConfigText.{ConfigText}
 use Rattle.cli_inspect.specs.Configs.{IsConfigReply, IsFoundIn, IsSettingsReply, IsTextReply, found_reply, text_of_file}
 use Rattle.cli_inspect.specs.Inspections.{AreTold, IsInspected, IsPublicReply, of_found}
+use Rattle.cli_inspect.specs.ReplyChecks.{IsKeysOf, IsReplyReport, IsReportBy, IsTextReport, keys_of_file}
 use Rattle.cli_inspect.specs.Shows.{IsShowReply, show_reply}
 use Rattle.cli_inspect.specs.declared.checking.Checking.{Checking}
 use Rattle.cli_inspect.specs.declared.rings.RingFound.{RingFound}
@@ -117,16 +123,47 @@ input_once left a b (told, same) first second =
     let two : MayBe (Some told) b = subst (λ l. MayBe l b) same second in
     sym one ∙ two
 
-show_once : (left now later : Option (List ℕ)) (r s : Reply) → (told : List ℕ) × (left ≡ Some told) → IsShowReply left now r → IsShowReply left later s → r ≡ s
-show_once left now later r s told p q =
-    p.is_reply ∙ ap (λ input. show_reply (text_of input)) (input_once left p.input q.input told p.is_input q.is_input) ∙ sym q.is_reply
+show_once : (claims : Bool) (left now later : Option (List ℕ)) (r s : Reply) → (told : List ℕ) × (left ≡ Some told) → IsShowReply claims left now r → IsShowReply claims left later s
+    → r ≡ s
+show_once claims left now later r s told p q =
+    p.is_reply ∙ ap (λ input. show_reply claims (text_of input)) (input_once left p.input q.input told p.is_input q.is_input) ∙ sym q.is_reply
+
+-- ---- replies
+
+keys_once : (files : Option Files) (name : List ℕ) (a b : Option (List Jwk)) → (told : Files) × (files ≡ Some told) → IsKeysOf files name a → IsKeysOf files name b → a ≡ b
+keys_once files name a b told p q = p.are ∙ ap keys_of_file (file_once files name p.bytes q.bytes told p.is_file q.is_file) ∙ sym q.are
+
+report_once : (case : Case) (r s : Reply) → IsReport case r → IsReport case s → r ≡ s
+report_once case r s p q = p.2 ∙ ap report_of (reply-one case p.0 q.0 p.1 q.1) ∙ sym q.2
+
+told_once : (case : List ℕ → Case) (text : Option (List ℕ)) (r s : Reply) → IsTextReport case text r → IsTextReport case text s → r ≡ s
+told_once case (Some text) r s p q = report_once (case text) r s p q
+told_once case None r s p q = p ∙ sym q
+
+by_once : (asked : ReplyAsked) (moment : ℕ) (resolver keys : Option (List Jwk)) (left now later : Option (List ℕ)) (r s : Reply) → (told : List ℕ) × (left ≡ Some told)
+    → IsReportBy asked moment resolver keys left now r → IsReportBy asked moment resolver keys left later s → r ≡ s
+by_once asked moment (Some resolver) (Some keys) left now later r s told p q =
+    let case = λ (text : List ℕ). case_of text resolver asked.anchor keys moment in
+    let one = input_once left p.input q.input told p.is_input q.is_input in
+    told_once case (text_of q.input) r s (subst (λ input. IsTextReport case (text_of input) r) one p.is_report) q.is_report
+by_once asked moment (Some resolver) None left now later r s told p q = p ∙ sym q
+by_once asked moment None keys left now later r s told p q = p ∙ sym q
+
+reply_once : (files : Option Files) (asked : ReplyAsked) (moment : ℕ) (left now later : Option (List ℕ)) (r s : Reply) → (told : Files) × (files ≡ Some told)
+    → (told : List ℕ) × (left ≡ Some told) → IsReplyReport files asked moment left now r → IsReplyReport files asked moment left later s → r ≡ s
+reply_once files asked moment left now later r s files_told told p q =
+    let resolver = keys_once files asked.keys_file p.resolver q.resolver files_told p.is_resolver q.is_resolver in
+    let keys = keys_once files asked.anchor_keys_file p.keys q.keys files_told p.is_keys q.is_keys in
+    let one : IsReportBy asked moment q.resolver p.keys left now r = subst (λ o. IsReportBy asked moment o p.keys left now r) resolver p.is_report in
+    by_once asked moment q.resolver q.keys left now later r s told (subst (λ o. IsReportBy asked moment q.resolver o left now r) keys one) q.is_report
 
 -- ---- all of them
 
 pub inspected_once : (i : Inspection) (moment : ℕ) (files : Option Files) (left now later : Option (List ℕ)) (r s : Reply) → AreTold i files left
     → IsInspected i moment files left now r → IsInspected i moment files left later s → r ≡ s
 inspected_once (Public ring kid) moment files left now later r s told p q = public_once files ring kid r s (told.0 refl) p q
-inspected_once Show moment files left now later r s told p q = show_once left now later r s (told.1 refl) p q
+inspected_once (Show claims) moment files left now later r s told p q = show_once claims left now later r s (told.1 refl) p q
 inspected_once (Config config None strict) moment files left now later r s told p q = config_once files config _ r s (told.0 refl) p q
 inspected_once (Config config (Some at) strict) moment files left now later r s told p q = config_once files config _ r s (told.0 refl) p q
 inspected_once (Help verb) moment files left now later r s told p q = p ∙ sym q
+inspected_once (ReplyCheck asked) moment files left now later r s told p q = reply_once files asked _ left now later r s (told.0 refl) (told.1 refl) p q

@@ -1,5 +1,5 @@
 -- What an inspection answers, and what it leaves of the outside.
-use Rattle.std.specs.Prelude.{◌≡◌, ◌⊎◌, ◌≤◌, ℕ, List, take, Bool, true, false, Option, Some, None, unwrap_or}
+use Rattle.std.specs.Prelude.{◌≡◌, ◌⊎◌, ◌≤◌, ℕ, List, take, Bool, true, false, not, Option, Some, None, is_some, unwrap_or}
 use Rattle.cli_help.specs.Verbs.{page_of}
 use Rattle.fed_ports.specs.Bytes.{Appends}
 use Rattle.fed_ports.specs.Stores.{Files, IsFile}
@@ -11,9 +11,10 @@ use Rattle.cli_rings.specs.Replies.{bad_input, plain}
 use Rattle.cli_commands.specs.Runs.{World}
 use Rattle.cli_rings.specs.declared.reply.Reply.{Reply}
 use Rattle.cli_words.specs.declared.inspection.Inspection.{Inspection}
-use Rattle.cli_words.specs.declared.inspection.Inspection.TheVariants.{Public, Show, Config, Help}
+use Rattle.cli_words.specs.declared.inspection.Inspection.TheVariants.{Public, Show, Config, Help, Reply as ReplyCheck}
 use Rattle.cli_inspect.specs.Configs.{IsConfigReply}
 use Rattle.cli_inspect.specs.Publics.{public_reply}
+use Rattle.cli_inspect.specs.ReplyChecks.{IsReplyReport}
 use Rattle.cli_inspect.specs.Shows.{IsShowReply}
 
 -- the keys of the ring that was found
@@ -32,25 +33,29 @@ pub record IsPublicReply (files : Option Files) (name : List ℕ) (kid : Option 
 -- what an inspection answers on the files and the input, at a moment in seconds since 1970: the outside's faults and want of memory aside
 abbrev pub IsInspected : Inspection → ℕ → Option Files → Option (List ℕ) → Option (List ℕ) → Reply → Type 0
 IsInspected (Public ring kid) moment files left left' reply = IsPublicReply files ring kid reply
-IsInspected Show moment files left left' reply = IsShowReply left left' reply
+IsInspected (Show claims) moment files left left' reply = IsShowReply claims left left' reply
 IsInspected (Config config at strict) moment files left left' reply = IsConfigReply files config (record { moment = unwrap_or at moment; strict = strict }) reply
 IsInspected (Help verb) moment files left left' reply = reply ≡ plain 0 (page_of verb)
+IsInspected (ReplyCheck asked) moment files left left' reply = IsReplyReport files asked (unwrap_or asked.at moment) left left' reply
 
 -- the inspection looks at a file
 abbrev pub reads_file : Inspection → Bool
 reads_file (Public ring kid) = true
-reads_file Show = false
+reads_file (Show claims) = false
 reads_file (Config config at strict) = true
 reads_file (Help verb) = false
+reads_file (ReplyCheck asked) = true
 
 -- it reads the input
 abbrev pub reads_input : Inspection → Bool
-reads_input Show = true
+reads_input (Show claims) = true
+reads_input (ReplyCheck asked) = true
 reads_input inspection = false
 
 -- it reads the clock
 abbrev pub reads_clock : Inspection → Bool
 reads_clock (Config config None strict) = true
+reads_clock (ReplyCheck asked) = not (is_some asked.at)
 reads_clock inspection = false
 
 -- the files are told where it looks at one, and the input where it reads it

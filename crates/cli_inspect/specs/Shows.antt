@@ -1,7 +1,8 @@
 -- What is shown of the input.
-use Rattle.std.specs.Prelude.{◌≡◌, ◌≤◌, ℕ, List, length, Bool, true, false, Option, Some, None}
+use Rattle.std.specs.Prelude.{◌≡◌, ◌≤◌, ℕ, List, length, Bool, true, false, Option, Some, None, if◌then◌else◌}
 use Rattle.fed_ports.specs.Inputs.{AtEnd}
 use Rattle.fed_ports.specs.Stores.{file_limit}
+use Rattle.cli_show.specs.Claims.{claims_view}
 use Rattle.cli_show.specs.Views.{view_of}
 use Rattle.cli_show.specs.declared.view.View.{View}
 use Rattle.cli_commands.specs.Answers.{MayBe, text_of}
@@ -17,14 +18,18 @@ abbrev pub view_reply : Option View → Reply
 view_reply (Some view) = plain (status_of view.refused) view.text
 view_reply None = bad_input
 
+-- the claims alone of a signed text, or all that is shown of any text
+abbrev pub view_by : Bool → List ℕ → Option View
+view_by claims text = if claims then Some (claims_view text) else view_of text
+
 -- an input without its line end, or one that is too long
-abbrev pub show_reply : Option (List ℕ) → Reply
-show_reply (Some text) = view_reply (view_of text)
-show_reply None = bad_input
+abbrev pub show_reply : Bool → Option (List ℕ) → Reply
+show_reply claims (Some text) = view_reply (view_by claims text)
+show_reply claims None = bad_input
 
 -- the input was read, to its end unless it is too long
-pub record IsShowReply (left left' : Option (List ℕ)) (reply : Reply) : Type 0 where
+pub record IsShowReply (claims : Bool) (left left' : Option (List ℕ)) (reply : Reply) : Type 0 where
   pub input : List ℕ
   pub is_input : MayBe left input
   pub ended : length input ≤ file_limit → AtEnd left'
-  pub is_reply : reply ≡ show_reply (text_of input)
+  pub is_reply : reply ≡ show_reply claims (text_of input)

@@ -20,18 +20,18 @@ use crate::rings::{RingFound, ring_found};
 use authority_core::Registry;
 use cli_commands::{Stop, load_file};
 use cli_rings::{File, Reply, explain_no_ring, plain};
+use config_faults::{explain_config, explain_length};
 use config_notes::say_warnings;
 use config_summary::{first_fault, summary};
 use config_warnings::{ConfigText, Warning, is_warned, warnings};
 use fed_json::{TreeFault, read_tree};
 use fed_ports::{Memory, Store, Text};
 use file_notes::{explain_absent_file, explain_long_file};
+use json_faults::explain_no_json;
 use key_ring::{KeyRing, KeyTerm};
 use node_config::{ConfigFault, NodeConfig};
 use plain_notes::{Notes, Sentence};
 use std::alloc::Global;
-
-const NO_JSON: &[u8] = b" isn't JSON; a node's configuration is an object";
 
 /// The reply that tells the node of the configuration file of that name, or its first fault.
 pub(crate) fn check_config<D: Store>(
@@ -81,7 +81,8 @@ fn config_text(
         File::Whole(text) => match read_tree(alloc, text.as_slice()) {
             Ok(tree) => Ok(Some(ConfigText { text, tree })),
             Err(TreeFault::Syntax) => {
-                notes.say(Sentence::of(alloc, name.as_slice()).and(NO_JSON));
+                let about = Sentence::of(alloc, name.as_slice());
+                explain_no_json(alloc, about, text.as_slice(), notes);
                 Ok(None)
             }
             Err(TreeFault::Memory) => Err(Memory),
@@ -113,24 +114,18 @@ fn settings_reply<D: Store>(
             reply
         }
         Err(ConfigFault::Shape(member)) => {
-            Ok(refused_member(alloc, name, &member, b" Shape", notes)?)
+            explain_config(alloc, name, &source.tree, notes);
+            Ok(refused_member(alloc, &member, b" Shape")?)
         }
         Err(ConfigFault::Memory) => Err(Stop::Memory),
     }
 }
 
 // The refusal of a member.
-fn refused_member(
-    alloc: Global,
-    name: &Text,
-    member: &Text,
-    fault: &[u8],
-    notes: &mut Notes,
-) -> Result<Reply, Memory>
+fn refused_member(alloc: Global, member: &Text, fault: &[u8]) -> Result<Reply, Memory>
     ensures reply { IfOk result (λ reply. reply ≡ refused (member.now ++ fault.now)) }
     ensures small { IfOk result (λ reply. reply.status ≤ 2) }
 {
-    explain_member(alloc, name, member, notes);
     let mut words = Text::of(alloc, member.as_slice())?;
     words.append(fault)?;
     refused(alloc, words.as_slice())
@@ -226,7 +221,10 @@ fn node_reply(
                 notes,
             )
         }
-        Err(ConfigFault::Shape(member)) => refused_member(alloc, name, &member, b" TooLong", notes),
+        Err(ConfigFault::Shape(member)) => {
+            explain_length(alloc, name, &source.tree, &member, notes);
+            refused_member(alloc, &member, b" TooLong")
+        }
         Err(ConfigFault::Memory) => Err(Memory),
     }
 }
@@ -288,16 +286,6 @@ fn warned_status(strict: bool, warned: &[Warning]) -> u8
     ensures small { result ≤ 1 }
 {
     if strict && is_warned(warned) { 1 } else { 0 }
-}
-
-// Says which member is at fault.
-fn explain_member(alloc: Global, name: &Text, member: &Text, notes: &mut Notes) {
-    notes.say(
-        Sentence::of(alloc, name.as_slice())
-            .and(b": ")
-            .and(member.as_slice())
-            .and(b" isn't as fed-config(5) says of this member"),
-    );
 }
 
 // Says which trust mark is none of the node's.

@@ -7,6 +7,7 @@ ghost use Rattle.cli_commands.specs.Runs.{views, world};
 ghost use Rattle.cli_inspect.specs.Inspections.{IsInspected, IsPublicReply, Inspects, reads_clock, reads_file, reads_input};
 ghost use Rattle.fed_ports.specs.Times.{IsOneReading};
 
+use crate::checked_reply::check_reply;
 use crate::checking::Checking;
 use crate::config::check_config;
 use crate::output::write_line;
@@ -15,7 +16,7 @@ use crate::shown::show_input;
 use cli_commands::{Stop, load_file, stopped};
 use cli_rings::{Reply, explain_no_ring, open_ring, plain};
 use cli_words::{Inspection, Moment, moment_or};
-use fed_ports::{Clock, Sink, Source, Store, Text};
+use fed_ports::{Clock, OpensLedgers, Sink, Source, Store, Text};
 use plain_notes::{Notes, warn_of_moment};
 use std::alloc::Global;
 
@@ -24,14 +25,15 @@ use std::alloc::Global;
 /// | Status | Comes | Written |
 /// |---|---|---|
 /// | 0 | it is shown | what is shown |
-/// | 1 | there is no such key, a text isn't what it says, or the configuration has a fault | `refused ..`, behind what is shown |
+/// | 1 | there is no such key, a text isn't what it says, a configuration or a reply is at fault | `refused ..`, last |
 /// | 1 | something is warned of the node, and the check is strict | what is shown |
 /// | 2 | the input or the named file isn't of its form, is too long, or isn't there | `input` |
 /// | 3 | the source failed | nothing |
 /// | 4 | the sink failed | a beginning of the text |
 /// | 5 | memory was wanting | nothing |
 /// | 6 | the store failed | nothing |
-pub fn inspect<S: Source, K: Sink, D: Store, C: Clock>(
+pub fn inspect<R: OpensLedgers, S: Source, K: Sink, D: Store, C: Clock>(
+    rt: &R,
     alloc: Global,
     inspection: &Inspection,
     input: &mut S,
@@ -44,14 +46,15 @@ pub fn inspect<S: Source, K: Sink, D: Store, C: Clock>(
         (world (views S.Source K.Sink D.Store C.Clock) input.new out.new store.new clock.new) result }
 {
     let moment = moment_for(inspection, clock);
-    match reply_to(alloc, inspection, moment, input, store, notes) {
+    match reply_to(rt, alloc, inspection, moment, input, store, notes) {
         Ok(reply) => write_line(alloc, reply.status, reply.text.as_slice(), out, notes),
         Err(stop) => stopped(alloc, stop, notes),
     }
 }
 
 // The reply of the inspection, at a moment in seconds since 1970.
-fn reply_to<S: Source, D: Store>(
+fn reply_to<R: OpensLedgers, S: Source, D: Store>(
+    rt: &R,
     alloc: Global,
     inspection: &Inspection,
     moment: u64,
@@ -71,7 +74,7 @@ fn reply_to<S: Source, D: Store>(
 {
     match inspection {
         Inspection::Public { ring_file, kid } => show_ring(alloc, ring_file, kid, store, notes),
-        Inspection::Show => show_input(alloc, input, notes),
+        Inspection::Show { claims } => show_input(alloc, *claims, input, notes),
         Inspection::Config {
             config_file,
             at,
@@ -86,6 +89,18 @@ fn reply_to<S: Source, D: Store>(
             check_config(alloc, config_file, checking, store, notes)
         }
         Inspection::Help(verb) => Ok(plain(alloc, 0, verb.page())?),
+        Inspection::Reply(asked) => {
+            warn_of_at(alloc, asked.at, notes);
+            check_reply(
+                rt,
+                alloc,
+                asked,
+                moment_or(asked.at, moment),
+                input,
+                store,
+                notes,
+            )
+        }
     }
 }
 
@@ -128,6 +143,7 @@ fn moment_for<C: Clock>(inspection: &Inspection, clock: &mut C) -> u64
 {
     match inspection {
         Inspection::Config { at: None, .. } => clock.now(),
+        Inspection::Reply(asked) => if asked.at.is_none() { clock.now() } else { 0 },
         _ => 0,
     }
 }

@@ -29,7 +29,7 @@ pub(crate) fn names_input(word: &[u8]) -> bool {
 }
 
 // What other programs call an option.
-const CALLED: [(&str, OptionName); 54] = [
+const CALLED: [(&str, OptionName); 58] = [
     ("--trust-anchor", OptionName::Anchor),
     ("--trust_anchor", OptionName::Anchor),
     ("--trustanchor", OptionName::Anchor),
@@ -59,6 +59,7 @@ const CALLED: [(&str, OptionName); 54] = [
     ("--keyset", OptionName::Keys),
     ("--public-key", OptionName::Keys),
     ("--anchor-keys", OptionName::Keys),
+    ("--resolver-keys", OptionName::Keys),
     ("--type", OptionName::Typ),
     ("--token-type", OptionName::Typ),
     ("--expires", OptionName::Exp),
@@ -84,6 +85,9 @@ const CALLED: [(&str, OptionName); 54] = [
     ("--keep-alive", OptionName::Stream),
     ("--keepalive", OptionName::Stream),
     ("--action", OptionName::Act),
+    ("--json", OptionName::Claims),
+    ("--format", OptionName::Claims),
+    ("--payload", OptionName::Claims),
 ];
 
 // What is done here in place of an option of other programs.

@@ -141,10 +141,11 @@ fn parted(word: &[u8]) -> (&[u8], Option<&[u8]>) {
     }
 }
 
-// The option of the command that is meant by a word that no command has as an option.
+// The option of the command that is meant by a word. One that is an option of another command is meant as such, unless other programs have
+// it for one of this command's.
 fn meant_by(usage: &Usage, word: &[u8]) -> Option<OptionName> {
     if USAGES.iter().any(|other| option_of(other, word).is_some()) {
-        return None;
+        return option_called(usage, word);
     }
     let like = usage.needed.iter().find(|name| is_like(word, name.word()));
     match like {

@@ -21,7 +21,10 @@ pub fn explain_waiting(alloc: Global, words: &[Text], notes: &mut Notes) {
 fn wanted_after(alloc: Global, words: &[Text]) -> &'static [u8] {
     match read_call(alloc, words) {
         Ok(Call::Command(command)) => wanted_by(&command),
-        Ok(Call::Inspection(Inspection::Show)) => b"a signed text, a chain or a key set",
+        Ok(Call::Inspection(Inspection::Show { claims: false })) =>
+            b"a signed text, a chain or a key set",
+        Ok(Call::Inspection(Inspection::Show { claims: true })) => b"a signed text",
+        Ok(Call::Inspection(Inspection::Reply(_))) => b"a resolver's reply, a signed text,",
         Ok(Call::Registration(_)) => b"an entity configuration or a chain",
         Ok(Call::Inspection(_) | Call::Service(_)) | Err(_) => b"",
     }

@@ -1,3 +1,4 @@
+pub mod Claims
 pub mod Faults
 pub mod Findings
 pub mod Indented

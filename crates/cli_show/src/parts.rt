@@ -64,6 +64,14 @@ fn read_part(alloc: Global, bytes: &[u8]) -> Result<Option<Json>, Memory>
     }
 }
 
+/// The second part between full stops; one that isn't there is empty.
+pub(crate) fn second_part(text: &[u8]) -> &[u8]
+    ensures { result.now ≡ part text.now 1 }
+{
+    let (_, claims) = two_parts(text);
+    claims
+}
+
 // The first two parts between full stops; one that isn't there is empty.
 fn two_parts(text: &[u8]) -> (&[u8], &[u8])
     ensures first { result.0.now ≡ part text.now 0 }

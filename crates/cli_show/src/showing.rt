@@ -10,11 +10,12 @@ use crate::chain::chain_view;
 use crate::finding::text_found;
 use crate::key_set::set_view;
 use crate::lines::append_unverified;
-use crate::notes::{explain_chain, explain_other, explain_set, explain_text};
+use crate::notes::{explain_chain, explain_text};
 use crate::parts::append_sections;
 use crate::view::View;
 use fed_base::{Memory, Text};
 use fed_json::{Json, TreeFault, copied_texts, read_tree};
+use file_notes::{explain_keys_input, explain_no_list};
 use plain_notes::Notes;
 use std::alloc::Global;
 
@@ -56,7 +57,7 @@ fn show_set(alloc: Global, tree: &Json, input: &[u8], notes: &mut Notes) -> Resu
 {
     let view = set_view(alloc, tree)?;
     if view.refused {
-        explain_set(alloc, input, notes);
+        explain_keys_input(alloc, input, notes);
     }
     Ok(view)
 }
@@ -78,7 +79,7 @@ fn show_list(
             Ok(Some(view))
         }
         None => {
-            explain_other(alloc, input, notes);
+            explain_no_list(alloc, input, notes);
             Ok(None)
         }
     }

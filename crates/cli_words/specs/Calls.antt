@@ -4,7 +4,7 @@ use Rattle.cli_help.specs.Verbs.{verb_of}
 use Rattle.cli_help.specs.declared.verb.Verb.{Verb}
 use Rattle.cli_help.specs.declared.verb.Verb.TheVariants as verb
 use Rattle.cli_words.specs.Commands.{check_of, flag_of, issue_of, keygen_of, rotate_of, verify_of}
-use Rattle.cli_words.specs.Inspections.{config_of, help_of, public_of, show_of}
+use Rattle.cli_words.specs.Inspections.{config_of, help_of, public_of, reply_check_of, show_of}
 use Rattle.cli_words.specs.Registrations.{registration_in}
 use Rattle.cli_words.specs.Rehearsals.{rehearsal_of}
 use Rattle.cli_words.specs.Services.{authority_of, resolve_of, resolver_of}
@@ -44,6 +44,7 @@ call_by verb.Check words = call.Command (check_of words)
 call_by verb.Public words = shown (public_of words)
 call_by verb.Show words = shown (show_of words)
 call_by verb.CheckConfig words = shown (config_of words)
+call_by verb.CheckReply words = shown (reply_check_of words)
 call_by verb.Help words = shown (help_of words)
 call_by verb.Authority words = served (authority_of words)
 call_by verb.Resolver words = served (resolver_of words)

@@ -6,7 +6,9 @@ ghost use Rattle.cli_words.specs.Calls.{call_by, call_of, registered, served, sh
 use crate::command::{
     Command, read_check, read_flag, read_issue, read_keygen, read_rotate, read_verify,
 };
-use crate::inspection::{Inspection, read_config, read_help, read_public, read_show};
+use crate::inspection::{
+    Inspection, read_config, read_help, read_public, read_reply_check, read_show,
+};
 use crate::registration::{Registration, read_registration};
 use crate::service::{Service, read_authority, read_rehearsal, read_resolve, read_resolver};
 use cli_help::Verb;
@@ -54,6 +56,7 @@ fn read_behind(alloc: Global, verb: Verb, rest: &[Text]) -> Result<Call, Memory>
         Verb::Public => Ok(shown(read_public(alloc, rest)?)),
         Verb::Show => Ok(shown(read_show(rest))),
         Verb::CheckConfig => Ok(shown(read_config(alloc, rest)?)),
+        Verb::CheckReply => Ok(shown(read_reply_check(alloc, rest)?)),
         Verb::Help => Ok(shown(read_help(rest))),
         Verb::Authority => Ok(served(read_authority(alloc, rest)?)),
         Verb::Resolver => Ok(served(read_resolver(alloc, rest)?)),

@@ -23,7 +23,7 @@ pub use act::Act;
 pub use algorithm::alg_of;
 pub use call::{Call, read_call};
 pub use command::{Command, WORKERS};
-pub use inspection::Inspection;
+pub use inspection::{Inspection, ReplyAsked};
 pub use moment::{Moment, moment_or};
 pub use options::{count_of, moment_of, option_in};
 pub use registration::Registration;

@@ -5,11 +5,12 @@
 //! [`run_with_notes`] does the same, and hands what a person is to read of it to one more sink.
 //!
 //! `main` makes the real outside, calls [`run_with_notes`], and ends with its status. What a person reads goes to standard error, unless
-//! the environment has `FED_QUIET=1`. A service listens on 127.0.0.1, or on the IPv4 address in `FED_LISTEN`, and each connection leaves a
-//! line on standard error, unless the environment has `FED_LOG=off`, `no` or `0`. What one call fetches takes 30 seconds in all, or as
-//! many as the environment has in `FED_FETCH_SECONDS`. Before a service `main` says what starts, and of a
-//! configuration that is checked or started that others can read its ring. Behind its version it writes the commit and the target that the
-//! script `fed` wrote behind the program's bytes.
+//! the environment has `FED_QUIET=1`. A service listens on 127.0.0.1, or on the IPv4 address in `FED_LISTEN`, or, where that is `socket`,
+//! on the socket that standard input is. Each answer leaves a line on standard error, of JSON where the environment has `FED_LOG=json`,
+//! and none where that is `off`, `no` or `0`. What one call fetches takes 30 seconds in all, or as many as the environment has in
+//! `FED_FETCH_SECONDS`. Before a service `main` says what starts, and behind it why it ends, and of a configuration that is checked or
+//! started that others can read its ring. Behind its version it writes the commit and the target that the script `fed` wrote behind the
+//! program's bytes.
 #![tactic(auto)]
 
 mod authority;
@@ -23,13 +24,15 @@ mod resolving;
 mod top;
 
 use cli_words::{Call, Service, read_call};
-use fed_net::{FETCH_SECONDS, RealNetwork, fetch_seconds};
+use fed_net::{FETCH_SECONDS, Log, RealNetwork, fetch_seconds, handed_over};
 use fed_ports::{Memory, RealClock, RealSink, RealSource, Seq, Text, listen_address};
 use fed_store::RealStore;
 use std::alloc::Global;
 use std::env;
 use std::env::{Env, VarError};
 use std::io::{ErrorKind, IsTerminal};
+use std::net::TcpListener;
+use std::os::fd::AsFd;
 use std::process::ExitCode;
 use system_notes::{
     FAULTY, ended, tell_of_address, tell_of_fetch_time, tell_of_node, tell_of_waiting, with_build,
@@ -58,14 +61,44 @@ fn is_quiet<R: Env + AllocGlobal>(rt: &R) -> bool {
     env::var(rt, "FED_QUIET").is_ok_and(|value| value.as_str() == "1")
 }
 
-// Whether each connection leaves a line on standard error.
-fn is_logged<R: Env + AllocGlobal>(rt: &R) -> bool {
-    !env::var(rt, "FED_LOG").is_ok_and(|value| matches!(value.as_str(), "off" | "no" | "0"))
+// What line each answer leaves on standard error.
+fn log<R: Env + AllocGlobal>(rt: &R) -> Log {
+    match env::var(rt, "FED_LOG") {
+        Ok(value) => match value.as_str() {
+            "off" | "no" | "0" => Log::Off,
+            "json" => Log::Json,
+            _ => Log::Lines,
+        },
+        Err(_) => Log::Lines,
+    }
 }
 
-// The four numbers of the address on which a service listens, or `None` where the environment names another.
-fn address<R: Env + AllocGlobal>(rt: &R) -> Result<Option<[u8; 4]>, Memory> {
+// The socket that is handed over on that input, with the four numbers of its address, where a service is to listen on it.
+fn handed<R: Env + AllocGlobal, F: AsFd>(rt: &R, input: &F) -> Option<(TcpListener, [u8; 4])> {
     match env::var(rt, "FED_LISTEN") {
+        Ok(value) if value.as_str() == "socket" => handed_over(input),
+        _ => None,
+    }
+}
+
+// The four numbers of the address of a socket that was handed over.
+fn address_of(handed: &Option<(TcpListener, [u8; 4])>) -> Option<[u8; 4]> {
+    match handed {
+        Some(found) => {
+            let ip = found.1;
+            Some(ip)
+        }
+        None => None,
+    }
+}
+
+// The four numbers of the address on which a service listens, or `None` where the environment names nothing that it could listen on.
+fn address<R: Env + AllocGlobal>(
+    rt: &R,
+    handed: &Option<(TcpListener, [u8; 4])>,
+) -> Result<Option<[u8; 4]>, Memory> {
+    match env::var(rt, "FED_LISTEN") {
+        Ok(value) if value.as_str() == "socket" => Ok(address_of(handed)),
         Ok(value) => Ok(listen_address(value.as_bytes())),
         Err(VarError::NotPresent) => Ok(Some([127, 0, 0, 1])),
         Err(VarError::NotUnicode) => Ok(None),
@@ -105,7 +138,8 @@ fn main(rt: HostRuntime) -> ExitCode {
     let Ok(words) = words(&rt) else {
         return ExitCode::from(5);
     };
-    let Ok(address) = address(&rt) else {
+    let handed = handed(&rt, &rt.stdin());
+    let Ok(address) = address(&rt, &handed) else {
         return ExitCode::from(5);
     };
     if address.is_none() && serves(alloc, words.as_slice()) {
@@ -123,13 +157,12 @@ fn main(rt: HostRuntime) -> ExitCode {
         }
         return ExitCode::from(FAULTY);
     }
-    let mut net = RealNetwork::new(
-        &rt,
-        alloc,
-        address.unwrap_or([127, 0, 0, 1]),
-        is_logged(&rt),
-    );
+    let ip = address.unwrap_or([127, 0, 0, 1]);
+    let mut net = RealNetwork::new(&rt, alloc, ip, log(&rt));
     net.set_fetch_seconds(fetch_time.unwrap_or(FETCH_SECONDS));
+    if let Some(found) = handed {
+        net.set_listener(found.0);
+    }
     let mut input = RealSource::new(rt.stdin());
     let mut out = RealSink::new(rt.stdout());
     let mut store = RealStore::new(&rt);
@@ -155,12 +188,7 @@ fn main(rt: HostRuntime) -> ExitCode {
     if rt.stdin().is_terminal() {
         tell_of_waiting(&rt, alloc, words.as_slice());
     }
-    tell_of_node(
-        &rt,
-        alloc,
-        words.as_slice(),
-        address.unwrap_or([127, 0, 0, 1]),
-    );
+    let node = tell_of_node(&rt, alloc, words.as_slice(), ip);
     let mut said = RealSink::new(rt.stderr());
     let status = run_with_notes(
         &rt,
@@ -176,5 +204,13 @@ fn main(rt: HostRuntime) -> ExitCode {
         &mut said,
     );
     let failures = *net.failures();
-    ExitCode::from(ended(&rt, alloc, words.as_slice(), &failures, &mut out, status))
+    ExitCode::from(ended(
+        &rt,
+        alloc,
+        words.as_slice(),
+        &node,
+        &failures,
+        &mut out,
+        status,
+    ))
 }

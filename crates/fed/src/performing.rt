@@ -82,7 +82,7 @@ where
                 net: _,
                 clock,
             } = ports;
-            let status = inspect(alloc, &inspection, input, out, store, clock, notes);
+            let status = inspect(rt, alloc, &inspection, input, out, store, clock, notes);
             drop(inspection);
             status
         }

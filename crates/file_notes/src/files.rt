@@ -42,6 +42,13 @@ pub fn explain_keys_file(alloc: Global, name: &Text, file: &[u8], notes: &mut No
     }
 }
 
+/// Says why standard input isn't that of a key set.
+pub fn explain_keys_input(alloc: Global, input: &[u8], notes: &mut Notes) {
+    if let Ok(name) = Text::of(alloc, b"standard input") {
+        explain_keys_file(alloc, &name, input, notes);
+    }
+}
+
 /// Says why the file isn't that of a ring.
 pub fn explain_ring_file(alloc: Global, name: &Text, fault: &FileFault, notes: &mut Notes) {
     match fault {

@@ -1,7 +1,7 @@
 // Standard input out of form.
 
 use crate::files::syntax_fault;
-use fed_json::{Json, TreeFault, is_whole, object_members};
+use fed_json::{Json, TreeFault, is_whole, object_members, read_tree};
 use plain_notes::{Notes, Sentence};
 use ring_faults::SeedsFault;
 use statement_notes::kind_of;
@@ -71,6 +71,12 @@ pub fn explain_unless_object(
         Err(TreeFault::Syntax) => explain_syntax(alloc, input, notes),
         Err(TreeFault::Memory) => {},
     }
+}
+
+/// Says why the input isn't a list of texts, where it isn't.
+pub fn explain_no_list(alloc: Global, input: &[u8], notes: &mut Notes) {
+    let read = read_tree(alloc, input);
+    explain_unless_list(alloc, input, &read, notes);
 }
 
 /// Says why the input, which was read so, isn't a list of texts, where it isn't.

@@ -1,0 +1,4 @@
+pub mod Marks
+pub mod Readings
+pub mod Stages
+pub mod Verdicts
