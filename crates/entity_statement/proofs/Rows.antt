@@ -58,9 +58,9 @@ common_rows members c e =
     let same : made ≡ c = cc (keys.2) in
     subst (CommonRows members) same (record { crit_is = crit.1; iss_is = iss.1; sub_is = sub.1; iat_is = iat.1; exp_is = exp.1; keys_is = keys.1 })
 
-rows_rule : (own : Bool) (members : List Member) (r : RuleClaims) → rules_in own members ≡ Ok r → RuleRows own members r
+rule_rows : (own : Bool) (members : List Member) (r : RuleClaims) → rules_in own members ≡ Ok r → RuleRows own members r
 unfolding rules_in
-rows_rule own members r e =
+rule_rows own members r e =
     let policy = then-ok (policy_in own members) _ r e in
     let crit = then-ok (policy_crit_in own members) _ r policy.2 in
     let constraints = then-ok (constraints_in own members) _ r crit.2 in
@@ -68,9 +68,9 @@ rows_rule own members r e =
     let same : made ≡ r = cc (constraints.2) in
     subst (RuleRows own members) same (record { policy_is = policy.1; crit_is = crit.1; constraints_is = constraints.1 })
 
-rows_mark : (own : Bool) (members : List Member) (m : MarkClaims) → mark_claims_in own members ≡ Ok m → MarkRows own members m
+mark_rows : (own : Bool) (members : List Member) (m : MarkClaims) → mark_claims_in own members ≡ Ok m → MarkRows own members m
 unfolding mark_claims_in
-rows_mark own members m e =
+mark_rows own members m e =
     let marks = then-ok (marks_in own members) _ m e in
     let issuers = then-ok (mark_issuers_in own members) _ m marks.2 in
     let owners = then-ok (mark_owners_in own members) _ m issuers.2 in
@@ -90,8 +90,8 @@ rows members s e =
     let rules = then-ok (rules_in own members) _ further.0 metadata.2 in
     let marks = then-ok (mark_claims_in own members) _ further.0 rules.2 in
     let c = common_rows members common.0 common.1 in
-    let r = rows_rule own members rules.0 rules.1 in
-    let m = rows_mark own members marks.0 marks.1 in
+    let r = rule_rows own members rules.0 rules.1 in
+    let m = mark_rows own members marks.0 marks.1 in
     let parts : FurtherClaims = record { hints = hints.0; metadata = metadata.0; rules = rules.0; marks = marks.0 } in
     let these : parts ≡ further.0 = cc (marks.2) in
     let those : all_claims common.0 further.0 ≡ s = cc (further.2) in

@@ -82,8 +82,8 @@ step-sealed old (Look url moment) Miss new all sealed (none, is) = (tt, subst Al
 step-sealed old (Look url moment) Memory new all sealed is = (tt, subst AllSealed (sym is) all)
 step-sealed old (Put url text until) Done new all sealed is = (tt, subst AllSealed (sym is) (put-sealed url text until old all))
 step-sealed old (Put url text until) Memory new all sealed is = (tt, subst AllSealed (sym is) all)
-step-sealed old (Prove url seal) Done new all sealed (e, holds, is) = (tt, subst AllSealed (sym is) (prove-sealed url seal e old all holds.0 holds.1 sealed))
-step-sealed old (Prove url seal) Gone new all sealed (none, is) = (tt, subst AllSealed (sym is) all)
+step-sealed old (Prove url seal) Done new all sealed (e, holds, is, verifies) = (tt, subst AllSealed (sym is) (prove-sealed url seal e old all holds.0 holds.1 sealed))
+step-sealed old (Prove url seal) Gone new all sealed (none, is, verifies) = (tt, subst AllSealed (sym is) all)
 step-sealed old (Purge moment) (Dropped n) new all sealed purged = (tt, λ u x h. all u x (ap (entry_at u) purged.split ∙ entry_at-append u new purged.gone x h))
 step-sealed old call reply new all sealed step = absurd step
 

@@ -45,7 +45,7 @@ chosen-sealed true call answer sealed = sealed
 chosen-sealed false call answer sealed = tt
 
 call-sealed : (p : ℕ) (h : Happening) → IsHonest h → IfSome (shelf_call p h) (λ (e : ShelfCall × ShelfReply). ProvesSealed e.0)
-call-sealed p (on_shelf session part call answer) honest = chosen-sealed (nat_eq part p) call answer honest.1
+call-sealed p (on_shelf session part call answer) honest = chosen-sealed (nat_eq part p) call answer honest
 call-sealed p (on_book session call answer) honest = tt
 call-sealed p (gets session url page) honest = tt
 call-sealed p (tests session pair good) honest = tt

@@ -1,5 +1,5 @@
 -- Any number of sessions on one cache and one book, in any order, and what each reply of theirs stands on.
-use Rattle.std.specs.Prelude.{◌≡◌, ◌≢◌, ◌<◌, ◌⊎◌, ◌+◌, ℕ, List, [], ◌∷◌, ◌++◌, length, AllPairs, nat_eq, MatchBool, Bool, true, slice_index_or, Option, Some, None, if◌then◌else◌}
+use Rattle.std.specs.Prelude.{◌≡◌, ◌≢◌, ◌⊎◌, ◌+◌, ℕ, List, [], ◌∷◌, ◌++◌, length, AllPairs, nat_eq, MatchBool, Bool, true, slice_index_or, Option, Some, None, if◌then◌else◌}
 use Rattle.std.specs.List.{filter_map}
 use Rattle.fed_base.specs.Places.{HoldsBelow}
 use Rattle.fed_ports.specs.declared.page.Page.{Page}
@@ -19,7 +19,7 @@ use Rattle.statement_shelf.specs.declared.calls.BookCall.{BookCall}
 use Rattle.statement_shelf.specs.declared.calls.BookCall.TheVariants.{Read}
 use Rattle.statement_shelf.specs.declared.calls.BookReply.{BookReply}
 use Rattle.statement_shelf.specs.declared.calls.BookReply.TheVariants.{Keys}
-use Rattle.statement_shelf.specs.Entries.{part_count, part_of}
+use Rattle.statement_shelf.specs.Entries.{part_of}
 use Rattle.statement_shelf.specs.Shelf.{ShelfStep}
 use Rattle.statement_shelf.specs.Book.{BookStep, opened_with}
 use Rattle.statement_shelf.specs.Laws.{standing_keys}
@@ -62,13 +62,6 @@ shelf_calls p happenings = filter_map (shelf_call p) happenings
 abbrev pub book_calls : List Happening → List (BookCall × BookReply)
 book_calls happenings = filter_map book_call happenings
 
--- a call with a URL is made on the URL's part; a Purge on each
-abbrev pub IsAtPart : ℕ → ShelfCall → Type 0
-IsAtPart part (Look url moment) = part ≡ part_of url
-IsAtPart part (Put url text until) = part ≡ part_of url
-IsAtPart part (Prove url seal) = part ≡ part_of url
-IsAtPart part (Purge moment) = part < part_count
-
 -- a Prove is made only with a pair that verifies
 abbrev pub ProvesSealed : ShelfCall → Type 0
 ProvesSealed (Look url moment) = Unit {0}
@@ -78,7 +71,7 @@ ProvesSealed (Purge moment) = Unit {0}
 
 -- and a test answers whether its pair does
 abbrev pub IsHonest : Happening → Type 0
-IsHonest (on_shelf session part call answer) = IsAtPart part call × ProvesSealed call
+IsHonest (on_shelf session part call answer) = ProvesSealed call
 IsHonest (on_book session call answer) = Unit {0}
 IsHonest (gets session url page) = Unit {0}
 IsHonest (tests session pair good) = MatchBool good (IsSealed pair) (IsUnsealed pair)

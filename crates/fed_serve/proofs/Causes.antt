@@ -31,7 +31,7 @@ use Rattle.fed_serve.specs.Responses.{dealt_response, issued_response, not_a_req
 use Rattle.fed_serve.specs.Rows.{Refuses}
 use Rattle.fed_serve.specs.Answering.{ComesWhere, IsMessage}
 use Rattle.fed_serve.specs.Steps.{IsMade}
-use Rattle.fed_serve.proofs.Rows.{key_rows, other_sign, other_status, rows_resolve}
+use Rattle.fed_serve.proofs.Rows.{key_rows, other_sign, other_status, resolve_rows}
 
 -- ---- what came is one thing
 
@@ -190,7 +190,7 @@ resolving node came resolution outcome r wants is = record {
   bad_request = λ refuses. absurd (not_invalid outcome.result r is refuses);
   refused = λ none. not_both (place_of node) came (asked.Resolution resolution) wants none;
   issued = λ a asks answered. no_resolution a resolution answered (one_wanted (place_of node) came a (asked.Resolution resolution) asks wants);
-  resolved = λ other asks. inr (outcome, ap (λ r'. resolved r' outcome) (same_resolution resolution other (one_wanted (place_of node) came _ _ wants asks)), rows_resolve outcome.result r is);
+  resolved = λ other asks. inr (outcome, ap (λ r'. resolved r' outcome) (same_resolution resolution other (one_wanted (place_of node) came _ _ wants asks)), resolve_rows outcome.result r is);
   dealt = λ change asks. no_change resolution change (one_wanted (place_of node) came _ _ wants asks);
 }
 

@@ -101,8 +101,8 @@ of_result (Err (Budget calls paths)) = record {
 of_result (Err (Worn count)) = tt
 of_result (Err Memory) = tt
 
-pub rows_resolve : (result : Result Reply Refusal) (response : Response) → resolve_response result ≡ Some response → ResolveRows result response
-rows_resolve result response is = subst (λ o. IfSome o (ResolveRows result)) is (of_result result)
+pub resolve_rows : (result : Result Reply Refusal) (response : Response) → resolve_response result ≡ Some response → ResolveRows result response
+resolve_rows result response is = subst (λ o. IfSome o (ResolveRows result)) is (of_result result)
 
 -- ---- and of a dealing
 

@@ -2,7 +2,7 @@
 use Rattle.std.proofs.Common.{◌≡◌, ◌≤◌, ℕ, suc, List, [], ◌∷◌, ◌++◌, length, map, option_map, true, false, Option, Some, None, Result, Ok, Err, inl, inr, refl, sym, ap, ◌∙◌, subst, append_assoc, append-nil, take, drop, arith}
 use Rattle.std.specs.Prelude.{All, IfOk, IfSome, OnOk}
 use Rattle.std.proofs.lemmas.List.{drop_all, take_all}
-use Rattle.std.proofs.lemmas.List.Elements.{All-append, All-cons, All-nil, All-tail}
+use Rattle.std.proofs.lemmas.List.Elements.{All-append, All-cons, All-head, All-nil, All-tail}
 use Rattle.fed_base.specs.declared.faults.Failed.{Failed}
 use Rattle.fed_base.specs.declared.ledger.Plain.{Plain}
 use Rattle.fed_ports.specs.Causes.{HasCause}
@@ -129,6 +129,9 @@ module _ {P L C G : Type 0} where
     settled = added_after (peers_of desk.peer) _ a.net.settled b.net.settled c.net.settled settled more.settled;
     joined = (b.known, joined, more.joined);
   }
+
+  pub done_first : (part : ResolverPart) (items : List (Desk P L C G)) (desk : Desk P L C G) (rest : List (Desk P L C G)) → items ≡ desk ∷ rest → All (IsDone part) items → IsDone part desk
+  done_first part items desk rest is all = All-head (IsDone part) desk rest (subst (λ (ds : List (Desk P L C G)). All (IsDone part) ds) is all)
 
   pub done_rest : (part : ResolverPart) (items : List (Desk P L C G)) (desk : Desk P L C G) (rest : List (Desk P L C G)) → items ≡ desk ∷ rest → All (IsDone part) items → All (IsDone part) rest
   done_rest part items desk rest is all = All-tail (IsDone part) desk rest (subst (λ (ds : List (Desk P L C G)). All (IsDone part) ds) is all)

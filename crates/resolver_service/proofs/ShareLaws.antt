@@ -8,7 +8,7 @@ use Rattle.http_plain.specs.declared.link.HttpLink.{HttpLink}
 use Rattle.turn_log.specs.Groups.{AreHalved, IsHistory, IsUntaken}
 use Rattle.turn_log.specs.Passes.{OwnsSeen, untaken, unused}
 use Rattle.turn_log.specs.Places.{IsIn}
-use Rattle.turn_log.specs.Runs.{Account}
+use Rattle.turn_log.specs.Runs.{Account, IsAccount}
 use Rattle.turn_log.specs.Shares.{IsWhole, added, all_of, halved}
 use Rattle.turn_log.specs.declared.view.Share.{Share}
 use Rattle.turn_log.proofs.Owning.{below_has}
@@ -20,7 +20,7 @@ use Rattle.resolve_call.specs.Alone.{HasSeenNothing}
 use Rattle.fed_serve.specs.declared.desk.Desk.{Desk}
 use Rattle.fed_serve.specs.Desks.{AreServedAt, IsServedAt}
 use Rattle.resolver_service.specs.Batches.{AreBatches, Batch, IsBatch, JoinedInTurn, Setup, Standing, at_desks, known_at}
-use Rattle.resolver_service.specs.Passes.{AreHalves, AreShared, HaveHalves, OwnsAllSeen, shares_on}
+use Rattle.resolver_service.specs.Passes.{AreHalves, AreShared, HaveHalves, OwnsObject, OwnsObjects, shares_on}
 use Rattle.resolver_service.specs.Precedence.{AreMadeIn, IsMadeIn}
 use Rattle.resolver_service.proofs.OrderLaws.{IsObject, book_object, part_object, purges, serves_adds}
 
@@ -118,15 +118,18 @@ module _ {P N C X Q : Type 0} (s : Setup P N C) (on : CommonsKnown → Account X
 first_whole : {X Q : Type 0} (a : Account X Q) → a ≡ unused → IsWhole a.share
 first_whole {X} {Q} a is = subst (λ (b : Account X Q). IsWhole b.share) (sym is) refl
 
--- from a pass that had seen nothing and had all: each call that is seen at last is its own
+owns_object : {X Q : Type 0} (a : Account X Q) → IsAccount a → IsWhole a.share → OwnsObject a
+owns_object {X} {Q} a is whole = record { whole = whole; own = is.covered whole }
+
+-- from a pass that had seen nothing and had all: it has all again, and each call that is seen at last is its own
 pub owns_all : {P N C : Type 0} (s : Setup P N C) (before : Standing P) (batches : List (Batch P N C)) (now : Standing P) (book : Book) → HasSeenNothing before.progress.known → AreBatches s before batches now
-    → IsHistory ShelfStep [] BookStep book now.progress.known → OwnsAllSeen now.progress.known
+    → IsHistory ShelfStep [] BookStep book now.progress.known → OwnsObjects now.progress.known
 owns_all {P} {N} {C} s before batches now book unseen are history = record {
   parts = λ p within.
-      (history.parts_own p within).covered
+      owns_object (now.progress.known.part p) (history.parts_own p within)
       (batches_whole s (λ known. known.part p) (part_object p within) (λ b is. is.shared.parts p within) before batches now are (first_whole (before.progress.known.part p) (unseen.parts p)));
   book =
-      history.book_own.covered
+      owns_object now.progress.known.book history.book_own
       (batches_whole s (λ known. known.book) book_object (λ b is. is.shared.book) before batches now are (first_whole before.progress.known.book unseen.book));
 }
 
@@ -156,9 +159,9 @@ module _ {P N C X Q : Type 0} (s : Setup P N C) (on : CommonsKnown → Account X
       (subst (IsIn place) (sym owned) (below_has (length (on now.progress.known).seen) place less))
       (λ h. subst (λ (a : Account X Q). IsIn place a.mine) fresh h)
 
-pub made_all : {P N C : Type 0} (s : Setup P N C) (before : Standing P) (batches : List (Batch P N C)) (now : Standing P) → HasSeenNothing before.progress.known → AreBatches s before batches now → OwnsAllSeen now.progress.known
+pub made_all : {P N C : Type 0} (s : Setup P N C) (before : Standing P) (batches : List (Batch P N C)) (now : Standing P) → HasSeenNothing before.progress.known → AreBatches s before batches now → OwnsObjects now.progress.known
     → AreMadeIn batches now.progress.known
 made_all {P} {N} {C} s before batches now unseen are owned = record {
-  parts = λ p within place. owned_in s (λ known. known.part p) place before batches now are (unseen.parts p) (owned.parts p within);
-  book = λ place. owned_in s (λ known. known.book) place before batches now are unseen.book owned.book;
+  parts = λ p within place. owned_in s (λ known. known.part p) place before batches now are (unseen.parts p) (owned.parts p within).own;
+  book = λ place. owned_in s (λ known. known.book) place before batches now are unseen.book owned.book.own;
 }

@@ -22,7 +22,7 @@ use Rattle.resolver_service.specs.declared.ending.ResolverEnd.{ResolverEnd}
 use Rattle.resolver_service.specs.declared.ending.ResolverEnd.TheVariants as ends
 use Rattle.resolver_service.specs.Batches.{ServesAll, ServiceViews, Setup, Standing, setup, standing}
 use Rattle.resolver_service.specs.Nodes.{IsNodeWith}
-use Rattle.resolver_service.specs.Passes.{OwnsAllSeen}
+use Rattle.resolver_service.specs.Passes.{OwnsObjects}
 use Rattle.resolver_service.specs.Precedence.{AreMadeIn, StandsBefore}
 use Rattle.resolver_service.specs.Stopped.{BreaksOff, BreaksOffUnsettled, ServesSome, WantsIn, WearsIn}
 
@@ -68,9 +68,9 @@ module _ {P N C : Type 0} where
     -- on each shared object the calls of an earlier batch stand before those of a later one
     pub in_order : Ordered StandsBefore serves.0
     pub history : IsHistory ShelfStep [] BookStep (opened_with is_full.is.anchors) joined
-    -- each call that was made on a shared object is its own, and was made in one of the batches: no other pass is left that could have made
-    -- one
-    pub owned : OwnsAllSeen joined
+    -- it has all of each shared object again, so that no other pass has any of it; each call that was made there is its own, and was made
+    -- in one of the batches
+    pub owned : OwnsObjects joined
     pub made : AreMadeIn serves.0 joined
 
   -- how the batch stopped that was begun: the network failed, and all who were accepted were settled; or some of them were dropped; or

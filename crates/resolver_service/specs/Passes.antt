@@ -27,6 +27,11 @@ module _ {C R : Type 0} where
     pub one_half : one.share ≡ halved old.share
     pub other_half : other.share ≡ halved old.share
 
+  -- all of the object is held, and each call that was seen is the own
+  pub record OwnsObject (account : Account C R) : Type 0 where
+    pub whole : IsWhole account.share
+    pub own : OwnsSeen account
+
 -- of each shared object the same was seen, and no call is the own
 abbrev pub HasNoCalls : CommonsKnown → CommonsKnown → Type 0
 HasNoCalls old new = OnEach (λ X Q on. IsCallless (on old) (on new))
@@ -43,6 +48,6 @@ shares_on {X} {Q} on passes = all_of (map (λ (known : CommonsKnown). (on known)
 abbrev pub AreShared : CommonsKnown → List CommonsKnown → Type 0
 AreShared one passes = OnEach (λ X Q on. IsWhole (on one).share → IsWhole (shares_on on passes))
 
--- each call that the pass has seen of a shared object is its own
-abbrev pub OwnsAllSeen : CommonsKnown → Type 0
-OwnsAllSeen known = OnEach (λ X Q on. OwnsSeen (on known))
+-- the pass has all of each shared object, and each call that it has seen is its own
+abbrev pub OwnsObjects : CommonsKnown → Type 0
+OwnsObjects known = OnEach (λ X Q on. OwnsObject (on known))

@@ -5,7 +5,7 @@ use Rattle.std.specs.Map.{set_value}
 use Rattle.std.proofs.lemmas.List.{take_all}
 use Rattle.std.proofs.lemmas.Map.{length-set_value}
 use Rattle.std.proofs.lemmas.Map.Steps.{set_value_same}
-use Rattle.sealed.specs.Seals.{Pair}
+use Rattle.sealed.specs.Seals.{IsSealed, Pair}
 use Rattle.lru.specs.LruCache.{LruCache, promoted, put_entries}
 use Rattle.statement_shelf.specs.Entries.{Entry, Part, entry_at, without, put_first, unproved, with_key, max_entries}
 use Rattle.statement_shelf.specs.Shelf.{ShelfStep, Shows}
@@ -58,14 +58,16 @@ pub prove-fits : (url : List ℕ) (old : Part) (w : Entry) → length old ≤ ma
 prove-fits url old w size = subst (λ n. n ≤ max_entries) (sym (length-set_value (bytes_eq url) old w)) size
 
 pub prove-done : (url : List ℕ) (seal : Pair) (old new : Part) (e w : Entry) → entry_at url old ≡ Some e → e.text ≡ seal.text → w ≡ with_key seal.public e → new ≡ set_value (bytes_eq url) old w
-    → ShelfStep old (Prove url seal) Done new
-prove-done url seal old new e w found same wrote is = (e, (found, same), is ∙ ap (set_value (bytes_eq url) old) wrote)
+    → IsSealed seal → ShelfStep old (Prove url seal) Done new
+prove-done url seal old new e w found same wrote is sealed = (e, (found, same), is ∙ ap (set_value (bytes_eq url) old) wrote, sealed)
 
-pub prove-missing : (url : List ℕ) (seal : Pair) (old new : Part) → entry_at url old ≡ None → new ≡ old → ShelfStep old (Prove url seal) Gone new
-prove-missing url seal old new none is = (λ e holds. let both : Some e ≡ None = sym holds.0 ∙ none in cc, is)
+pub prove-missing : (url : List ℕ) (seal : Pair) (old new : Part) → entry_at url old ≡ None → new ≡ old → IsSealed seal → ShelfStep old (Prove url seal) Gone new
+prove-missing url seal old new none is sealed = (λ e holds. let both : Some e ≡ None = sym holds.0 ∙ none in cc, is, sealed)
 
-pub prove-other : (url : List ℕ) (seal : Pair) (old new : Part) (e : Entry) → entry_at url old ≡ Some e → (e.text ≡ seal.text → ⊥) → new ≡ set_value (bytes_eq url) old e → ShelfStep old (Prove url seal) Gone new
-prove-other url seal old new e found apart is = (
+pub prove-other : (url : List ℕ) (seal : Pair) (old new : Part) (e : Entry) → entry_at url old ≡ Some e → (e.text ≡ seal.text → ⊥) → new ≡ set_value (bytes_eq url) old e → IsSealed seal
+    → ShelfStep old (Prove url seal) Gone new
+prove-other url seal old new e found apart is sealed = (
   λ x holds. let both : Some x ≡ Some e = sym holds.0 ∙ found in let same : x ≡ e = cc in apart (ap (λ y. y.text) (sym same) ∙ holds.1),
   is ∙ set_value_same (bytes_eq url) old e found,
+  sealed,
 )

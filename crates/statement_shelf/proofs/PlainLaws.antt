@@ -43,6 +43,11 @@ module _ (url : List ℕ) where
   pub present : (part : Part) (i : ℕ) (d : List ℕ × Entry) → position is_here part ≡ Some i → (i < length part) × (entry_at url part ≡ Some (get_or part i d).1) × (remove part i ≡ without url part)
   present part i d h = let at = position-Some is_here part i d h in let is = some_at part i d at.0 at.1 at.2 in (at.0, is.0, is.1)
 
+  -- a place that was found is one of the items
+  pub plain-within : (part items : Part) (found : Option ℕ) (at : ℕ) → found ≡ position is_here part → found ≡ Some at → items ≡ part → at < length items
+  plain-within [] items found at is some same = let e = sym is ∙ some in cc
+  plain-within (p ∷ part) items found at is some same = let less = (present (p ∷ part) at p (sym is ∙ some)).0 in omega (arith, less, ap length same)
+
   pub rewritten : (part : Part) (i : ℕ) (d : List ℕ × Entry) (w : Entry) → position is_here part ≡ Some i → set part i ((get_or part i d).0, w) ≡ written url w part
   rewritten part i d w h = let at = position-Some is_here part i d h in set_at part i d w at.0 at.1 at.2
 

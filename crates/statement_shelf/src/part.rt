@@ -85,10 +85,11 @@ impl ShelfPart {
     fn prove(&mut self, url: Text, seal: Sealed) -> ShelfReply
         ensures { ShelfStep self.old (Prove url seal) result self.new }
     {
+        let text = seal.text().as_slice();
         let Some(entry) = self.entries.peek_mut(&Address::of(url)) else {
             return ShelfReply::Gone;
         };
-        if entry.text().as_slice() != seal.text().as_slice() {
+        if entry.text().as_slice() != text {
             return ShelfReply::Gone;
         }
         entry.prove(&seal);

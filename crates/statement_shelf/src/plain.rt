@@ -95,11 +95,12 @@ impl PlainPart {
     fn prove(&mut self, url: Text, seal: Sealed) -> ShelfReply
         ensures { ShelfStep self.old (Prove url seal) result self.new }
     {
+        let text = seal.text().as_slice();
         let Some(at) = self.place_of(&Address::of(url)) else {
             return ShelfReply::Gone;
         };
         let entry = &mut self.entries[at].1;
-        if entry.text().as_slice() != seal.text().as_slice() {
+        if entry.text().as_slice() != text {
             return ShelfReply::Gone;
         }
         entry.prove(&seal);

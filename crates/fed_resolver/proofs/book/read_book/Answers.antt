@@ -1,10 +1,10 @@
-use Rattle.std.proofs.Common.{List, [], ◌∷◌, ◌++◌, sym, ap, ◌∙◌}
+use Rattle.std.proofs.Common.{List, [], ◌∷◌, ◌++◌, sym, ap, rules, ◌∙◌}
 use Rattle.turn_log.specs.Groups.{known}
 use Rattle.statement_shelf.specs.declared.calls.BookCall.TheVariants.{Read}
 use Rattle.resolve_round.specs.declared.trace.Event.{Event}
 use Rattle.resolve_round.specs.declared.trace.Event.TheVariants.{Book}
 use Rattle.resolve_round.proofs.Lasts.{popped-last, put-last}
-use Rattle.fed_resolver.proofs.ReadLaws.{read-can, read-fresh, read-gains, unread-fresh, worn-gains}
+use Rattle.fed_resolver.proofs.ReadLaws.{read-can, read-fresh, read-gains, unread-fresh, unread-gains, worn-gains}
 use Rattle.fed_resolver.proofs.book.read_book.Goals as goal
 
 pub returns-in-Ok-clause-gains : goal.returns-in-Ok-clause-gains
@@ -43,3 +43,12 @@ pub returns-in-Err-clause-unread : goal.returns-in-Err-clause-unread
 returns-in-Err-clause-unread g c =
     let same = popped-last c.args.trace.now.events c.push.new.self c.pop.new.self _ c.pop.result c.in_ok-push.ensures.ok c.pop.ensures in
     ap (λ (es : List Event). record c.args.trace.now { events = es }) same
+
+pub returns-in_err-asked-clause-gains : goal.returns-in_err-asked-clause-gains
+returns-in_err-asked-clause-gains g c = unread-gains (known c.args.pass.now) c.args.trace.now.events c.requires.none
+
+pub returns-in_err-told-clause-gains : goal.returns-in_err-told-clause-gains
+returns-in_err-told-clause-gains g c = unread-gains (known c.args.pass.now) c.args.trace.now.events c.requires.none
+
+pub returns-in_err-push-clause-gains : goal.returns-in_err-push-clause-gains
+returns-in_err-push-clause-gains g c = unread-gains (known c.args.pass.now) c.push.new.self (search rules)

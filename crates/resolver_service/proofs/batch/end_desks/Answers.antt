@@ -1,9 +1,12 @@
 use Rattle.std.proofs.Common.{◌≡◌, [], sym, ◌∙◌}
 use Rattle.std.specs.Vec.Iter.{into_iter_items}
 use Rattle.std.proofs.lemmas.List.{nil_from_length}
-use Rattle.resolver_service.proofs.DeskLaws.{done_rest}
+use Rattle.resolver_service.proofs.DeskLaws.{done_first, done_rest}
 use Rattle.resolver_service.proofs.StopLaws.{ended_if_worn, ending_all, ending_next}
 use Rattle.resolver_service.proofs.batch.end_desks.Goals as goal
+
+pub end_desk-ended-requires-clause-done : goal.end_desk-ended-requires-clause-done
+end_desk-ended-requires-clause-done g c = λ lives within. done_first c.args.server.now.part.now _ c.in-Some.desk _ c.in-Some.ensures.steps.0 c.loop-desk.invariant.1
 
 pub loop-desk-preserved : goal.loop-desk-preserved
 loop-desk-preserved g c =
