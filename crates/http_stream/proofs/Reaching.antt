@@ -10,15 +10,19 @@ use Rattle.http_messages.specs.declared.inflow.Break.{Break}
 use Rattle.http_messages.specs.declared.inflow.Break.TheVariants.{Failed, Memory as Broke}
 use Rattle.http_messages.specs.declared.request.Incoming.{Incoming}
 use Rattle.http_messages.specs.Cuts.{IsCut, Needs}
-use Rattle.http_messages.specs.Flows.{Comes, Given, HeadComesOn, TakenFew}
+use Rattle.http_messages.specs.Flows.{Broken, Comes, Given, HeadBrokenOn, HeadComesOn, OnFailed, TakenFew}
 use Rattle.http_messages.specs.FlowLaws.{given_none, given_on, few_given_on}
 use Rattle.http_messages.specs.Heads.{head_end, head_limit}
 use Rattle.http_messages.specs.Requests.{EndsEarly, body_limit, request_limit}
-use Rattle.http_messages.proofs.Cutting.{early_head, enough, full_head}
+use Rattle.http_messages.proofs.Cutting.{begins_on, early_head, enough, full_head}
 use Rattle.http_messages.proofs.Ends.{found_more}
 use Rattle.http_messages.proofs.Sizes.{size_small}
 use Rattle.http_messages.proofs.Takings.{not_false}
-use Rattle.http_stream.specs.Cuttings.{BodyReached, CutsNext, Cutting, HasHead, HeadReached, IsAtEnd, fault_of}
+use Rattle.http_stream.specs.Cuttings.{BodyReached, BreaksEarly, CutsNext, Cutting, HasHead, HeadReached, IsAtEnd, fault_of}
+
+-- what a source says of a reading that failed: these bytes were taken, and the other side is as it was
+abbrev pub Fails : Option (List ℕ) → Option (List ℕ) → Option (List ℕ) × ℕ → Option (List ℕ) × ℕ → List ℕ → Type 0
+Fails a b s t x = Given a b x false × (t ≡ s)
 
 -- what the parts of a source say: these bytes came, and the other side is as it was
 abbrev pub Flow : Option (List ℕ) → Option (List ℕ) → Option (List ℕ) × ℕ → Option (List ℕ) × ℕ → List ℕ → Bool → Type 0
@@ -163,16 +167,67 @@ few_body a b d old mid new found h k = record {
   gave = (given_on a b d h.got k.got false (given_of a b h.got h.gave) (given_of b d k.got k.gave)).gave;
 }
 
-pub few_later : (a b d : Option (List ℕ)) (old mid : List ℕ) (found : Bool) → HeadReached a b old mid found → TakenFew b d (request_limit - length mid) → TakenFew a d request_limit
+few_later : (a b d : Option (List ℕ)) (old mid : List ℕ) (found : Bool) → HeadReached a b old mid found → TakenFew b d (request_limit - length mid) → TakenFew a d request_limit
 few_later a b d old mid found h t =
     let mids = ap length h.adds ∙ length-append old h.got in
     let first = h.few in
     few_given_on a b d h.got (request_limit - length mid) request_limit (given_of a b h.got h.gave) t (omega (arith, mids, first))
 
+-- where reading failed before a head was there, none is
+pub head_broken : (a b : Option (List ℕ)) (s t : Option (List ℕ) × ℕ) (before after : List ℕ) → HeadBrokenOn (Fails a b s t) before after → BreaksEarly a b before
+head_broken a b s t before after h = record {
+  got = h.0.got;
+  gave = h.0.broke.0.gave;
+  few = (let short = h.1 in omega (arith, short, ap length h.0.adds));
+  early = subst EndsEarly h.0.adds (inl (ap head_end (take_all head_limit after (let short = h.1 in omega (arith, short))) ∙ h.2, h.1));
+}
+
+-- bytes with a head that are fewer than are needed end early
+early_until : (x more : List ℕ) (len n : ℕ) → head_end (take head_limit x) ≡ Some len → Needs x n → length (x ++ more) < n → EndsEarly (x ++ more)
+early_until x more len n found (inl none) short = let e = sym found ∙ none.0 in cc
+early_until x more len n found (inr (inl need)) short = inr (record {
+  head = need.head;
+  begins = begins_on x more need.head need.begins;
+  parts = need.parts;
+  reads = need.reads;
+  size = need.size;
+  sized = need.sized;
+  short = (let all = need.all in omega (arith, short, all));
+})
+early_until x more len n found (inr (inr none)) short =
+    let bytes = ap length none.1.bytes in
+    let all = none.3 in
+    absurd (omega (arith, short, all, bytes, length-append none.0 none.1.rest, length-append x more))
+
+-- where reading failed before all that is needed was there
+pub body_broken : (a b : Option (List ℕ)) (s t : Option (List ℕ) × ℕ) (before after : List ℕ) (until : ℕ) → HasHead before → Needs before until → Broken (Fails a b s t) before after → length after < until → BreaksEarly a b before
+body_broken a b s t before after until has needs h short = record {
+  got = h.got;
+  gave = h.broke.0.gave;
+  few = (let few = needs_few before until needs in omega (arith, few, short, ap length h.adds));
+  early = early_until before h.got has.0 until has.1 needs (subst (λ y. length y < until) h.adds short);
+}
+
+-- the same behind a head that was reached
+broken_later : (a b d : Option (List ℕ)) (old mid : List ℕ) (found : Bool) → HeadReached a b old mid found → BreaksEarly b d mid → BreaksEarly a d old
+broken_later a b d old mid found h k =
+    let whole : mid ++ k.got ≡ old ++ (h.got ++ k.got) = ap (λ y. y ++ k.got) h.adds ∙ append_assoc old h.got k.got in
+    record {
+      got = h.got ++ k.got;
+      gave = (given_on a b d h.got k.got false (given_of a b h.got h.gave) (given_of b d k.got k.gave)).gave;
+      few = (let few = k.few in omega (arith, few, ap length whole));
+      early = subst EndsEarly whole k.early;
+    }
+
 -- a fault of reading, of those that a stream may have
-pub broke_cut : (a b : Option (List ℕ)) (old new : List ℕ) (fault : Break) → TakenFew a b request_limit → Cutting a b old new (Err (fault_of fault))
-broke_cut a b old new Failed few = few
-broke_cut a b old new Broke few = few
+pub broke_cut : (T : Type 0) (a b : Option (List ℕ)) (old new : List ℕ) (fault : Break) → TakenFew a b request_limit → OnFailed {T = T} (Err fault) (BreaksEarly a b old) → Cutting a b old new (Err (fault_of fault))
+broke_cut T a b old new Failed few early = early
+broke_cut T a b old new Broke few early = few
+
+pub broke_later : (T : Type 0) (a b d : Option (List ℕ)) (old mid new : List ℕ) (found : Bool) (fault : Break) → HeadReached a b old mid found → TakenFew b d (request_limit - length mid)
+    → OnFailed {T = T} (Err fault) (BreaksEarly b d mid) → Cutting a d old new (Err (fault_of fault))
+broke_later T a b d old mid new found Failed h few early = broken_later a b d old mid found h early
+broke_later T a b d old mid new found Broke h few early = few_later a b d old mid found h few
 
 pub few_until : (a b : Option (List ℕ)) (x : List ℕ) (until : ℕ) → Needs x until → TakenFew a b (until - length x) → TakenFew a b (request_limit - length x)
 few_until a b x until needs t = few_more a b (until - length x) (request_limit - length x) (let few = needs_few x until needs in omega (arith, few)) t

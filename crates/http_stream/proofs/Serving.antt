@@ -11,7 +11,6 @@ use Rattle.http_messages.specs.declared.request.Incoming.{Incoming}
 use Rattle.http_messages.specs.declared.request.Incoming.TheVariants.{Asked, NotARequest}
 use Rattle.http_messages.specs.declared.response.Response.{Response}
 use Rattle.http_messages.specs.Cuts.{IsCut, IsNoStreamRequest}
-use Rattle.http_messages.specs.Flows.{TakenFew}
 use Rattle.http_messages.specs.Heads.{head_end, head_limit}
 use Rattle.http_messages.specs.Requests.{EndsEarly, request_limit}
 use Rattle.http_messages.specs.Responses.{ResponseText, SaidText, out_of_memory}
@@ -152,7 +151,7 @@ module _ {S : Type 0} (step : S → Incoming → Response → S → Type 0) (giv
   -- how it ends behind them
   pub serves : (most left : ℕ) (before now after : StreamAt S) (unread behind reply rest : List ℕ) (k : ℕ) (result : Result ℕ StreamFault) (s : SoFar step most left (left - 1) before now unread)
       → after.left ≡ now.left → IfSome after.left (λ left. left ≡ behind) → Appends now.held after.held reply
-      → ((n : ℕ) → n + left ≡ most → Ends step gives_up n (point left (unread ++ behind) now.at s.said) result (point k rest after.at (s.said ++ reply)))
+      → ((n : ℕ) → n + left ≡ most → Ends step gives_up behind n (point left (unread ++ behind) now.at s.said) result (point k rest after.at (s.said ++ reply)))
       → ReadCause {T = ℕ} before.read_faults after.read_faults result → WriteCause {T = ℕ} before.write_faults after.write_faults result → Serves step gives_up most before after result
   serves most left before now after unread behind reply rest k result s same told held ends reads writes =
       let h = s.goes behind in
@@ -177,28 +176,24 @@ module _ {S : Type 0} (step : S → Incoming → Response → S → Type 0) (giv
   same_point : (left : ℕ) (bytes : List ℕ) (a b : S) (said : List ℕ) → b ≡ a → point left bytes b (said ++ []) ≡ point left bytes a said
   same_point left bytes a b said e = ap₂ (λ s t. point left bytes s t) e (append-nil said)
 
-  or_fault : (fault : StreamFault) → (fault ≡ ReadFault) ⊎ (fault ≡ Memory) → (p q : Point S) → q ≡ p → Faults step gives_up p fault q
-  or_fault ReadFault which p q same = same
-  or_fault WriteFault (inl e) p q same = cc
-  or_fault WriteFault (inr e) p q same = cc
-  or_fault Ended (inl e) p q same = cc
-  or_fault Ended (inr e) p q same = cc
-  or_fault Memory which p q same = inl same
-
   nothing_left : (a : Option (List ℕ)) → AtEnd a → IfSome a (λ rest. rest ≡ [])
   nothing_left None e = tt
   nothing_left (Some x) e = e
 
-  -- reading broke off
-  pub serves_fault : (most left : ℕ) (before now after : StreamAt S) (unread : List ℕ) (fault : StreamFault) → 1 ≤ left → SoFar step most left left before now unread
-      → (fault ≡ ReadFault) ⊎ (fault ≡ Memory) → (t : TakenFew now.left after.left request_limit) → after.held ≡ now.held → after.at ≡ now.at
+  -- reading broke off behind these bytes
+  pub serves_fault : (most left : ℕ) (before now after : StreamAt S) (unread got : List ℕ) (fault : StreamFault) → 1 ≤ left → SoFar step most left left before now unread
+      → Gave now.left got after.left → length got ≤ request_limit → after.held ≡ now.held → after.at ≡ now.at
+      → ((p q : Point S) → q ≡ p → p.bytes ≡ (unread ++ got) ++ behind_of after.left → Faults step gives_up (behind_of after.left) p fault q)
       → ReadCause {T = ℕ} before.read_faults after.read_faults (Err fault) → WriteCause {T = ℕ} before.write_faults after.write_faults (Err fault) → Serves step gives_up most before after (Err fault)
-  serves_fault most left before now after unread fault some s which t held at reads writes =
-      let read = so_read step most left before now after unread (unread ++ t.got) t.got some s t.gave held at refl t.few in
+  serves_fault most left before now after unread got fault some s gave few held at breaks reads writes =
+      let read = so_read step most left before now after unread (unread ++ got) got some s gave held at refl few in
       let behind = behind_of after.left in
-      serves most left before after after (unread ++ t.got) behind [] ((unread ++ t.got) ++ behind) left (Err fault) read refl (told_of after.left) (appends_none after.held)
-      (λ n is. or_fault fault which (point left ((unread ++ t.got) ++ behind) after.at read.said) (point left ((unread ++ t.got) ++ behind) after.at (read.said ++ [])) (same_point left ((unread ++ t.got) ++ behind) after.at after.at read.said refl))
+      serves most left before after after (unread ++ got) behind [] ((unread ++ got) ++ behind) left (Err fault) read refl (told_of after.left) (appends_none after.held)
+      (λ n is. breaks (point left ((unread ++ got) ++ behind) after.at read.said) (point left ((unread ++ got) ++ behind) after.at (read.said ++ [])) (same_point left ((unread ++ got) ++ behind) after.at after.at read.said refl) refl)
       reads writes
+
+  few_got : (old got : List ℕ) → length (old ++ got) ≤ request_limit → length got ≤ request_limit
+  few_got old got h = omega (arith, h, length-append old got)
 
   -- the bytes end behind a request
   pub serves_all : (most left m : ℕ) (before now : StreamAt S) (unread : List ℕ) → SoFar step most left (left - 1) before now unread → AtEnd now.left → unread ≡ [] → m ≡ most - left
@@ -292,8 +287,10 @@ module _ {S : Type 0} (step : S → Incoming → Response → S → Type 0) (giv
       → Cutting now.left after.left unread new (Err fault) → after.held ≡ now.held → after.at ≡ now.at → now.read_faults ≡ before.read_faults → ReadCause {T = Cut} now.read_faults after.read_faults (Err fault)
       → after.write_faults ≡ before.write_faults → Serves step gives_up most before after (Err fault)
   serves_cut most left before now after unread new ReadFault some s cut held at steady cause writes =
-      serves_fault most left before now after unread ReadFault some s (inl refl) cut held at (subst (λ n. (n ≤ after.read_faults) × Rose n after.read_faults) steady cause) writes
-  serves_cut most left before now after unread new Memory some s cut held at steady cause writes = serves_fault most left before now after unread Memory some s (inr refl) cut held at (cause ∙ steady) writes
+      serves_fault most left before now after unread cut.got ReadFault some s cut.gave (few_got unread cut.got cut.few) held at (λ p q same bytes. (same, record { got = unread ++ cut.got; bytes = bytes; early = cut.early }))
+      (subst (λ n. (n ≤ after.read_faults) × Rose n after.read_faults) steady cause) writes
+  serves_cut most left before now after unread new Memory some s cut held at steady cause writes =
+      serves_fault most left before now after unread cut.got Memory some s cut.gave cut.few held at (λ p q same bytes. inl same) (cause ∙ steady) writes
   serves_cut most left before now after unread new WriteFault some s cut held at steady cause writes = absurd cut
   serves_cut most left before now after unread new Ended some s cut held at steady cause writes = absurd cut
 

@@ -97,7 +97,7 @@ module _ {S : Type 0} (step : S → Incoming → Response → S → Type 0) wher
   ends_here (suc k) x some early has = (early, has)
 
 module _ {S : Type 0} (step : S → Incoming → Response → S → Type 0) (gives_up : S → Incoming → S → Type 0) where
-  requests_by : (most : ℕ) (before now : StreamAt S) (n : ℕ) (s : Serves step gives_up most before now (Ok n)) → Ends step gives_up (length s.answered) s.reached (Ok n) s.gone
+  requests_by : (most : ℕ) (before now : StreamAt S) (n : ℕ) (s : Serves step gives_up most before now (Ok n)) → Ends step gives_up s.behind (length s.answered) s.reached (Ok n) s.gone
       → (rs : List Incoming) × (length rs ≡ n) × IsWhole most (s.taken ++ s.behind) rs
   requests_by most before now n s (inl all) =
       (s.answered ++ [], ap length (append-nil s.answered) ∙ sym all.0, goes_whole step (point most (s.taken ++ s.behind) before.at []) s.reached s.answered [] s.goes (none_whole step s.reached.left s.reached.bytes all.2))

@@ -85,17 +85,24 @@ module _ {S : Type 0} (step : S → Incoming → Response → S → Type 0) (giv
     pub how : ((response : Response) × step p.at asked response q.at × (q.said ≡ p.said))
         ⊎ (gives_up p.at asked q.at × ((reply : List ℕ) × ResponseText reply out_of_memory × (q.said ≡ p.said ++ reply)))
 
+  -- reading failed: what was taken of the bytes behind the requests that were answered, up to those that weren't, ends early, so that no
+  -- request stood there yet
+  pub record FailsEarly (behind : List ℕ) (p : Point S) : Type 0 where
+    pub got : List ℕ
+    pub bytes : p.bytes ≡ got ++ behind
+    pub early : EndsEarly got
+
   -- how it breaks off behind the requests that were answered: with nothing more done where reading failed or the bytes end inside a request
-  abbrev pub Faults : Point S → StreamFault → Point S → Type 0
-  Faults p ReadFault q = q ≡ p
-  Faults p Ended q = (q ≡ p) × EndsEarly p.bytes × (0 < length p.bytes)
-  Faults p WriteFault q = (asked : Incoming) × Breaks p asked q
-  Faults p Memory q = (q ≡ p) ⊎ ((asked : Incoming) × Wants p asked q)
+  abbrev pub Faults : List ℕ → Point S → StreamFault → Point S → Type 0
+  Faults behind p ReadFault q = (q ≡ p) × FailsEarly behind p
+  Faults behind p Ended q = (q ≡ p) × EndsEarly p.bytes × (0 < length p.bytes)
+  Faults behind p WriteFault q = (asked : Incoming) × Breaks p asked q
+  Faults behind p Memory q = (q ≡ p) ⊎ ((asked : Incoming) × Wants p asked q)
 
   -- how it ends behind so many requests that were answered: the bytes end there, or one more was answered, the last; or it breaks off
-  abbrev pub Ends : ℕ → Point S → Result ℕ StreamFault → Point S → Type 0
-  Ends n p (Ok m) q = ((m ≡ n) × (q ≡ p) × (p.bytes ≡ [])) ⊎ ((m ≡ suc n) × ((asked : Incoming) × Answers step true p asked q))
-  Ends n p (Err fault) q = Faults p fault q
+  abbrev pub Ends : List ℕ → ℕ → Point S → Result ℕ StreamFault → Point S → Type 0
+  Ends behind n p (Ok m) q = ((m ≡ n) × (q ≡ p) × (p.bytes ≡ [])) ⊎ ((m ≡ suc n) × ((asked : Incoming) × Answers step true p asked q))
+  Ends behind n p (Err fault) q = Faults behind p fault q
 
   -- the requests of a connection, at most so many, were answered one after the other
   pub record Serves (most : ℕ) (before now : StreamAt S) (result : Result ℕ StreamFault) : Type 0 where
@@ -111,7 +118,7 @@ module _ {S : Type 0} (step : S → Incoming → Response → S → Type 0) (giv
     pub goes : Goes step (point most (taken ++ behind) before.at []) answered reached
     -- how it ends
     pub gone : Point S
-    pub ends : Ends (length answered) reached result gone
+    pub ends : Ends behind (length answered) reached result gone
     pub at : gone.at ≡ now.at
     pub held : Appends before.held now.held gone.said
     pub read_cause : ReadCause before.read_faults now.read_faults result

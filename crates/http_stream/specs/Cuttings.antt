@@ -53,9 +53,17 @@ pub record CutsNext (left left' : Option (List ℕ)) (old new : List ℕ) (cut :
   pub is_cut : IsCut new cut
   pub at_end : IsAtEnd left' cut
 
+-- these bytes were taken behind those that came before, and then reading failed: what is there ends early, so that no request stands
+-- there yet
+pub record BreaksEarly (left left' : Option (List ℕ)) (old : List ℕ) : Type 0 where
+  pub got : List ℕ
+  pub gave : Gave left got left'
+  pub few : length (old ++ got) ≤ request_limit
+  pub early : EndsEarly (old ++ got)
+
 abbrev pub Cutting : Option (List ℕ) → Option (List ℕ) → List ℕ → List ℕ → Result Cut StreamFault → Type 0
 Cutting left left' old new (Ok cut) = CutsNext left left' old new cut
-Cutting left left' old new (Err ReadFault) = TakenFew left left' request_limit
+Cutting left left' old new (Err ReadFault) = BreaksEarly left left' old
 Cutting left left' old new (Err Memory) = TakenFew left left' request_limit
 Cutting left left' old new (Err WriteFault) = ⊥
 Cutting left left' old new (Err Ended) = ⊥

@@ -1,10 +1,10 @@
 // Taking from a source what is needed for one request.
 
 ghost use Rattle.std.specs.Prelude.{◌≡◌, ◌≤◌, ◌<◌, ◌-◌, IfOk, OnErr, OnOk, length};
-ghost use Rattle.http_messages.specs.Flows.{BreakCause, Comes, Given, TakenFew};
+ghost use Rattle.http_messages.specs.Flows.{BreakCause, Comes, Given, OnFailed, TakenFew};
 ghost use Rattle.http_messages.specs.Heads.{head_limit};
 ghost use Rattle.http_messages.specs.Requests.{EndsEarly, request_limit};
-ghost use Rattle.http_stream.specs.Cuttings.{BodyReached, Cutting, HasHead, HeadReached, ReadCause};
+ghost use Rattle.http_stream.specs.Cuttings.{BodyReached, BreaksEarly, Cutting, HasHead, HeadReached, ReadCause};
 
 use crate::fault::StreamFault;
 use crate::inbox::Inbox;
@@ -18,6 +18,7 @@ fn reach_head<P: Source>(from: &mut P, buffer: &mut [u8], text: &mut Vec<u8>) ->
     requires room { 0 < length buffer.old }
     ensures reached { IfOk result (HeadReached (P.left from.old) (P.left from.new) text.old.items text.new.items) }
     ensures few { OnErr result (TakenFew (P.left from.old) (P.left from.new) head_limit) }
+    ensures broke { OnFailed result (BreaksEarly (P.left from.old) (P.left from.new) text.old.items) }
     ensures side { P.source_side from.new ≡ P.source_side from.old }
     ensures cause { BreakCause (P.read_faults from.old) (P.read_faults from.new) result }
 {
@@ -34,6 +35,7 @@ fn reach_end<P: Source>(from: &mut P, buffer: &mut [u8], text: &mut Vec<u8>) -> 
     requires room { 0 < length buffer.old }
     ensures reached { OnOk result (BodyReached (P.left from.old) (P.left from.new) text.old.items text.new.items) }
     ensures few { OnErr result (TakenFew (P.left from.old) (P.left from.new) (request_limit - length text.old.items)) }
+    ensures broke { OnFailed result (BreaksEarly (P.left from.old) (P.left from.new) text.old.items) }
     ensures side { P.source_side from.new ≡ P.source_side from.old }
     ensures cause { BreakCause (P.read_faults from.old) (P.read_faults from.new) result }
 {

@@ -20,23 +20,23 @@ goes : (p q : Point AuthorityAt) (asked : List Incoming) → Goes AnswersOne p a
 goes p q [] is = point_same p q is
 goes p q (a ∷ more) is = then p.at is.0.at q.at is.1.steps.0 (goes is.0 q more is.2)
 
-breaks_off : (p q : Point AuthorityAt) (fault : StreamFault) → Faults AnswersOne GivesUp p fault q → IsSame p.at q.at
-breaks_off p q ReadFault is = point_same p q is
-breaks_off p q Ended is = point_same p q is.0
-breaks_off p q WriteFault is = elim is.1.makes [ inl made ↦ made.1.0 | inr wanting ↦ wanting.0.0 ]
-breaks_off p q Memory (inl is) = point_same p q is
-breaks_off p q Memory (inr is) = elim is.1.how [ inl made ↦ made.1.0 | inr wanting ↦ wanting.0.0 ]
+breaks_off : (behind : List ℕ) (p q : Point AuthorityAt) (fault : StreamFault) → Faults AnswersOne GivesUp behind p fault q → IsSame p.at q.at
+breaks_off behind p q ReadFault is = point_same p q is.0
+breaks_off behind p q Ended is = point_same p q is.0
+breaks_off behind p q WriteFault is = elim is.1.makes [ inl made ↦ made.1.0 | inr wanting ↦ wanting.0.0 ]
+breaks_off behind p q Memory (inl is) = point_same p q is
+breaks_off behind p q Memory (inr is) = elim is.1.how [ inl made ↦ made.1.0 | inr wanting ↦ wanting.0.0 ]
 
-ended : (n : ℕ) (p q : Point AuthorityAt) (result : Result ℕ StreamFault) → Ends AnswersOne GivesUp n p result q → IsSame p.at q.at
-ended n p q (Ok m) (inl is) = point_same p q is.1
-ended n p q (Ok m) (inr is) = is.1.1.steps.0
-ended n p q (Err fault) is = breaks_off p q fault is
+ended : (behind : List ℕ) (n : ℕ) (p q : Point AuthorityAt) (result : Result ℕ StreamFault) → Ends AnswersOne GivesUp behind n p result q → IsSame p.at q.at
+ended behind n p q (Ok m) (inl is) = point_same p q is.1
+ended behind n p q (Ok m) (inr is) = is.1.1.steps.0
+ended behind n p q (Err fault) is = breaks_off behind p q fault is
 
 -- it has the same node and reads the same clock behind the last as before the first
 pub stays : (most : ℕ) (before now : StreamAt AuthorityAt) (result : Result ℕ StreamFault) → Serves AnswersOne GivesUp most before now result → IsSame before.at now.at
 stays most before now result is =
     then before.at is.reached.at now.at (goes _ is.reached is.answered is.goes)
-    (subst (λ a. IsSame is.reached.at a) is.at (ended _ is.reached is.gone result is.ends))
+    (subst (λ a. IsSame is.reached.at a) is.at (ended is.behind _ is.reached is.gone result is.ends))
 
 -- so behind the last it is as it was, but for what it answers with
 pub kept : (most : ℕ) (before now : StreamAt AuthorityAt) (result : Result ℕ StreamFault) (at : AnswerAt) → Serves AnswersOne GivesUp most before now result → at ≡ now.at.at
