@@ -7,8 +7,6 @@ import textwrap
 SOURCES = ["answer_pages", "key_pages", "node_pages"]
 # the column at which the text of a part begins
 BEGIN = 9
-# what a page has in the program's own words, and a document in those of Unix
-PLAIN = ("isn't of its form", "is malformed"), ("a command's words", "a command's arguments"), ("its words, its input", "its arguments, its input")
 
 
 def text_of(top, name):
@@ -20,18 +18,13 @@ def literals(top, name):
     return [it.replace('\\"', '"').replace("\\\\", "\\") for it in re.findall(r'&\[u8\] =\s+b"((?:[^"\\]|\\.)*)";', text_of(top, name), re.S)]
 
 
-def plain(text):
-    for old, new in PLAIN:
-        text = text.replace(old, new)
-    return text
-
-
 def overview(top):
     """The calls, in their order, and a sentence for each command."""
     text = literals(top, "overview")[0]
-    calls = [line[7:] for line in text.split("\n\n")[1].split("\n")]
+    # a call that is too long for its line goes on in the next, further in
+    calls = [line[7:] for line in re.sub(r"\n {8,}(?! )", " ", text.split("\n\n")[1]).split("\n")]
     said = re.findall(r"^([a-z-]+)\s+(.*)$", text.split("\n\n")[2], re.M)
-    return [call.removeprefix("fed ") for call in calls], {verb: plain(does) for verb, does in said}
+    return [call.removeprefix("fed ") for call in calls], dict(said)
 
 
 def rows_of(lines):
@@ -55,7 +48,7 @@ def rows_of(lines):
             rows.append(["", [line.strip()]])
         else:
             rows.append([line[BEGIN:column].strip(), [line[column:].strip()] if len(line) > column else []])
-    return [(name, plain(" ".join(said))) for name, said in rows]
+    return [(name, " ".join(said)) for name, said in rows]
 
 
 class Page:
@@ -65,7 +58,7 @@ class Page:
         head, does, rest = text.split("\n\n", 2)
         self.calls = [line.removeprefix("fed ") for line in head.split("\n")]
         self.verb = self.calls[0].split(" ")[0]
-        self.does = plain(" ".join(does.split("\n")))
+        self.does = " ".join(does.split("\n"))
         parts, name = {}, None
         for line in rest.rstrip("\n").split("\n"):
             if line[0] != " ":

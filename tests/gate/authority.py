@@ -6,6 +6,7 @@ import base64
 import http.client
 import json
 import os
+import re
 import shutil
 import socket
 import subprocess
@@ -21,6 +22,8 @@ from laid import TOP, free_port, started, tell, tried  # noqa: E402
 
 FED = f"{TOP}/fed"
 PATIENCE = 60
+# a line of the log of an answer
+LINE = r"\d{4}-\d\d-\d\dT\d\d:\d\d:\d\d\.\d{3}Z 127\.0\.0\.1:\d+ [A-Z]+ \S+ \d{3} \d+ \d+"
 LEAF, MIDDLE = "https://rp.example", "https://im.example"
 place = tempfile.mkdtemp()
 
@@ -147,7 +150,9 @@ def paths():
     tell(f"no path: {status} {body}", (status, json.loads(body)["error"]) == (400, "invalid_request"))
     end = node.ended()
     tell(f"the end: {end[:2]}", end[:2] == (0, "served 8\n"))
-    tell("the log: a line a connection", len(end[2].strip().split("\n")) == 8)
+    lines = end[2].strip().split("\n")
+    tell("the log: a line a connection", len(lines) == 8)
+    tell(f"the log: moments and milliseconds: {lines}", all(re.fullmatch(LINE, line) for line in lines))
 
 
 def revoked_marks():
@@ -193,8 +198,8 @@ def listens():
     lines."""
     port = str(free_port())
     words = [FED, "authority", "--config", NODE, "--port", port, "--connections", "1"]
-    for value in ("localhost", "127.0.0.1:80", "1.2.3", "256.0.0.1", "::1", ""):
-        done = subprocess.run(words, env={**os.environ, "FED_LISTEN": value}, capture_output=True, timeout=PATIENCE, cwd=place)
+    for value in ("localhost", "127.0.0.1:80", "1.2.3", "256.0.0.1", "::1", "", "socket"):
+        done = subprocess.run(words, env={**os.environ, "FED_LISTEN": value}, stdin=subprocess.DEVNULL, capture_output=True, timeout=PATIENCE, cwd=place)
         tell(f"FED_LISTEN={value}: {done}", (done.returncode, done.stdout) == (2, b"") and b"FED_LISTEN" in done.stderr)
     for value in ("0", "3601", "030", "+30", "30 ", "1e2", "18446744073709551617", ""):
         done = subprocess.run(words, env={**os.environ, "FED_FETCH_SECONDS": value}, capture_output=True, timeout=PATIENCE, cwd=place)
@@ -219,7 +224,32 @@ def listens():
     out, log = running.communicate(timeout=PATIENCE)
     tell(f"127.0.0.2: {answer}", answer is not None and answer.startswith(b"HTTP/1.1 200"))
     log = [it for it in log.splitlines() if not it.startswith(f"fed: {ID} starts on 127.0.0.2:{port}, ".encode())]
-    tell(f"no log: {out} {log}", (running.returncode, out, log) == (0, b"served 1\n", []))
+    end = f"fed: {ID} ends after 1 connection, as many as --connections says".encode()
+    tell(f"no log: {out} {log}", (running.returncode, out, log) == (0, b"served 1\n", [end]))
+
+
+def handed_over():
+    """`FED_LISTEN=socket` listens on the socket that standard input is: a caller who comes before the process, or between two, is answered by the
+    next. One that is at another port is refused. `FED_LOG=json` writes a line of JSON for each."""
+    with socket.create_server(("127.0.0.1", free_port())) as listener:
+        port = listener.getsockname()[1]
+
+        def started_on(to):
+            words = [FED, "authority", "--config", NODE, "--port", str(to), "--connections", "1"]
+            return subprocess.run(words, env={**os.environ, "FED_LISTEN": "socket", "FED_LOG": "json"}, stdin=listener, capture_output=True, timeout=PATIENCE, cwd=place)
+
+        done = started_on(free_port())
+        tell(f"another port: {done}", (done.returncode, done.stdout) == (7, b"") and b"handed over is at another port" in done.stderr)
+        for _ in range(2):
+            it = socket.create_connection(("127.0.0.1", port), timeout=PATIENCE)
+            it.sendall(b"GET /fed/list HTTP/1.1\r\nHost: a\r\n\r\n")
+            done = started_on(port)
+            lines = [line for line in done.stderr.decode().splitlines() if not line.startswith("fed: ")]
+            told = [json.loads(line) for line in lines]
+            so = [(line["method"], line["path"], line["status"]) for line in told] == [("GET", "/fed/list", 200)]
+            tell(f"a handed socket: {done}", (done.returncode, done.stdout) == (0, b"served 1\n") and so)
+            tell("who waited is answered", it.recv(65536).startswith(b"HTTP/1.1 200"))
+            it.close()
 
 
 def hostile():
@@ -382,7 +412,7 @@ def limits():
 def main():
     subprocess.run([FED, "--version"], check=True, stdout=subprocess.DEVNULL)
     try:
-        return tried("authority", [paths, revoked_marks, by_curl, listens, hostile, behind_empty_lines, streams, port_taken, faulty, limits, many])
+        return tried("authority", [paths, revoked_marks, by_curl, listens, handed_over, hostile, behind_empty_lines, streams, port_taken, faulty, limits, many])
     finally:
         shutil.rmtree(place)
 

@@ -29,8 +29,8 @@ FILES = {
     "share/fish/vendor_completions.d/fed.fish": "completions/fed.fish",
     **{f"share/doc/fed/{name}": f"docs/{name}" for name in ("COMMANDS.md", "POLICY.md", "STATEMENTS.md")},
     **{f"share/doc/fed/{name}": f"examples/{name}" for name in (
-        "node.json", "resolver.json", "fed-authority@.service", "fed-resolver@.service", "fed-renew.service", "fed-renew.timer", "nginx.conf",
-        "nginx-resolver.conf", "nginx-outward.conf", "newkey.sh", "probe.sh", "renew.sh", "client.py", "asking.py", "endpoint.py")},
+        "node.json", "resolver.json", "fed-authority@.service", "fed-authority@.socket", "fed-resolver@.service", "fed-resolver@.socket",
+        "fed-renew.service", "fed-renew.timer", "nginx.conf", "nginx-resolver.conf", "nginx-outward.conf", "newkey.sh", "probe.sh", "renew.sh", "client.py", "asking.py", "endpoint.py")},
 }
 PROGRAMS = {"bin/fed", *(name for name in FILES if name.startswith("share/doc/fed/") and name.endswith((".sh", ".py")))}
 PAGES = ["man/fed.1", "man/fed-config.5", "man/fed-ring.5"]
@@ -400,6 +400,7 @@ def table_has_the_words():
         "--alg": told_values("keygen", "--ring", "r", "--at", "1", "--exp", "2", "--alg", "x"),
         "--typ": told_values("issue", "--ring", "r", "--typ", "x"),
         "--reason": told_values("rotate", "--ring", "r", "--act", "revoke", "--kid", "k", "--at", "1", "--reason", "x"),
+        "--claims": told_values("show", "--claims", "x"),
         "--heed": told_values("resolve", "--config", "c", "--heed", "x"),
         "--stream": told_values("authority", "--config", "c", "--stream", "x"),
         "--strict": told_values("check-config", "--config", "c", "--strict", "x"),
@@ -421,7 +422,7 @@ def cases():
     """Gives words of a line whose last is completed, and what is to be offered."""
     said = calls()
     names = list(dict.fromkeys(call[0] for call in said))
-    found = [([""], names), (["--"], ["--help", "--version"]), (["v"], ["verify"]), (["verify", ""], []), (["--help", ""], []), (["show", ""], [])]
+    found = [([""], names), (["--"], ["--help", "--version"]), (["v"], ["verify"]), (["verify", ""], []), (["--help", ""], []), (["show", ""], ["--claims"])]
     found += [(["help", ""], [it for it in names if it[0] != "-"]), (["help", "ver"], ["verify"]), (["help", "verify", ""], [])]
     for call in said:
         options = options_in(call)

@@ -97,7 +97,8 @@ USAGE = [
     "usage: fed rotate --ring FILE --act revoke --kid KID --at T --reason R",
     "usage: fed public --ring FILE [--kid KID]",
     "usage: fed check --anchor ID --keys FILE [--at T] < CHAIN",
-    "usage: fed show < TEXT",
+    "usage: fed check-reply --keys FILE --anchor ID --anchor-keys FILE [--at T] < REPLY",
+    "usage: fed show [--claims yes] < TEXT",
     "usage: fed check-config --config FILE [--at T] [--strict yes]",
     "usage: fed authority --config FILE --port P --connections N [--stream yes]",
     "usage: fed resolver --config FILE --port P --connections N",
@@ -513,7 +514,7 @@ def check_inspections(key):
         compare(f"show {header}", (status, err), (1 if sentence else 0, said([f"standard input: {sentence}"] if sentence else [])))
     config = {"entity_id": name(1), "ring": "ring", "lifetime": 60}
     make("c", {**config, "lifetime": 59})
-    row("check-config --config c", "", 1, "refused lifetime Shape\n", "c: lifetime isn't as fed-config(5) says of this member")
+    row("check-config --config c", "", 1, "refused lifetime Shape\n", "c: lifetime must be a whole number from 60 to 31536000, and is 59")
     make("c", {**config, "ring": "no.ring"})
     row("check-config --config c", "", 1, "refused ring Absent\n", "no.ring isn't there")
     make("c", {**config, "trust_marks": [{"trust_mark_type": "t", "trust_mark": "x"}]})
@@ -523,7 +524,7 @@ def check_inspections(key):
     row("check-config --config c", "", 1, "refused trust_marks 0 Names\n",
         "c: trust_marks 0 Names: the trust mark at this place is of another type, or about another entity")
     make("c", "{")
-    row("check-config --config c", "", 2, "input\n", "c isn't JSON; a node's configuration is an object")
+    row("check-config --config c", "", 2, "input\n", "c:1:2: a member's name or } was expected, and the text ends; a bracket of line 1 is open yet")
     row("check-config --config no", "", 2, "input\n", "no isn't there")
     make("c", config)
     status, _, err = run(["check-config", "--config", "c", "--at", f"{AT}000"])

@@ -384,16 +384,14 @@ def faulty():
     rows += [("control", value) for value in (None, [], {"keys": 1}, KEYS["other"])] + [("routes", value) for value in (None, {}, [1])]
     rows += [("routes", [{**route, member: value}]) for member, value in (("host", 1), ("port", 0), ("port", 65536), ("port", "1"))]
     rows += [("routes", [{**route, "ip": value}]) for value in (1, "127.0.0", "127.0.0.1.1", "127.0.0.256", "127.0.0.01", "::1", "localhost")]
-    wanted = (" must be an object with anchors, age, workers, control and routes; "
-              "of an anchor depth is 1 to 12, calls 1 to 160, paths 1 to 4,096\n")
     for member, value in rows:
         config = config_of({})
         config["resolver"].pop(member)
         if value is not None:
             config["resolver"][member] = value
-        not_a_node(f"{member} {str(value)[:60]}", config, "resolver" + wanted)
-    not_a_node("resolver []", {**config_of({}), "resolver": []}, "resolver" + wanted)
-    not_a_node("lifetime 1", {**config_of({}), "lifetime": 1}, "lifetime must be a whole number from 60 to 31536000\n")
+        not_a_node(f"{member} {str(value)[:60]}", config, f"resolver.{member}")
+    not_a_node("resolver []", {**config_of({}), "resolver": []}, "resolver must be an object with anchors, age, workers, control and routes, and is a list\n")
+    not_a_node("lifetime 1", {**config_of({}), "lifetime": 1}, "lifetime must be a whole number from 60 to 31536000, and is 1\n")
     without = {name: value for name, value in config_of({}).items() if name != "resolver"}
     not_a_node("no resolver", without, " has no member resolver, which says for which trust anchors and how the node resolves\n", between="")
     least = config_of({}, anchors=many[:64] and [anchor, *many[:63]], age=1, workers=16, control={"keys": []})
@@ -405,10 +403,14 @@ def faulty():
 
 
 def not_a_node(row, config, sentence, between=": "):
+    """The whole sentence where it ends with its line, and else only its place."""
     name = written(f"faulty-{next(numbers)}.json", config)
     done = fed("resolve", "--config", name, "--sub", RP, "--anchor", TA)
-    wanted = 2, b"input\n", f"fed: {name}{between}{sentence}".encode()
-    tell(f"faulty: {row}: {done}, not {wanted}"[:1000], (done.returncode, done.stdout, done.stderr) == wanted)
+    said = done.stderr.decode()
+    lacks = said.startswith(f"fed: {name}{between}the member {sentence}") and " is missing; " in said
+    begun = said.startswith(f"fed: {name}{between}{sentence}") or lacks
+    tell(f"faulty: {row}: {done}, not {sentence}"[:1000],
+         (done.returncode, done.stdout) == (2, b"input\n") and begun and said.count("\n") == 1 and said.endswith("\n"))
 
 
 # ---- real authorities

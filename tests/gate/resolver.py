@@ -3,6 +3,7 @@
 other keys of a trust anchor can have. Each reply is compared byte for byte but for its signature, which another implementation checks; each refusal
 whole, with its head; and the pages that were asked for. It prints what differs and fails where anything does."""
 
+import json
 import multiprocessing
 import os
 import shutil
@@ -35,12 +36,12 @@ SIGNS = f"0 subordinates, 1 trust anchor, signs by {KEYS[RESOLVER]['kid']} until
 class Resolver:
     """A resolver on a port of its own, over a web, for so many connections, after which it ends by itself."""
 
-    def __init__(self, pages, web, connections, workers=1):
-        self.port, self.connections = free_port(), connections
+    def __init__(self, pages, web, connections, workers=1, log="off"):
+        self.port, self.connections, self.has_log = free_port(), connections, log != "off"
         hosts = {**hosts_in(pages, web), **{it.removeprefix("https://"): web.port for it in (PP, ALONE, GONE, DOWN, FAR, *FIRST, *SECOND)}}
         config = written(f"resolver-{self.port}.json", config_of(hosts, workers=workers))
         words = [FED, "resolver", "--config", config, "--port", str(self.port), "--connections", str(connections)]
-        self.running = subprocess.Popen(words, cwd=place, stdout=subprocess.PIPE, stderr=subprocess.PIPE, env={**ENVIRONMENT, "FED_LOG": "off"})
+        self.running = subprocess.Popen(words, cwd=place, stdout=subprocess.PIPE, stderr=subprocess.PIPE, env={**ENVIRONMENT, "FED_LOG": log})
 
     def __enter__(self):
         return self
@@ -50,8 +51,12 @@ class Resolver:
         if any(failed):
             self.running.kill()
         out, said = self.running.communicate(timeout=PATIENCE)
-        wanted = 0, f"served {self.connections}\n", f"fed: {RESOLVER} starts on 127.0.0.1:{self.port}, {SIGNS}\n"
-        found = self.running.returncode, out.decode(), said.decode()
+        self.logged = [line for line in said.decode().splitlines() if not line.startswith("fed: ")]
+        ends = f"{self.connections} connection{'' if self.connections == 1 else 's'}, as many as --connections says"
+        said_all = f"fed: {RESOLVER} starts on 127.0.0.1:{self.port}, {SIGNS}\nfed: {RESOLVER} ends after {ends}\n"
+        wanted = 0, f"served {self.connections}\n", said_all
+        told = "".join(line for line in said.decode().splitlines(True) if self.has_log is False or line.startswith("fed: "))
+        found = self.running.returncode, out.decode(), told
         tell(f"the end: {found}, not {wanted}", any(failed) or found == wanted)
 
     def asked(self, given):
@@ -273,6 +278,22 @@ def at_once():
             it.join()
 
 
+def logged():
+    """The log names the entity that is to be resolved, and of a refusal the error; in lines, and in objects of JSON."""
+    for form in ("lines", "json"):
+        with Web(USUAL) as web, Resolver(USUAL, web, 3, log=form) as resolver:
+            resolved(resolver, web, "with a log", resolve(), CALLS, CHAIN, RESOLVED, NOW + 7200)
+            refused(resolver, web, "with a log", resolve(anchor=JM), NO_ANCHOR)
+            resolver.asked(get("/list"))
+        if form == "json":
+            told = [tuple(json.loads(line).get(name) for name in ("path", "status", "sub", "error", "description")) for line in resolver.logged]
+            wanted = [("/resolve", 200, RP, None, None), ("/resolve", 404, RP, "invalid_trust_anchor", "no such trust anchor"), ("/list", 200, None, None, None)]
+        else:
+            told = [(its[3], its[4], *its[7:]) for its in (line.split(" ", 9) for line in resolver.logged)]
+            wanted = [("/resolve", "200", RP), ("/resolve", "404", RP, "invalid_trust_anchor", "no such trust anchor"), ("/list", "200")]
+        tell(f"the log: {resolver.logged}, not {wanted}", told == wanted)
+
+
 def main():
     try:
         with multiprocessing.get_context("fork").Pool(4) as pool:
@@ -281,7 +302,7 @@ def main():
         def changed():
             rotations(*changes)
 
-        return tried("resolver", [entities, choices, depths, bounds, faults, changed, at_once])
+        return tried("resolver", [entities, choices, depths, bounds, faults, changed, at_once, logged])
     finally:
         shutil.rmtree(place)
 

@@ -18,7 +18,7 @@ from .changes import decoded
 from .pool import IM, NODE, RELYING, RP
 from .programs import ENVIRONMENT, PATIENCE
 
-STARTS = re.compile(rb"fed: (?:[!-~]+ starts on 127\.0\.0\.1:[0-9]+, [ -~]+|warning: [ -~]+)\n")
+STARTS = re.compile(rb"fed: (?:[!-~]+ (?:starts on 127\.0\.0\.1:[0-9]+, [ -~]+|ends after [0-9]+ connections?, [ -~]+)|warning: [ -~]+)\n")
 LOG = re.compile(rb"[0-9]{10,} 127\.0\.0\.1:[0-9]+ [!-~]+ [!-~]+ (?:[0-9]{3}|-) [0-9]+ [0-9]+\n")
 # values of header lines, of which some say another length than the body has
 LENGTHS = [b"0", b"1", b"5", b"-1", b"+5", b"5 5", b"5,5", b"0005", b"000005", b"0000005", b"300000", b"300001", b"999999", b"1000000", b"1" * 40, b"", b"0x5",

@@ -9,13 +9,13 @@ VALUES = ["", "0", "00", "-1", "+1", "1e3", "4611686018427387904", "184467440737
           "https://ta.example?", "http://", b"\xff", b"a\xffb", "\u00e9", "\x1b[31m", "65536", "80", "1000001", "entity-statement+jwt", "retire", "add",
           "revoke", "unspecified", "help", "-h", "--help", "--version", "verify", "check", NODE, " ", "\u202e"]
 GOOD = [
-    ["check", "--anchor", TA, "--keys", "ta.keys", "--at", str(AT)], ["keygen", "--ring", "never.ring", "--at", "1", "--exp", "2"],
+    ["check", "--anchor", TA, "--keys", "ta.keys", "--at", str(AT)], ["check-reply", "--keys", "never.keys", "--anchor", TA, "--anchor-keys", "ta.keys", "--at", str(AT)], ["keygen", "--ring", "never.ring", "--at", "1", "--exp", "2"],
     ["issue", "--ring", "rp.ring", "--typ", STATEMENT], ["rotate", "--ring", "never.ring", "--act", "retire", "--kid", "none"],
     ["rotate", "--ring", "never.ring", "--act", "revoke", "--kid", "none", "--at", "1", "--reason", "superseded"],
     ["rotate", "--ring", "never.ring", "--act", "add", "--at", "1", "--exp", "2"], ["resolve", "--config", "never.json", "--sub", IM, "--anchor", TA],
     ["authority", "--config", "never.json", "--port", "1", "--connections", "1"], ["resolver", "--config", "never.json", "--port", "1", "--connections", "1"],
     ["register", "--config", "never.json", "--anchor", TA], ["rehearse", "--params", "201"], ["public", "--ring", "rp.ring", "--kid", "none"], ["public", "--ring", "rp.ring"],
-    ["check-config", "--config", "never.json", "--at", "1"], ["show"], ["help", "check"], ["help", "rehearse"], ["--help"], ["--version"], []]
+    ["check-config", "--config", "never.json", "--at", "1"], ["show"], ["show", "--claims", "yes"], ["help", "check"], ["help", "rehearse"], ["--help"], ["--version"], []]
 COMMANDS = {"verify", "help", *(line[0] for line in GOOD if line and line[0][0] != "-")}
 
 
@@ -44,7 +44,8 @@ OPTIONS = {
     "check": [{"--anchor": rules.identifier, "--keys": word}, {"--anchor": rules.identifier, "--keys": word, "--at": MOMENT}],
     "resolve": [{**CONFIG, "--sub": rules.identifier, "--anchor": rules.identifier}], "authority": [{**CONFIG, **ADDRESS}], "resolver": [{**CONFIG, **ADDRESS}],
     "register": [{**CONFIG, "--anchor": rules.identifier}],
-    "public": [RING, {**RING, "--kid": word}], "check-config": [{**CONFIG, **at, **strict} for at in ({}, {"--at": MOMENT}) for strict in ({}, {"--strict": one_of("yes")})], "rehearse": [{"--params": number(0, 200)}], "show": [{}],
+    "public": [RING, {**RING, "--kid": word}], "check-config": [{**CONFIG, **at, **strict} for at in ({}, {"--at": MOMENT}) for strict in ({}, {"--strict": one_of("yes")})], "rehearse": [{"--params": number(0, 200)}], "show": [{}, {"--claims": one_of("yes")}],
+    "check-reply": [{"--keys": word, "--anchor": rules.identifier, "--anchor-keys": word, **at} for at in ({}, {"--at": MOMENT})],
 }
 
 
