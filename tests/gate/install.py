@@ -274,7 +274,7 @@ def pages_say_what_is():
     same("what fed(1) says that it is", "fed: an " + re.search(r"^\.Nd (.*)$", page, re.M)[1], fed("--help")[1].split("\n")[0])
     headings = re.findall(r"^\.Ss (.*)$", page, re.M)
     same("the commands of fed(1)", re.findall(r"fed ([\w-]+)", " ".join(headings)), list(dict.fromkeys(call[0] for call in calls())))
-    described = re.findall(r"Fl Fl (\w+)", " ".join(re.findall(r"^\.It Fl.*$", page, re.M)))
+    described = re.findall(r"Fl Fl ([\w-]+)", " ".join(re.findall(r"^\.It Fl.*$", page, re.M)))
     same("the options of fed(1)", sorted({f"--{it}" for it in described}), sorted({it for call in calls() for it in options_in(call)}))
     variables = re.findall(r'env::var\(rt, "(\w+)"\)', text_of("crates/fed/src/main.rt"))
     same("the variables of fed(1)", sorted(re.findall(r"^\.It Ev (\w+)$", page, re.M)), sorted(set(variables)))
@@ -327,7 +327,7 @@ def configuration_is_served():
         out, err = running.communicate(timeout=PATIENCE)
         same("the example of fed-config(5): output and status", (out, running.returncode), ("served 1\n", 0))
         log = "".join(it for it in err.splitlines(True) if not it.startswith("fed: "))
-        tell(f"the example of fed-config(5): its log {err}", re.fullmatch(r"\d+ 127\.0\.0\.1:\d+ GET /list 200 \d+ \d+\n", log) is not None)
+        tell(f"the example of fed-config(5): its log {err}", re.fullmatch(r"\d{4}-\d\d-\d\dT\d\d:\d\d:\d\d\.\d{3}Z 127\.0\.0\.1:\d+ GET /list 200 \d+ \d+\n", log) is not None)
         tell(f"the example of fed-config(5): nothing is warned of {err}", "warning" not in err)
     finally:
         running.kill()
