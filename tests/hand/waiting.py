@@ -233,6 +233,7 @@ def kept_running(listener, connections, over, ends):
 def ends():
     over, came_to_end, refused, spent = threading.Event(), [], [], []
     with socket.create_server(("127.0.0.1", free_port()), backlog=4096) as listener:
+        listener.setsockopt(socket.IPPROTO_TCP, socket.TCP_DEFER_ACCEPT, 10)        # as DeferAcceptSec= of the units has it
         port = listener.getsockname()[1]
         keeper = threading.Thread(target=kept_running, args=(listener, 60, over, came_to_end), daemon=True)
         keeper.start()

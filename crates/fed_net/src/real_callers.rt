@@ -8,7 +8,7 @@ use std::thread;
 use std::time::{Clock as SystemClock, Duration, Instant};
 use waiting_callers::{Log, RealCaller, Waiting};
 
-// How many connections are accepted, and how many that were gone before they were accepted are passed over, between two looks.
+// How many connections that were gone before they were accepted are passed over, one after the other.
 const TRIES: u32 = 1024;
 
 // For how many microseconds nobody is looked at, where some wait and none has asked: each time twice as long, up to the last.
@@ -60,29 +60,32 @@ impl RealCallers {
         }
     }
 
-    // Lets those wait that have come, while there is room. It waits for one where nobody else waits. `None` where the port fails and nobody
-    // waits.
-    fn admit<R: SystemClock>(&mut self, rt: &R) -> Option<()> {
+    // Lets one wait that has come, where there is room for one more, and waits for it where nobody else waits. Whether one has come. `None`
+    // where the port fails and nobody waits.
+    fn admit<R: SystemClock>(&mut self, rt: &R) -> Option<bool> {
+        if !self.waiting.has_room() {
+            return Some(false);
+        }
+        self.listener
+            .set_nonblocking(!self.waiting.is_empty())
+            .ok()?;
         for _ in 0..TRIES {
-            if !self.waiting.has_room() {
-                return Some(());
-            }
-            self.listener
-                .set_nonblocking(!self.waiting.is_empty())
-                .ok()?;
             match self.listener.accept() {
-                Ok((stream, from)) => self.come(rt, stream, from),
+                Ok((stream, from)) => {
+                    self.come(rt, stream, from);
+                    return Some(true);
+                }
                 Err(error) => match error.kind() {
                     ErrorKind::ConnectionAborted | ErrorKind::Interrupted => {}
                     _ if self.waiting.is_empty() => return None,
-                    _ => return Some(()),
+                    _ => return Some(false),
                 },
             }
         }
         if self.waiting.is_empty() {
             None
         } else {
-            Some(())
+            Some(false)
         }
     }
 
@@ -95,7 +98,6 @@ impl RealCallers {
     ) -> Option<RealPeer<'a, R>> {
         let mut pause = FIRST_PAUSE;
         for _ in 0..u64::MAX {
-            self.admit(rt)?;
             let now = self.moment(rt);
             self.waiting.look(now);
             if let Some(waiter) = self.waiting.hand_on() {
@@ -104,7 +106,10 @@ impl RealCallers {
             if let Some(waiter) = self.waiting.let_go(now) {
                 return Some(RealPeer::late(rt, waiter.caller, log));
             }
-            if !self.waiting.is_empty() {
+            // One more is accepted only while nobody has asked: who isn't accepted stays with the system, for this process or the next one.
+            if self.admit(rt)? {
+                pause = FIRST_PAUSE;
+            } else if !self.waiting.is_empty() {
                 thread::sleep(rt, Duration::from_micros(pause));
                 pause = pause.saturating_mul(2).min(LAST_PAUSE);
             }
