@@ -279,18 +279,25 @@ def at_once():
 
 
 def logged():
-    """The log names the entity that is to be resolved, and of a refusal the error; in lines, and in objects of JSON."""
+    """The log names the entity that is to be resolved, and of a refusal the error, and behind which address a fetch failed and why; in lines, and in
+    objects of JSON."""
+    names = "path", "status", "sub", "error", "description", "fetch", "failed"
     for form in ("lines", "json"):
-        with Web(USUAL) as web, Resolver(USUAL, web, 3, log=form) as resolver:
+        pages = {**USUAL, page_of(DOWN): "reset"}
+        with Web(pages) as web, Resolver(pages, web, 4, log=form) as resolver:
             resolved(resolver, web, "with a log", resolve(), CALLS, CHAIN, RESOLVED, NOW + 7200)
             refused(resolver, web, "with a log", resolve(anchor=JM), NO_ANCHOR)
+            refused(resolver, web, "with a log", resolve(DOWN), UNAVAILABLE, [page_of(DOWN)])
             resolver.asked(get("/list"))
+        at, broken = f"127.0.0.1:{web.port}", "the connection was reset"
         if form == "json":
-            told = [tuple(json.loads(line).get(name) for name in ("path", "status", "sub", "error", "description")) for line in resolver.logged]
-            wanted = [("/resolve", 200, RP, None, None), ("/resolve", 404, RP, "invalid_trust_anchor", "no such trust anchor"), ("/list", 200, None, None, None)]
+            told = [tuple(line[name] for name in names if name in line) for line in map(json.loads, resolver.logged)]
+            wanted = [("/resolve", 200, RP), ("/resolve", 404, RP, "invalid_trust_anchor", "no such trust anchor"), (at, broken),
+                      ("/resolve", 503, DOWN, "temporarily_unavailable", "a fetch failed"), ("/list", 200)]
         else:
-            told = [(its[3], its[4], *its[7:]) for its in (line.split(" ", 9) for line in resolver.logged)]
-            wanted = [("/resolve", "200", RP), ("/resolve", "404", RP, "invalid_trust_anchor", "no such trust anchor"), ("/list", "200")]
+            told = [(its[1], *its[2:]) if its[1] == "fetch" else (its[3], its[4], *its[7:]) for its in (line.split(" ", 9) for line in resolver.logged)]
+            wanted = [("/resolve", "200", RP), ("/resolve", "404", RP, "invalid_trust_anchor", "no such trust anchor"), ("fetch", *f"{at}: {broken}".split(" ")),
+                      ("/resolve", "503", DOWN, "temporarily_unavailable", "a fetch failed"), ("/list", "200")]
         tell(f"the log: {resolver.logged}, not {wanted}", told == wanted)
 
 

@@ -68,7 +68,7 @@ class Process:
     def took(self):
         """How many seconds each answer took itself, by the port of its caller, as far as its line is written."""
         with open(self.log, encoding="ascii") as log:
-            lines = [json.loads(line) for line in log if line.startswith("{") and line.endswith("\n")]
+            lines = [json.loads(line) for line in log if line.startswith('{"') and line.endswith("\n") and '"peer":' in line]
         return {int(line["peer"].rpartition(":")[2]): line["ms"] / 1000 for line in lines if line["status"] is not None}
 
     def waits(self, answers):

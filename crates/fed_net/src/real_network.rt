@@ -13,7 +13,7 @@ use std::alloc::Global;
 use std::net::{Ipv4Addr, Net, SocketAddr, SocketAddrV4, TcpListener, TcpStream};
 use std::os::fd::AsFd;
 use std::time::{Clock as SystemClock, Duration};
-use waiting_callers::Log;
+use waiting_callers::{FetchLine, Log};
 
 // In how many seconds a connection has to be opened.
 const CONNECT: u64 = 3;
@@ -29,6 +29,7 @@ pub struct RealNetwork<
     alloc: Global,
     ip: [u8; 4],
     log: Log,
+    fetch_log: Log,
     time: FetchTime,
     stream: Option<TcpStream>,
     to: Option<Address>,
@@ -44,7 +45,7 @@ impl<
     R: Net<Listener = TcpListener, Stream = TcpStream> + SystemClock + Eprint + Sync,
 > RealNetwork<'a, R> {
     /// A network of which no call was made. It listens on the IPv4 address of these four numbers. Each answer of a peer leaves such a line
-    /// on standard error, and so does a peer that is settled without one.
+    /// on standard error, and so does a peer that is settled without one. An exchange that fails leaves one in the networks that it makes.
     pub fn new(rt: &'a R, alloc: Global, ip: [u8; 4], log: Log) -> RealNetwork<'a, R>
         ensures { ⟦<RealNetwork<'a, R> as Network>⟧.faults result ≡ 0 }
     {
@@ -53,6 +54,7 @@ impl<
             alloc,
             ip,
             log,
+            fetch_log: Log::Off,
             time: FetchTime::of_seconds(FETCH_SECONDS),
             stream: None,
             to: None,
@@ -70,15 +72,29 @@ impl<
     }
 }
 
-// Tells that an exchange with that address failed: it took too long, or the other side ended it.
-fn tell<R: SystemClock>(rt: &R, time: &FetchTime, to: Option<Address>, failures: &mut Failures) {
+// Tells that an exchange with that address failed, and why: in the log too, where it isn't told yet.
+fn tell<R: SystemClock + Eprint>(
+    rt: &R,
+    log: Log,
+    to: Option<Address>,
+    reason: Reason,
+    failures: &mut Failures,
+) {
     if let Some(to) = to {
-        let reason = match time.left(rt) {
-            Some(_) => Reason::Broken,
-            None if time.is_over(rt) => Reason::Spent,
-            None => Reason::Silent,
-        };
-        failures.add(to, reason);
+        if failures.add(to, reason) {
+            let at = socket_address(to.ip, to.port);
+            let why = reason.as_str();
+            FetchLine { at, why }.write(rt, log);
+        }
+    }
+}
+
+// Why an exchange that was open failed: it took too long, or the other side ended it.
+fn reason_by<R: SystemClock>(rt: &R, time: &FetchTime) -> Reason {
+    match time.left(rt) {
+        Some(_) => Reason::Broken,
+        None if time.is_over(rt) => Reason::Spent,
+        None => Reason::Silent,
     }
 }
 
@@ -196,7 +212,7 @@ impl<'a, R: Net<Listener = TcpListener, Stream = TcpStream> + SystemClock + Epri
                 Ok(())
             }
             Err(reason) => {
-                self.failures.add(*to, reason);
+                tell(self.rt, self.fetch_log, self.to, reason, &mut self.failures);
                 self.faults = self.faults.saturating_add(1);
                 Err(Failed)
             }
@@ -210,7 +226,8 @@ impl<'a, R: Net<Listener = TcpListener, Stream = TcpStream> + SystemClock + Epri
         match write(stream, self.time.left(self.rt), piece) {
             Some(n) => Ok(n),
             None => {
-                tell(self.rt, &self.time, self.to, &mut self.failures);
+                let reason = reason_by(self.rt, &self.time);
+                tell(self.rt, self.fetch_log, self.to, reason, &mut self.failures);
                 self.faults = self.faults.saturating_add(1);
                 Err(Failed)
             }
@@ -224,7 +241,8 @@ impl<'a, R: Net<Listener = TcpListener, Stream = TcpStream> + SystemClock + Epri
         match read(stream, self.time.left(self.rt), into) {
             Some(n) => Ok(n),
             None => {
-                tell(self.rt, &self.time, self.to, &mut self.failures);
+                let reason = reason_by(self.rt, &self.time);
+                tell(self.rt, self.fetch_log, self.to, reason, &mut self.failures);
                 self.faults = self.faults.saturating_add(1);
                 Err(Failed)
             }
@@ -248,7 +266,7 @@ impl<'a, R: Net<Listener = TcpListener, Stream = TcpStream> + SystemClock + Epri
                     ip: self.ip,
                     port: to,
                 };
-                self.failures.add(at, reason);
+                let _ = self.failures.add(at, reason);
                 self.faults = self.faults.saturating_add(1);
                 Err(Failed)
             }
@@ -279,6 +297,7 @@ impl<'a, R: Net<Listener = TcpListener, Stream = TcpStream> + SystemClock + Epri
             alloc,
             ip: self.ip,
             log: self.log,
+            fetch_log: self.log,
             time: self.time.anew(),
             stream: None,
             to: None,

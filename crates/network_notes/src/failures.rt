@@ -50,6 +50,23 @@ impl Reason {
             _ => Reason::Other,
         }
     }
+
+    /// What is said of it, in printable ASCII.
+    pub fn as_str(self) -> &'static str {
+        match self {
+            Reason::Refused => "connection refused; nobody listens there",
+            Reason::Unconnected => "not connected within 3 seconds",
+            Reason::Unreachable => "no way leads there",
+            Reason::Silent => "not answered within 10 seconds",
+            Reason::Spent => "the time for all that one call fetches was over",
+            Reason::Broken => "the connection was reset",
+            Reason::InUse => "in use by another program",
+            Reason::Forbidden => "permission denied",
+            Reason::NotHere => "this machine has no such address",
+            Reason::Elsewhere => "the socket that was handed over is at another port",
+            Reason::Other => "the system refused it",
+        }
+    }
 }
 
 /// A call that failed: at which address, and why.
@@ -78,19 +95,20 @@ impl Failures {
         &self.told
     }
 
-    /// Tells one failure more, where it isn't told yet and there is a place for it.
-    pub fn add(&mut self, at: Address, reason: Reason) {
+    /// Tells one failure more, where it isn't told yet and there is a place for it, and whether it did.
+    pub fn add(&mut self, at: Address, reason: Reason) -> bool {
         let failure = Failure { at, reason };
         for place in &mut self.told {
             match place {
                 Some(told) => if *told == failure {
-                    return;
+                    return false;
                 },
                 None => {
                     *place = Some(failure);
-                    return;
+                    return true;
                 }
             }
         }
+        false
     }
 }

@@ -15,22 +15,14 @@ pub fn explain_failures(alloc: Global, failures: &Failures, notes: &mut Notes) {
 }
 
 fn failure_sentence(alloc: Global, failure: &Failure) -> Sentence {
-    let about = with_address(alloc, Sentence::of(alloc, b""), &failure.at);
+    let said = with_address(alloc, Sentence::of(alloc, b""), &failure.at)
+        .and(b": ")
+        .and(failure.reason.as_str().as_bytes());
     match failure.reason {
-        Reason::Refused => about.and(b": connection refused; nobody listens there"),
-        Reason::Unconnected => about.and(b": not connected within 3 seconds"),
-        Reason::Unreachable => about.and(b": no way leads there"),
-        Reason::Silent => about.and(b": not answered within 10 seconds"),
-        Reason::Spent => about.and(b": the time for all that one call fetches was over"),
-        Reason::Broken => about.and(b": the connection was reset"),
-        Reason::InUse => about.and(b": in use by another program"),
         Reason::Forbidden if failure.at.port < 1024 => {
-            about.and(b": permission denied; ports below 1024 want rights of their own")
+            said.and(b"; ports below 1024 want rights of their own")
         }
-        Reason::Forbidden => about.and(b": permission denied"),
-        Reason::NotHere => about.and(b": this machine has no such address"),
-        Reason::Elsewhere => about.and(b": the socket that was handed over is at another port"),
-        Reason::Other => about.and(b": the system refused it"),
+        _ => said,
     }
 }
 

@@ -1,13 +1,13 @@
 // The line that an answer leaves on standard error.
 
+use crate::log_moment::LogMoment;
 use crate::noted::Noted;
 use crate::noted_answer::NotedAnswer;
 use std::fmt;
 use std::fmt::{Display, Formatter};
 use std::io::Eprint;
 use std::net::SocketAddr;
-use std::time::{Clock as SystemClock, Duration, SystemTime, UNIX_EPOCH};
-use utc_dates::Date;
+use std::time::{Clock as SystemClock, Duration};
 
 /// How an answer is told on standard error.
 #[derive(Clone, Copy, Debug, PartialEq, Eq, Drop)]
@@ -32,7 +32,7 @@ pub struct LogLine<'a> {
 impl<'a> LogLine<'a> {
     /// Writes the line.
     pub fn write<R: SystemClock + Eprint>(self, rt: &R, log: Log) {
-        let moment = Moment::now(rt);
+        let moment = LogMoment::now(rt);
         // Nothing is left to be done where standard error can't be written.
         let _ = match log {
             Log::Off => Ok(()),
@@ -48,45 +48,10 @@ impl<'a> LogLine<'a> {
     }
 }
 
-// A moment, as RFC 3339 writes it in UTC, with milliseconds.
-#[derive(Clone, Copy, Drop)]
-struct Moment {
-    seconds: u64,
-    millis: u32,
-}
-
-impl Moment {
-    // Now, or the beginning of 1970 where the system's clock failed.
-    fn now<R: SystemClock>(rt: &R) -> Moment {
-        let since = match SystemTime::now(rt) {
-            Ok(now) => now.duration_since(UNIX_EPOCH).unwrap_or(Duration::ZERO),
-            Err(_) => Duration::ZERO,
-        };
-        Moment {
-            seconds: since.as_secs(),
-            millis: since.subsec_millis(),
-        }
-    }
-}
-
-impl Display for Moment {
-    fn fmt<W: fmt::Write>(&self, f: &mut Formatter<W>) -> fmt::Result {
-        let Date { year, month, day } = Date::of(self.seconds);
-        let hour = self.seconds / 3_600 % 24;
-        let minute = self.seconds / 60 % 60;
-        let second = self.seconds % 60;
-        write!(
-            f,
-            "{year:04}-{month:02}-{day:02}T{hour:02}:{minute:02}:{second:02}.{:03}Z",
-            self.millis
-        )
-    }
-}
-
 // A line whose parts have a space between two.
 #[derive(Drop)]
 struct Spaced<'a> {
-    moment: Moment,
+    moment: LogMoment,
     line: LogLine<'a>,
 }
 
@@ -119,7 +84,7 @@ impl<'a> Display for Spaced<'a> {
 // A line that is an object of JSON (RFC 8259).
 #[derive(Drop)]
 struct Object<'a> {
-    moment: Moment,
+    moment: LogMoment,
     line: LogLine<'a>,
 }
 
