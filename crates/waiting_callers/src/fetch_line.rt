@@ -21,11 +21,9 @@ impl<'a> FetchLine<'a> {
         let _ = match log {
             Log::Off => Ok(()),
             Log::Lines => eprintln!(rt; "{moment} fetch {}: {}", self.at, self.why),
-            Log::Json => eprintln!(
-                rt;
+            Log::Json => eprintln!(rt;
                 "{{\"time\":\"{moment}\",\"fetch\":\"{}\",\"failed\":\"{}\"}}",
-                self.at,
-                self.why
+                self.at, self.why
             ),
         };
     }
